@@ -3,8 +3,9 @@
 
 usage: abs_expand.py [PROGRAM]
 
-PROGRAM is the program of the text below, built over proved libraries. Without it a copy of `abs_expand` and the crates below it is made in
-a new folder, and the program is built over them without a proof (`rt try`): nothing is claimed of it.
+PROGRAM is the program of the text below, built over proved libraries: only its figures count. Without it a copy of `abs_expand` and the crates
+below it is made in a new folder, and the program is built over them without a proof (`rt try`), with tests at each index and sum that a
+proved one doesn't make: nothing is claimed of it. No figures were taken yet.
 
 The states of 20 ids are those of the outside cases that `state_tables` answers, of each form, in which a child is made; ids that nothing
 reaches fill them up to 20, each an object that may share with every other object whose class isn't known.

@@ -16,14 +16,17 @@ length-with_statics statics (frame ∷ below ∷ rest) = ap suc (length-with_sta
 
 pub frames_agree : FittingFramesAgree
 frames_agree types state machine meaning h =
-    sym (AllZip-long (FitsFrame meaning) state.frames (with_statics machine.statics machine.frames) h.positions) ∙ length-with_statics machine.statics machine.frames
+    sym (AllZip-long (FitsFrame meaning) state.frames (with_statics machine.statics machine.frames) h.positions)
+    ∙ length-with_statics machine.statics machine.frames
 
 below_of : {a b : ℕ} → b ≤ a → (b ≡ a → ⊥) → b < a
 below_of {a} {b} l d = elim (cases_lt b a) [ inl m ↦ m | inr m ↦ absurd (d (omega (arith, l, m))) ]
 
 pub known_apart : KnownIdsAreApart
 known_apart types state machine meaning good h a b o ka kb apart ta tb =
-    let share : Share state a b = good.shared a b (h.aliases a b o (record { cell = ka.cell; is = ka.is; sort_is = refl }) (record { cell = kb.cell; is = kb.is; sort_is = refl }) apart ta tb) in
+    let share : Share state a b = good.shared a b
+    (h.aliases a b o (record { cell = ka.cell; is = ka.is; sort_is = refl })
+    (record { cell = kb.cell; is = kb.is; sort_is = refl }) apart ta tb) in
     elim (cases_lt a b) [
       | inl l ↦ good.not_both_known a b l share ka kb
       | inr l ↦

@@ -1,5 +1,6 @@
 -- Pairs that are kept: those whose ids are both in a set.
-use Rattle.std.proofs.Common.{◌≡◌, ◌≢◌, ℕ, ◌+◌, ◌<◌, ◌≤◌, ◌&&◌, ◌||◌, not, Bool, true, false, cond, List, [], ◌∷◌, Option, None, ◌⊎◌, inl, inr, refl, sym, ap, subst, ◌∙◌, arith}
+use Rattle.std.proofs.Common.{◌≡◌, ◌≢◌, ℕ, ◌+◌, ◌<◌, ◌≤◌, ◌&&◌, ◌||◌, not, Bool, true, false, cond, List, [], ◌∷◌, Option, None}
+use Rattle.std.proofs.Common.{◌⊎◌, inl, inr, refl, sym, ap, subst, ◌∙◌, arith}
 use Rattle.std.specs.Prelude.{filter, min, max}
 use Rattle.std.proofs.lemmas.Bool.{false≢true, cases_lt, and_parts, and_from, cases_Bool, not-true}
 use Rattle.list_views.proofs.Truths.{same_truth}
@@ -34,10 +35,12 @@ pair_turned a b = ap (λ (x : ℕ). (x, max a b)) m ∙ ap (λ (y : ℕ). (min b
 not_pair : (a b : ℕ) (p : ℕ × ℕ) → not (is_same p (pair_of a b)) ≡ true → is_same p (pair_of a b) ≡ true → ⊥
 not_pair a b p h k = false≢true (sym (not-true (is_same p (pair_of a b)) h) ∙ k)
 
-pub cleared_one : (a b : ℕ) (old pairs now : List (ℕ × ℕ)) → a ≢ b → IsRising pairs → now ≡ removed a b pairs → IsCleared old pairs a b → IsCleared old now a (b + 1)
+pub cleared_one : (a b : ℕ) (old pairs now : List (ℕ × ℕ)) → a ≢ b → IsRising pairs → now ≡ removed a b pairs
+    → IsCleared old pairs a b → IsCleared old now a (b + 1)
 cleared_one a b old pairs now d r e c = record {
   gone = λ p l h.
-      let k = and_parts (not (is_same p (pair_of a b))) (has_pair p pairs) (sym (has_without p (pair_of a b) pairs r) ∙ ap (has_pair p) (sym e) ∙ h) in
+      let k = and_parts (not (is_same p (pair_of a b))) (has_pair p pairs) (sym (has_without p (pair_of a b) pairs r)
+      ∙ ap (has_pair p) (sym e) ∙ h) in
       let g = c.gone p l k.1 in (
         g.0,
         (
@@ -53,7 +56,8 @@ cleared_one a b old pairs now d r e c = record {
       );
   kept = λ p l h f s.
       ap (has_pair p) e ∙ has_without p (pair_of a b) pairs r
-      ∙ and_from (not (is_same p (pair_of a b))) (has_pair p pairs) (differs p l f s) (c.kept p l h (λ x. let o = f x in omega (arith, o)) (λ x. let o = s x in omega (arith, o)));
+      ∙ and_from (not (is_same p (pair_of a b))) (has_pair p pairs) (differs p l f s)
+      (c.kept p l h (λ x. let o = f x in omega (arith, o)) (λ x. let o = s x in omega (arith, o)));
 }
   where
     differs : (p : ℕ × ℕ) → p.0 < p.1 → (p.0 ≡ a → b + 1 ≤ p.1) → (p.1 ≡ a → b + 1 ≤ p.0) → not (is_same p (pair_of a b)) ≡ true
@@ -95,10 +99,16 @@ low_of (x ∷ xs) p r k = elim (cases_Bool (is_same p x)) [
 ]
 
 pub kept_none : (ids : List ℕ) (pairs : List (ℕ × ℕ)) → IsKeptTo ids pairs pairs 0
-kept_none ids pairs = record { gone = λ p l h. (h, (λ e. absurd (omega (arith, e)), λ e. absurd (omega (arith, e)))); kept = λ p l h f s. h }
+kept_none ids pairs = record {
+  gone = λ p l h. (h, (λ e. absurd (omega (arith, e)), λ e. absurd (omega (arith, e))));
+  kept = λ p l h
+      f s. h;
+}
 
 -- an id that is in the set, or has no pair
-pub kept_over : (ids : List ℕ) (old pairs : List (ℕ × ℕ)) (a : ℕ) → ((p : ℕ × ℕ) → p.0 < p.1 → has_pair p pairs ≡ true → (p.0 ≡ a → has_id ids a ≡ true) × (p.1 ≡ a → has_id ids a ≡ true)) → IsKeptTo ids old pairs a → IsKeptTo ids old pairs (a + 1)
+pub kept_over : (ids : List ℕ) (old pairs : List (ℕ × ℕ)) (a : ℕ)
+    → ((p : ℕ × ℕ) → p.0 < p.1 → has_pair p pairs ≡ true → (p.0 ≡ a → has_id ids a ≡ true) × (p.1 ≡ a → has_id ids a ≡ true))
+    → IsKeptTo ids old pairs a → IsKeptTo ids old pairs (a + 1)
 kept_over ids old pairs a here k = record {
   gone = λ p l h.
       let g = k.gone p l h in
@@ -114,7 +124,8 @@ kept_over ids old pairs a here k = record {
     ]
 
 -- an id that is not in the set, whose pairs went
-pub kept_less : (ids : List ℕ) (old pairs now : List (ℕ × ℕ)) (a : ℕ) → has_id ids a ≡ false → IsRising pairs → IsRising now → IsCleared pairs now a 2048 → IsKeptTo ids old pairs a → IsKeptTo ids old now (a + 1)
+pub kept_less : (ids : List ℕ) (old pairs now : List (ℕ × ℕ)) (a : ℕ) → has_id ids a ≡ false → IsRising pairs → IsRising now
+    → IsCleared pairs now a 2048 → IsKeptTo ids old pairs a → IsKeptTo ids old now (a + 1)
 kept_less ids old pairs now a out r s c k = record {
   gone = λ p l h.
       let g = c.gone p l h in
@@ -138,17 +149,22 @@ has_filter test p [] = off (test p)
     off true = refl
     off false = refl
 has_filter test p (x ∷ xs) = elim (cases_Bool (test x)) [
-  | inl t ↦ ap (λ (b : Bool). has_pair p (cond b (x ∷ filter test xs) (filter test xs))) t ∙ ap (λ (b : Bool). is_same p x || b) (has_filter test p xs) ∙ with_first (cases_Bool (is_same p x)) t
-  | inr t ↦ ap (λ (b : Bool). has_pair p (cond b (x ∷ filter test xs) (filter test xs))) t ∙ has_filter test p xs ∙ without_first (cases_Bool (is_same p x)) t
+  | inl t ↦ ap (λ (b : Bool). has_pair p (cond b (x ∷ filter test xs) (filter test xs))) t
+      ∙ ap (λ (b : Bool). is_same p x || b) (has_filter test p xs) ∙ with_first (cases_Bool (is_same p x)) t
+  | inr t ↦ ap (λ (b : Bool). has_pair p (cond b (x ∷ filter test xs) (filter test xs))) t ∙ has_filter test p xs
+      ∙ without_first (cases_Bool (is_same p x)) t
 ]
   where
-    with_first : (is_same p x ≡ true) ⊎ (is_same p x ≡ false) → test x ≡ true → (is_same p x || (test p && has_pair p xs)) ≡ (test p && (is_same p x || has_pair p xs))
+    with_first : (is_same p x ≡ true) ⊎ (is_same p x ≡ false) → test x ≡ true
+        → (is_same p x || (test p && has_pair p xs)) ≡ (test p && (is_same p x || has_pair p xs))
     with_first (inl s) t =
         let u : test p ≡ true = ap test (same_is p x s) ∙ t in
-        ap (λ (b : Bool). b || (test p && has_pair p xs)) s ∙ sym (ap (λ (b : Bool). test p && (b || has_pair p xs)) s ∙ ap (λ (b : Bool). b && true) u)
+        ap (λ (b : Bool). b || (test p && has_pair p xs)) s
+        ∙ sym (ap (λ (b : Bool). test p && (b || has_pair p xs)) s ∙ ap (λ (b : Bool). b && true) u)
     with_first (inr s) t = ap (λ (b : Bool). b || (test p && has_pair p xs)) s ∙ sym (ap (λ (b : Bool). test p && (b || has_pair p xs)) s)
 
-    without_first : (is_same p x ≡ true) ⊎ (is_same p x ≡ false) → test x ≡ false → (test p && has_pair p xs) ≡ (test p && (is_same p x || has_pair p xs))
+    without_first : (is_same p x ≡ true) ⊎ (is_same p x ≡ false) → test x ≡ false
+        → (test p && has_pair p xs) ≡ (test p && (is_same p x || has_pair p xs))
     without_first (inl s) t =
         let u : test p ≡ false = ap test (same_is p x s) ∙ t in
         ap (λ (b : Bool). b && has_pair p xs) u ∙ sym (ap (λ (b : Bool). b && (is_same p x || has_pair p xs)) u)
@@ -158,7 +174,8 @@ first_filter : (test : ℕ × ℕ → Bool) (x : ℕ × ℕ) (xs : List (ℕ × 
 first_filter test x [] f r = tt
 first_filter test x (y ∷ xs) f r = elim (cases_Bool (test y)) [
   | inl t ↦ subst (λ (b : Bool). IsFirst x (cond b (y ∷ filter test xs) (filter test xs))) (sym t) f
-  | inr t ↦ subst (λ (b : Bool). IsFirst x (cond b (y ∷ filter test xs) (filter test xs))) (sym t) (first_filter test x xs (next xs f r.1.0) r.1.1)
+  | inr t ↦ subst (λ (b : Bool). IsFirst x (cond b (y ∷ filter test xs) (filter test xs))) (sym t)
+      (first_filter test x xs (next xs f r.1.0) r.1.1)
 ]
   where
     next : (xs : List (ℕ × ℕ)) → is_before x y ≡ true → IsFirst y xs → IsFirst x xs
@@ -168,35 +185,43 @@ first_filter test x (y ∷ xs) f r = elim (cases_Bool (test y)) [
 pub rising_filter : (test : ℕ × ℕ → Bool) (xs : List (ℕ × ℕ)) → IsRising xs → IsRising (filter test xs)
 rising_filter test [] r = tt
 rising_filter test (x ∷ xs) r = elim (cases_Bool (test x)) [
-  | inl t ↦ subst (λ (b : Bool). IsRising (cond b (x ∷ filter test xs) (filter test xs))) (sym t) (r.0, (first_filter test x xs r.1.0 r.1.1, rising_filter test xs r.1.1))
+  | inl t ↦ subst (λ (b : Bool). IsRising (cond b (x ∷ filter test xs) (filter test xs))) (sym t)
+      (r.0, (first_filter test x xs r.1.0 r.1.1, rising_filter test xs r.1.1))
   | inr t ↦ subst (λ (b : Bool). IsRising (cond b (x ∷ filter test xs) (filter test xs))) (sym t) (rising_filter test xs r.1.1)
 ]
 
 pub kept_all : (ids : List ℕ) (old now : List (ℕ × ℕ)) → IsRising old → IsRising now → IsKeptTo ids old now 2048 → now ≡ kept ids old
-kept_all ids old now r s k = is_one_list now (kept ids old) s (rising_filter (λ p. has_id ids p.0 && has_id ids p.1) old r) (λ p l. same_truth (has_pair p now) (has_pair p (kept ids old))
+kept_all ids old now r s k = is_one_list now (kept ids old) s (rising_filter (λ p. has_id ids p.0 && has_id ids p.1) old r)
+    (λ p l. same_truth (has_pair p now) (has_pair p (kept ids old))
     (λ h.
     let n = low_of now p s h in
     let g = k.gone p l h in
-    has_filter (λ q. has_id ids q.0 && has_id ids q.1) p old ∙ and_from (has_id ids p.0 && has_id ids p.1) (has_pair p old) (and_from (has_id ids p.0) (has_id ids p.1) (g.1.0 (omega (arith, n, l))) (g.1.1 n)) g.0)
+    has_filter (λ q. has_id ids q.0 && has_id ids q.1) p old ∙ and_from (has_id ids p.0 && has_id ids p.1) (has_pair p old)
+    (and_from (has_id ids p.0) (has_id ids p.1) (g.1.0 (omega (arith, n, l))) (g.1.1 n)) g.0)
     (λ h.
-    let a = and_parts (has_id ids p.0 && has_id ids p.1) (has_pair p old) (sym (has_filter (λ q. has_id ids q.0 && has_id ids q.1) p old) ∙ h) in
+    let a = and_parts (has_id ids p.0 && has_id ids p.1) (has_pair p old)
+    (sym (has_filter (λ q. has_id ids q.0 && has_id ids q.1) p old) ∙ h) in
     let b = and_parts (has_id ids p.0) (has_id ids p.1) a.0 in
     k.kept p l a.1 (λ _. b.0) (λ _. b.1)))
 
 -- an id without a slot has no pair
-pub no_pairs : (slots : List (Option ℕ)) (words : List ℕ) (a : ℕ) → slot_of slots a ≡ None → (p : ℕ × ℕ) → p.0 < p.1 → has_pair p (pairs_in slots words) ≡ true → (p.0 ≡ a → ⊥) × (p.1 ≡ a → ⊥)
+pub no_pairs : (slots : List (Option ℕ)) (words : List ℕ) (a : ℕ) → slot_of slots a ≡ None → (p : ℕ × ℕ) → p.0 < p.1
+    → has_pair p (pairs_in slots words) ≡ true → (p.0 ≡ a → ⊥) × (p.1 ≡ a → ⊥)
 no_pairs slots words a n p l h = (
   λ e. false≢true (sym (left_no_hit slots words p.0 p.1 (ap (slot_of slots) e ∙ n)) ∙ sym (packed_has slots words p l) ∙ h),
   λ e. false≢true (sym (no_hit slots words p.0 p.1 (ap (slot_of slots) e ∙ n)) ∙ sym (packed_has slots words p l) ∙ h),
 )
 
 -- an id that is in the set, or has no slot
-pub stays : (ids : List ℕ) (slots : List (Option ℕ)) (words : List ℕ) (a : ℕ) → (has_id ids a ≡ true) ⊎ (slot_of slots a ≡ None) → (p : ℕ × ℕ) → p.0 < p.1 → has_pair p (pairs_in slots words) ≡ true → (p.0 ≡ a → has_id ids a ≡ true) × (p.1 ≡ a → has_id ids a ≡ true)
+pub stays : (ids : List ℕ) (slots : List (Option ℕ)) (words : List ℕ) (a : ℕ) → (has_id ids a ≡ true) ⊎ (slot_of slots a ≡ None)
+    → (p : ℕ × ℕ) → p.0 < p.1 → has_pair p (pairs_in slots words) ≡ true → (p.0 ≡ a → has_id ids a ≡ true)
+    × (p.1 ≡ a → has_id ids a ≡ true)
 stays ids slots words a (inl t) p l h = (λ _. t, λ _. t)
 stays ids slots words a (inr n) p l h =
     let g = no_pairs slots words a n p l h in
     (λ e. absurd (g.0 e), λ e. absurd (g.1 e))
 
 -- the end of the walk over all ids
-pub kept_at_end : (ids : List ℕ) (old now : List (ℕ × ℕ)) (a : ℕ) → 2048 ≤ a → a ≤ 2048 → IsRising old → IsRising now → IsKeptTo ids old now a → now ≡ kept ids old
+pub kept_at_end : (ids : List ℕ) (old now : List (ℕ × ℕ)) (a : ℕ) → 2048 ≤ a → a ≤ 2048 → IsRising old → IsRising now
+    → IsKeptTo ids old now a → now ≡ kept ids old
 kept_at_end ids old now a l m r s k = kept_all ids old now r s (subst (λ (n : ℕ). IsKeptTo ids old now n) (omega (arith, l, m)) k)

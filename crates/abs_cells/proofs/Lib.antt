@@ -9,4 +9,5 @@ pub mod PackedLooks
 pub mod PairLaws
 pub mod PatternLaws
 pub mod Replaying
+pub mod RisingPairs
 pub mod CellLaws

@@ -1,5 +1,7 @@
 -- What calls on packed pairs leave: a bit is set or cleared, an id gets a slot.
-use Rattle.std.proofs.Common.{◌≡◌, ℕ, zero, suc, ◌+◌, ◌*◌, ◌/◌, ◌%◌, ◌<◌, ◌≤◌, min, max, Bool, false, not, ◌&&◌, ◌||◌, ◌==◌, eqb, List, [], ◌∷◌, ◌++◌, length, get_or, set, take, replicate, Option, Some, None, inl, inr, refl, sym, ap, ◌∙◌, arith, mul_left_comm, mul_comm, mul-suc, add-suc, add-one, Result, Ok, Err, OnErr}
+use Rattle.std.proofs.Common.{◌≡◌, ℕ, zero, suc, ◌+◌, ◌*◌, ◌/◌, ◌%◌, ◌<◌, ◌≤◌, min, max, Bool, false, not, ◌&&◌, ◌||◌, ◌==◌, eqb}
+use Rattle.std.proofs.Common.{List, [], ◌∷◌, ◌++◌, length, get_or, set, take, replicate, Option, Some, None, inl, inr, refl, sym}
+use Rattle.std.proofs.Common.{ap, ◌∙◌, arith, mul_left_comm, mul_comm, mul-suc, add-suc, add-one, Result, Ok, Err, OnErr}
 use Rattle.std.proofs.lemmas.Bool.{ne_eqb, cases_lt, cases_eq}
 use Rattle.std.proofs.lemmas.List.{length-set, take_all}
 use Rattle.jvm_values.proofs.Options.{some_is}
@@ -10,7 +12,8 @@ use Rattle.list_views.proofs.Truths.{and_false}
 use Rattle.abs_cells.specs.IdSets.{has_bit}
 use Rattle.abs_cells.specs.PackedBits.{pairs_in, slot_of, slots_in, row_start, place_of, hit, hit_slots, ArePacked, IsGrown}
 use Rattle.abs_cells.proofs.PairLaws.{rising_with, rising_without, without_none}
-use Rattle.abs_cells.proofs.PackedLaws.{is_one_list, has_with, has_without, packed_rises, packed_has, packed_has_two, same_pairs, rows_apart, later_row, set_hits, clear_hits, place_turned}
+use Rattle.abs_cells.proofs.PackedLaws.{is_one_list, has_with, has_without, packed_rises, packed_has, packed_has_two, same_pairs}
+use Rattle.abs_cells.proofs.PackedLaws.{rows_apart, later_row, set_hits, clear_hits, place_turned}
 
 -- ---- where rows begin
 
@@ -30,7 +33,8 @@ formula (suc s) = elim (cases_lt (s % 64) 63) [
   | inl l ↦
       let q : suc s / 64 ≡ s / 64 = omega (arith, l) in
       let r : suc s % 64 ≡ suc (s % 64) = omega (arith, l) in
-      ap (λ (x : ℕ). suc x * (32 * x + suc s % 64)) q ∙ ap (λ (y : ℕ). suc (s / 64) * (32 * (s / 64) + y)) r ∙ row_step (s / 64) (s % 64) ∙ ap (λ (x : ℕ). x + suc (s / 64)) (formula s)
+      ap (λ (x : ℕ). suc x * (32 * x + suc s % 64)) q ∙ ap (λ (y : ℕ). suc (s / 64) * (32 * (s / 64) + y)) r
+      ∙ row_step (s / 64) (s % 64) ∙ ap (λ (x : ℕ). x + suc (s / 64)) (formula s)
   | inr l ↦
       let q : suc s / 64 ≡ suc (s / 64) = omega (arith, l) in
       let r : suc s % 64 ≡ 0 = omega (arith, l) in
@@ -48,18 +52,22 @@ few_words (suc s) l = omega (arith, few_words s (omega (arith, l)), l)
 
 -- ---- a bit is set, or cleared
 
-pub bit_within : (slots : List (Option ℕ)) (count : ℕ) (words : List ℕ) → ArePacked slots count words → (a b s t : ℕ) → slot_of slots a ≡ Some s → slot_of slots b ≡ Some t → place_of s t < 64 * row_start count
+pub bit_within : (slots : List (Option ℕ)) (count : ℕ) (words : List ℕ) → ArePacked slots count words → (a b s t : ℕ)
+    → slot_of slots a ≡ Some s → slot_of slots b ≡ Some t → place_of s t < 64 * row_start count
 bit_within slots count words h a b s t ea eb =
     let high : max s t < count = omega (arith, h.low a s ea, h.low b t eb) in
     omega (arith, later_row (max s t) count high)
 
-pub words_within : (slots : List (Option ℕ)) (count : ℕ) (words : List ℕ) → ArePacked slots count words → (a b s t : ℕ) → slot_of slots a ≡ Some s → slot_of slots b ≡ Some t → place_of s t / 64 < length words
+pub words_within : (slots : List (Option ℕ)) (count : ℕ) (words : List ℕ) → ArePacked slots count words → (a b s t : ℕ)
+    → slot_of slots a ≡ Some s → slot_of slots b ≡ Some t → place_of s t / 64 < length words
 words_within slots count words h a b s t ea eb = omega (arith, bit_within slots count words h a b s t ea eb, h.rows)
 
-slots_apart : (slots : List (Option ℕ)) (count : ℕ) (words : List ℕ) → ArePacked slots count words → (a b s t : ℕ) → slot_of slots a ≡ Some s → slot_of slots b ≡ Some t → (a ≡ b → ⊥) → s ≡ t → ⊥
+slots_apart : (slots : List (Option ℕ)) (count : ℕ) (words : List ℕ) → ArePacked slots count words → (a b s t : ℕ)
+    → slot_of slots a ≡ Some s → slot_of slots b ≡ Some t → (a ≡ b → ⊥) → s ≡ t → ⊥
 slots_apart slots count words h a b s t ea eb d e = d (h.apart a b s ea (eb ∙ ap Some (sym e)))
 
-module _ (slots : List (Option ℕ)) (count : ℕ) (words after : List ℕ) (h : ArePacked slots count words) (a b s t : ℕ) (d : a ≡ b → ⊥) (ea : slot_of slots a ≡ Some s) (eb : slot_of slots b ≡ Some t) (e : length after ≡ length words) where
+module _ (slots : List (Option ℕ)) (count : ℕ) (words after : List ℕ) (h : ArePacked slots count words) (a b s t : ℕ) (d : a ≡ b
+    → ⊥) (ea : slot_of slots a ≡ Some s) (eb : slot_of slots b ≡ Some t) (e : length after ≡ length words) where
   not_below : (r u : ℕ) → r ≤ u → u < 64 * suc (r / 64) → 64 * row_start r + u ≡ place_of s t → ⊥
   not_below r u l m k =
       let same = rows_apart r (max s t) u (min s t) m (omega arith) k in
@@ -72,8 +80,10 @@ module _ (slots : List (Option ℕ)) (count : ℕ) (words after : List ℕ) (h :
     low = h.low;
     apart = h.apart;
     rows = omega (arith, h.rows, e);
-    below = λ r u c l m. f (64 * row_start r + u) ∙ ap (λ (x : Bool). x || has_bit words (64 * row_start r + u)) (ne_eqb (64 * row_start r + u) (place_of s t) (not_below r u l m)) ∙ h.below r u c l m;
-    past = λ n l. f n ∙ ap (λ (x : Bool). x || has_bit words n) (ne_eqb n (place_of s t) (λ k. omega (arith, k, l, bit_within slots count words h a b s t ea eb))) ∙ h.past n l;
+    below = λ r u c l m. f (64 * row_start r + u) ∙ ap (λ (x : Bool). x || has_bit words (64 * row_start r + u))
+        (ne_eqb (64 * row_start r + u) (place_of s t) (not_below r u l m)) ∙ h.below r u c l m;
+    past = λ n l. f n ∙ ap (λ (x : Bool). x || has_bit words n)
+        (ne_eqb n (place_of s t) (λ k. omega (arith, k, l, bit_within slots count words h a b s t ea eb))) ∙ h.past n l;
   }
 
   pub clear_packed : ((n : ℕ) → has_bit after n ≡ (not (n == place_of s t) && has_bit words n)) → ArePacked slots count after
@@ -83,15 +93,21 @@ module _ (slots : List (Option ℕ)) (count : ℕ) (words after : List ℕ) (h :
     low = h.low;
     apart = h.apart;
     rows = omega (arith, h.rows, e);
-    below = λ r u c l m. f (64 * row_start r + u) ∙ ap (λ (x : Bool). not (64 * row_start r + u == place_of s t) && x) (h.below r u c l m) ∙ and_false (not (64 * row_start r + u == place_of s t));
+    below = λ r u c l m. f (64 * row_start r + u) ∙ ap (λ (x : Bool). not (64 * row_start r + u == place_of s t) && x)
+        (h.below r u c l m) ∙ and_false (not (64 * row_start r + u == place_of s t));
     past = λ n l. f n ∙ ap (λ (x : Bool). not (n == place_of s t) && x) (h.past n l) ∙ and_false (not (n == place_of s t));
   }
 
 -- two ids in either order
-turned_place : (s t : ℕ) (words after : List ℕ) (joined : Bool → Bool → Bool) → ((n : ℕ) → has_bit after n ≡ joined (n == place_of s t) (has_bit words n)) → (n : ℕ) → has_bit after n ≡ joined (n == place_of t s) (has_bit words n)
+turned_place : (s t : ℕ) (words after : List ℕ) (joined : Bool → Bool → Bool)
+    → ((n : ℕ) → has_bit after n ≡ joined (n == place_of s t) (has_bit words n)) → (n : ℕ)
+    → has_bit after n ≡ joined (n == place_of t s) (has_bit words n)
 turned_place s t words after joined f n = f n ∙ ap (λ (p : ℕ). joined (n == p) (has_bit words n)) (place_turned s t)
 
-pub after_set : (slots : List (Option ℕ)) (count : ℕ) (words after : List ℕ) → ArePacked slots count words → ArePacked slots count after → (a b s t : ℕ) → (a ≡ b → ⊥) → a < 2048 → b < 2048 → slot_of slots a ≡ Some s → slot_of slots b ≡ Some t → ((n : ℕ) → has_bit after n ≡ ((n == place_of s t) || has_bit words n)) → pairs_in slots after ≡ added a b (pairs_in slots words)
+pub after_set : (slots : List (Option ℕ)) (count : ℕ) (words after : List ℕ) → ArePacked slots count words
+    → ArePacked slots count after → (a b s t : ℕ) → (a ≡ b → ⊥) → a < 2048 → b < 2048 → slot_of slots a ≡ Some s
+    → slot_of slots b ≡ Some t → ((n : ℕ) → has_bit after n ≡ ((n == place_of s t) || has_bit words n))
+    → pairs_in slots after ≡ added a b (pairs_in slots words)
 after_set slots count words after h k a b s t d la lb ea eb f = elim (cases_lt a b) [
   | inl l ↦ go a b s t l lb ea eb f
   | inr l ↦ go b a t s (omega (arith, l, d)) la eb ea (turned_place s t words after ◌||◌ f) ∙ added_turned
@@ -101,17 +117,26 @@ after_set slots count words after h k a b s t d la lb ea eb f = elim (cases_lt a
     added_turned =
         let low : min b a ≡ min a b = omega arith in
         let high : max b a ≡ max a b = omega arith in
-        ap (λ (x : ℕ). with_pair (x, max b a) (pairs_in slots words)) low ∙ ap (λ (y : ℕ). with_pair (min a b, y) (pairs_in slots words)) high
+        ap (λ (x : ℕ). with_pair (x, max b a) (pairs_in slots words)) low
+        ∙ ap (λ (y : ℕ). with_pair (min a b, y) (pairs_in slots words)) high
 
-    go : (x y u v : ℕ) → x < y → y < 2048 → slot_of slots x ≡ Some u → slot_of slots y ≡ Some v → ((n : ℕ) → has_bit after n ≡ ((n == place_of u v) || has_bit words n)) → pairs_in slots after ≡ added x y (pairs_in slots words)
+    go : (x y u v : ℕ) → x < y → y < 2048 → slot_of slots x ≡ Some u → slot_of slots y ≡ Some v
+        → ((n : ℕ) → has_bit after n ≡ ((n == place_of u v) || has_bit words n)) → pairs_in slots after ≡ added x y (pairs_in slots words)
     go x y u v l m ex ey g =
         let low : min x y ≡ x = omega (arith, l) in
         let high : max x y ≡ y = omega (arith, l) in
-        is_one_list (pairs_in slots after) (with_pair (x, y) (pairs_in slots words)) (packed_rises slots count after k) (rising_with (x, y) (pairs_in slots words) (l, m) (packed_rises slots count words h))
-        (λ q j. packed_has slots after q j ∙ set_hits slots count words after h x y u v ex ey l g q.0 q.1 j ∙ ap (λ (z : Bool). is_same q (x, y) || z) (sym (packed_has slots words q j)) ∙ sym (has_with q (x, y) (pairs_in slots words)))
-        ∙ ap (λ (z : ℕ). with_pair (z, y) (pairs_in slots words)) (sym low) ∙ ap (λ (z : ℕ). with_pair (min x y, z) (pairs_in slots words)) (sym high)
+        is_one_list (pairs_in slots after) (with_pair (x, y) (pairs_in slots words)) (packed_rises slots count after k)
+        (rising_with (x, y) (pairs_in slots words) (l, m) (packed_rises slots count words h))
+        (λ q j. packed_has slots after q j ∙ set_hits slots count words after h x y u v ex ey l g q.0 q.1 j
+        ∙ ap (λ (z : Bool). is_same q (x, y) || z) (sym (packed_has slots words q j))
+        ∙ sym (has_with q (x, y) (pairs_in slots words)))
+        ∙ ap (λ (z : ℕ). with_pair (z, y) (pairs_in slots words)) (sym low)
+        ∙ ap (λ (z : ℕ). with_pair (min x y, z) (pairs_in slots words)) (sym high)
 
-pub after_clear : (slots : List (Option ℕ)) (count : ℕ) (words after : List ℕ) → ArePacked slots count words → ArePacked slots count after → (a b s t : ℕ) → (a ≡ b → ⊥) → slot_of slots a ≡ Some s → slot_of slots b ≡ Some t → ((n : ℕ) → has_bit after n ≡ (not (n == place_of s t) && has_bit words n)) → pairs_in slots after ≡ removed a b (pairs_in slots words)
+pub after_clear : (slots : List (Option ℕ)) (count : ℕ) (words after : List ℕ) → ArePacked slots count words
+    → ArePacked slots count after → (a b s t : ℕ) → (a ≡ b → ⊥) → slot_of slots a ≡ Some s → slot_of slots b ≡ Some t
+    → ((n : ℕ) → has_bit after n ≡ (not (n == place_of s t) && has_bit words n))
+    → pairs_in slots after ≡ removed a b (pairs_in slots words)
 after_clear slots count words after h k a b s t d ea eb f = elim (cases_lt a b) [
   | inl l ↦ go a b s t l ea eb f
   | inr l ↦ go b a t s (omega (arith, l, d)) eb ea (turned_place s t words after (λ x y. not x && y) f) ∙ removed_turned
@@ -121,18 +146,26 @@ after_clear slots count words after h k a b s t d ea eb f = elim (cases_lt a b) 
     removed_turned =
         let low : min b a ≡ min a b = omega arith in
         let high : max b a ≡ max a b = omega arith in
-        ap (λ (x : ℕ). without_pair (x, max b a) (pairs_in slots words)) low ∙ ap (λ (y : ℕ). without_pair (min a b, y) (pairs_in slots words)) high
+        ap (λ (x : ℕ). without_pair (x, max b a) (pairs_in slots words)) low
+        ∙ ap (λ (y : ℕ). without_pair (min a b, y) (pairs_in slots words)) high
 
-    go : (x y u v : ℕ) → x < y → slot_of slots x ≡ Some u → slot_of slots y ≡ Some v → ((n : ℕ) → has_bit after n ≡ (not (n == place_of u v) && has_bit words n)) → pairs_in slots after ≡ removed x y (pairs_in slots words)
+    go : (x y u v : ℕ) → x < y → slot_of slots x ≡ Some u → slot_of slots y ≡ Some v
+        → ((n : ℕ) → has_bit after n ≡ (not (n == place_of u v) && has_bit words n))
+        → pairs_in slots after ≡ removed x y (pairs_in slots words)
     go x y u v l ex ey g =
         let low : min x y ≡ x = omega (arith, l) in
         let high : max x y ≡ y = omega (arith, l) in
-        is_one_list (pairs_in slots after) (without_pair (x, y) (pairs_in slots words)) (packed_rises slots count after k) (rising_without (x, y) (pairs_in slots words) (packed_rises slots count words h))
-        (λ q j. packed_has slots after q j ∙ clear_hits slots count words after h x y u v ex ey l g q.0 q.1 j ∙ ap (λ (z : Bool). not (is_same q (x, y)) && z) (sym (packed_has slots words q j)) ∙ sym (has_without q (x, y) (pairs_in slots words) (packed_rises slots count words h)))
-        ∙ ap (λ (z : ℕ). without_pair (z, y) (pairs_in slots words)) (sym low) ∙ ap (λ (z : ℕ). without_pair (min x y, z) (pairs_in slots words)) (sym high)
+        is_one_list (pairs_in slots after) (without_pair (x, y) (pairs_in slots words)) (packed_rises slots count after k)
+        (rising_without (x, y) (pairs_in slots words) (packed_rises slots count words h))
+        (λ q j. packed_has slots after q j ∙ clear_hits slots count words after h x y u v ex ey l g q.0 q.1 j
+        ∙ ap (λ (z : Bool). not (is_same q (x, y)) && z) (sym (packed_has slots words q j))
+        ∙ sym (has_without q (x, y) (pairs_in slots words) (packed_rises slots count words h)))
+        ∙ ap (λ (z : ℕ). without_pair (z, y) (pairs_in slots words)) (sym low)
+        ∙ ap (λ (z : ℕ). without_pair (min x y, z) (pairs_in slots words)) (sym high)
 
 -- two ids that have no bit are no pair
-pub not_cleared : (slots : List (Option ℕ)) (words : List ℕ) (a b : ℕ) → (a ≡ b → ⊥) → hit slots words a b ≡ false → pairs_in slots words ≡ removed a b (pairs_in slots words)
+pub not_cleared : (slots : List (Option ℕ)) (words : List ℕ) (a b : ℕ) → (a ≡ b → ⊥) → hit slots words a b ≡ false
+    → pairs_in slots words ≡ removed a b (pairs_in slots words)
 not_cleared slots words a b d f = sym (without_none (pair_of a b) (pairs_in slots words) (packed_has_two slots words a b d ∙ f))
 
 pub left_no_hit : (slots : List (Option ℕ)) (words : List ℕ) (a b : ℕ) → slot_of slots a ≡ None → hit slots words a b ≡ false
@@ -158,7 +191,8 @@ slot_kept (s ∷ slots) zero (suc a) slot d = refl
 slot_kept (s ∷ slots) (suc i) zero slot d = refl
 slot_kept (s ∷ slots) (suc i) (suc a) slot d = slot_kept slots i a slot (λ e. d (ap suc e))
 
-pub one_more : (slots : List (Option ℕ)) (i s : ℕ) → i < length slots → slot_of slots i ≡ None → slots_in (set slots i (Some s)) ≡ suc (slots_in slots)
+pub one_more : (slots : List (Option ℕ)) (i s : ℕ) → i < length slots → slot_of slots i ≡ None
+    → slots_in (set slots i (Some s)) ≡ suc (slots_in slots)
 one_more [] i s l e = absurd (omega (arith, l))
 one_more (None ∷ slots) zero s l e = refl
 one_more (Some t ∷ slots) zero s l e = absurd (none-some t (sym e))
@@ -181,15 +215,18 @@ pub record HasRoom (slots : List (Option ℕ)) (words : List ℕ) (slots_now : L
   pub bits_same : (n : ℕ) → has_bit words_now n ≡ has_bit words n
   pub longer : length words ≤ length words_now
 
-same_hit : (words words_now : List ℕ) → ((n : ℕ) → has_bit words_now n ≡ has_bit words n) → (s t : Option ℕ) → hit_slots words_now s t ≡ hit_slots words s t
+same_hit : (words words_now : List ℕ) → ((n : ℕ) → has_bit words_now n ≡ has_bit words n) → (s t : Option ℕ)
+    → hit_slots words_now s t ≡ hit_slots words s t
 same_hit words words_now f None t = refl
 same_hit words words_now f (Some s) None = refl
 same_hit words words_now f (Some s) (Some t) = f (place_of s t)
 
-module _ (slots : List (Option ℕ)) (count : ℕ) (words : List ℕ) (slots_now : List (Option ℕ)) (words_now : List ℕ) (h : ArePacked slots count words) (r : HasRoom slots words slots_now words_now) where
+module _ (slots : List (Option ℕ)) (count : ℕ) (words : List ℕ) (slots_now : List (Option ℕ)) (words_now : List ℕ)
+    (h : ArePacked slots count words) (r : HasRoom slots words slots_now words_now) where
   hits_same : (a b : ℕ) → hit slots_now words_now a b ≡ hit slots words a b
   hits_same a b =
-      ap (λ (s : Option ℕ). hit_slots words_now s (slot_of slots_now b)) (r.slots_same a) ∙ ap (hit_slots words_now (slot_of slots a)) (r.slots_same b)
+      ap (λ (s : Option ℕ). hit_slots words_now s (slot_of slots_now b)) (r.slots_same a)
+      ∙ ap (hit_slots words_now (slot_of slots a)) (r.slots_same b)
       ∙ same_hit words words_now r.bits_same (slot_of slots a) (slot_of slots b)
 
   pub room_grown : IsGrown slots words slots_now count words_now
@@ -207,7 +244,8 @@ module _ (slots : List (Option ℕ)) (count : ℕ) (words : List ℕ) (slots_now
     same = hits_same;
   }
 
-  module _ (id : ℕ) (now : List (Option ℕ)) (l : id < length slots_now) (new : slot_of slots id ≡ None) (long : row_start (count + 1) ≤ length words_now) (e : now ≡ set slots_now id (Some count)) where
+  module _ (id : ℕ) (now : List (Option ℕ)) (l : id < length slots_now) (new : slot_of slots id ≡ None)
+      (long : row_start (count + 1) ≤ length words_now) (e : now ≡ set slots_now id (Some count)) where
     at_new : slot_of now id ≡ Some count
     at_new = ap (λ (xs : List (Option ℕ)). slot_of xs id) e ∙ slot_set slots_now id (Some count) l
 
@@ -262,7 +300,8 @@ module _ (slots : List (Option ℕ)) (count : ℕ) (words : List ℕ) (slots_now
             ap (hit_slots words_now (slot_of now a)) (ap (slot_of now) j ∙ at_new) ∙ right_new (slot_of now a) refl
             ∙ sym (ap (hit_slots words (slot_of slots a)) (ap (slot_of slots) j ∙ new) ∙ right_none (slot_of slots a))
         | inr c ↦
-            ap (λ (s : Option ℕ). hit_slots words_now s (slot_of now b)) (at_old a d) ∙ ap (hit_slots words_now (slot_of slots a)) (at_old b c)
+            ap (λ (s : Option ℕ). hit_slots words_now s (slot_of now b)) (at_old a d)
+            ∙ ap (hit_slots words_now (slot_of slots a)) (at_old b c)
             ∙ same_hit words words_now r.bits_same (slot_of slots a) (slot_of slots b)
       ]
     ]
@@ -283,7 +322,8 @@ module _ (slots : List (Option ℕ)) (count : ℕ) (words : List ℕ) (slots_now
     id_grown = record {
       packed = record {
         few = omega (arith, ap length e, length-set slots_now id (Some count), r.few);
-        counted = add-one count ∙ ap suc (h.counted ∙ sym r.counted) ∙ sym (one_more slots_now id count l (r.slots_same id ∙ new)) ∙ ap slots_in (sym e);
+        counted = add-one count ∙ ap suc (h.counted ∙ sym r.counted) ∙ sym (one_more slots_now id count l (r.slots_same id ∙ new))
+            ∙ ap slots_in (sym e);
         low = low_now;
         apart = apart_now;
         rows = long;
@@ -298,25 +338,35 @@ module _ (slots : List (Option ℕ)) (count : ℕ) (words : List ℕ) (slots_now
     new_slot = at_new
 
 -- a slot that was looked for and not found
-pub unlisted : (slots seen : List (Option ℕ)) (id : ℕ) (found : Option ℕ) → seen ≡ slots → found ≡ slot_of seen id → found ≡ None → slot_of slots id ≡ None
+pub unlisted : (slots seen : List (Option ℕ)) (id : ℕ) (found : Option ℕ) → seen ≡ slots → found ≡ slot_of seen id → found ≡ None
+    → slot_of slots id ≡ None
 unlisted slots seen id found same is none = ap (λ (xs : List (Option ℕ)). slot_of xs id) (sym same) ∙ sym is ∙ none
 
 -- an id that has no slot: there are fewer slots than ids, and the next slot is its own
-module _ (slots : List (Option ℕ)) (count : ℕ) (words : List ℕ) (slots_now : List (Option ℕ)) (id : ℕ) (h : ArePacked slots count words) (same : (a : ℕ) → slot_of slots_now a ≡ slot_of slots a) (counted : slots_in slots_now ≡ slots_in slots) (few : length slots_now ≤ 2048) (l : id < length slots_now) (none : slot_of slots id ≡ None) where
+module _ (slots : List (Option ℕ)) (count : ℕ) (words : List ℕ) (slots_now : List (Option ℕ)) (id : ℕ)
+    (h : ArePacked slots count words) (same : (a : ℕ) → slot_of slots_now a ≡ slot_of slots a)
+    (counted : slots_in slots_now ≡ slots_in slots) (few : length slots_now ≤ 2048) (l : id < length slots_now)
+    (none : slot_of slots id ≡ None) where
   pub next_low : count < 2048
   next_low = omega (arith, is_room slots_now id l (same id ∙ none), h.counted, counted, few)
 
-  pub listed : (words_now : List ℕ) (now : List (Option ℕ)) → ((n : ℕ) → has_bit words_now n ≡ has_bit words n) → length words ≤ length words_now → row_start (count + 1) ≤ length words_now → now ≡ set slots_now id (Some count) → IsGrown slots words now (count + 1) words_now × (slot_of now id ≡ Some count)
+  pub listed : (words_now : List ℕ) (now : List (Option ℕ)) → ((n : ℕ) → has_bit words_now n ≡ has_bit words n)
+      → length words ≤ length words_now → row_start (count + 1) ≤ length words_now → now ≡ set slots_now id (Some count)
+      → IsGrown slots words now (count + 1) words_now × (slot_of now id ≡ Some count)
   listed words_now now bits longer long is =
-      let room : HasRoom slots words slots_now words_now = record { slots_same = same; counted = counted; few = few; bits_same = bits; longer = longer } in (
+      let room : HasRoom slots words slots_now words_now = record
+      { slots_same = same; counted = counted; few = few; bits_same = bits; longer = longer } in (
         id_grown slots count words slots_now words_now h room id now l none long is,
         new_slot slots count words slots_now words_now h room id now l none long is,
       )
 
-pub grown_pairs : (slots now : List (Option ℕ)) (words words_now : List ℕ) (count count_now : ℕ) → ArePacked slots count words → IsGrown slots words now count_now words_now → pairs_in now words_now ≡ pairs_in slots words
+pub grown_pairs : (slots now : List (Option ℕ)) (words words_now : List ℕ) (count count_now : ℕ) → ArePacked slots count words
+    → IsGrown slots words now count_now words_now → pairs_in now words_now ≡ pairs_in slots words
 grown_pairs slots now words words_now count count_now h g = same_pairs slots now words words_now h.few g.packed.few g.same
 
-pub grown_twice : (slots now last : List (Option ℕ)) (words words_now words_last : List ℕ) (count_now count_last : ℕ) → IsGrown slots words now count_now words_now → IsGrown now words_now last count_last words_last → IsGrown slots words last count_last words_last
+pub grown_twice : (slots now last : List (Option ℕ)) (words words_now words_last : List ℕ) (count_now count_last : ℕ)
+    → IsGrown slots words now count_now words_now → IsGrown now words_now last count_last words_last
+    → IsGrown slots words last count_last words_last
 grown_twice slots now last words words_now words_last count_now count_last g k = record {
   packed = k.packed;
   kept = λ a s e. k.kept a s (g.kept a s e);
@@ -326,10 +376,12 @@ grown_twice slots now last words words_now words_last count_now count_last g k =
 pub few_slots : (slots : List (Option ℕ)) (count : ℕ) (words : List ℕ) → ArePacked slots count words → count ≤ 2048
 few_slots slots count words h = omega (arith, h.counted, h.few, not_more slots)
 
-pub slot_low : (slots : List (Option ℕ)) (count : ℕ) (words : List ℕ) → ArePacked slots count words → (a s : ℕ) → slot_of slots a ≡ Some s → s < 2048
+pub slot_low : (slots : List (Option ℕ)) (count : ℕ) (words : List ℕ) → ArePacked slots count words → (a s : ℕ)
+    → slot_of slots a ≡ Some s → s < 2048
 slot_low slots count words h a s e = omega (arith, h.low a s e, few_slots slots count words h)
 
-pub room_counted : (slots now : List (Option ℕ)) (n more : ℕ) → now ≡ take n slots ++ replicate more None → length slots ≤ n → slots_in now ≡ slots_in slots
+pub room_counted : (slots now : List (Option ℕ)) (n more : ℕ) → now ≡ take n slots ++ replicate more None → length slots ≤ n
+    → slots_in now ≡ slots_in slots
 room_counted slots now n more e l = ap slots_in e ∙ count_more (take n slots) more ∙ ap slots_in (take_all n slots l)
 
 pub on_err : {A E : Type 0} (r : Result A E) (P : Type 0) → P → OnErr r P

@@ -1,5 +1,6 @@
 -- Pairs as bits: the pairs of which something holds, and what a change of slots and bits leaves of them.
-use Rattle.std.proofs.Common.{◌≡◌, ℕ, zero, suc, ◌+◌, ◌*◌, ◌/◌, ◌<◌, ◌≤◌, min, max, Bool, true, false, not, ◌&&◌, ◌||◌, ◌==◌, List, [], ◌∷◌, ◌++◌, length, Option, Some, None, ◌⊎◌, inl, inr, refl, sym, ap, subst, ◌∙◌, arith, eq-eqb}
+use Rattle.std.proofs.Common.{◌≡◌, ℕ, zero, suc, ◌+◌, ◌*◌, ◌/◌, ◌<◌, ◌≤◌, min, max, Bool, true, false, not, ◌&&◌, ◌||◌, ◌==◌, List}
+use Rattle.std.proofs.Common.{[], ◌∷◌, ◌++◌, length, Option, Some, None, ◌⊎◌, inl, inr, refl, sym, ap, subst, ◌∙◌, arith, eq-eqb}
 use Rattle.std.proofs.lemmas.Bool.{false≢true, ne_eqb, cases_lt, cases_eq, false_from_ne_true, cond-true, cond-false, cases_Bool, or_left}
 use Rattle.std.proofs.lemmas.Option.{none-some}
 use Rattle.list_views.proofs.Truths.{or_false, or_assoc, and_false as and_off, or_twice, or_over}
@@ -7,16 +8,19 @@ use Rattle.jvm_values.proofs.Options.{some_is}
 use Rattle.abs_cells.specs.PairLists.{pair_of, is_same, is_before, IsFirst, IsRising, has_pair, with_pair, without_pair, has}
 use Rattle.abs_cells.specs.IdSets.{has_bit}
 use Rattle.abs_cells.specs.PackedBits.{row_from, pairs_from, pairs_in, slot_of, row_start, place_of, hit, hit_slots, ArePacked}
-use Rattle.abs_cells.proofs.PairLaws.{Before, is_before_from, never_both, never_itself, same_is, is_same_from, not_same, or_rest, behind_first, standing}
+use Rattle.abs_cells.proofs.PairLaws.{Before, is_before_from, never_both, never_itself, same_is, is_same_from, not_same, or_rest}
+use Rattle.abs_cells.proofs.PairLaws.{behind_first, standing}
 
 -- ---- two rising lists with the same pairs are equal
 
-head_is : (p q : ℕ × ℕ) (xs ys : List (ℕ × ℕ)) → IsRising (p ∷ xs) → IsRising (q ∷ ys) → has_pair p (q ∷ ys) ≡ true → has_pair q (p ∷ xs) ≡ true → p ≡ q
+head_is : (p q : ℕ × ℕ) (xs ys : List (ℕ × ℕ)) → IsRising (p ∷ xs) → IsRising (q ∷ ys) → has_pair p (q ∷ ys) ≡ true
+    → has_pair q (p ∷ xs) ≡ true → p ≡ q
 head_is p q xs ys r s h k = elim (cases_Bool (is_same p q)) [
   | inl e ↦ same_is p q e
   | inr e ↦ elim (cases_Bool (is_same q p)) [
     | inl f ↦ sym (same_is q p f)
-    | inr f ↦ absurd (never_both p q (behind_first p q xs r.1.0 r.1.1 (sym (or_rest (is_same q p) (has_pair q xs) f) ∙ k)) (behind_first q p ys s.1.0 s.1.1 (sym (or_rest (is_same p q) (has_pair p ys) e) ∙ h)))
+    | inr f ↦ absurd (never_both p q (behind_first p q xs r.1.0 r.1.1 (sym (or_rest (is_same q p) (has_pair q xs) f) ∙ k))
+        (behind_first q p ys s.1.0 s.1.1 (sym (or_rest (is_same p q) (has_pair p ys) e) ∙ h)))
   ]
 ]
 
@@ -28,11 +32,13 @@ is_one_list [] [] r s h = refl
 is_one_list [] (y ∷ ys) r s h = absurd (false≢true (h y s.0.0 ∙ or_left (is_same y y) (has_pair y ys) (is_same_from y y refl)))
 is_one_list (x ∷ xs) [] r s h = absurd (false≢true (sym (h x r.0.0) ∙ or_left (is_same x x) (has_pair x xs) (is_same_from x x refl)))
 is_one_list (x ∷ xs) (y ∷ ys) r s h =
-    let e : x ≡ y = head_is x y xs ys r s (sym (h x r.0.0) ∙ or_left (is_same x x) (has_pair x xs) (is_same_from x x refl)) (h y s.0.0 ∙ or_left (is_same y y) (has_pair y ys) (is_same_from y y refl)) in
+    let e : x ≡ y = head_is x y xs ys r s (sym (h x r.0.0) ∙ or_left (is_same x x) (has_pair x xs) (is_same_from x x refl))
+    (h y s.0.0 ∙ or_left (is_same y y) (has_pair y ys) (is_same_from y y refl)) in
     let rest : (p : ℕ × ℕ) → p.0 < p.1 → has_pair p xs ≡ has_pair p ys = λ p l. elim (cases_Bool (is_same p x)) [
       | inl t ↦
           let u : p ≡ x = same_is p x t in
-          false_from_ne_true (has_pair p xs) (λ k. not_in_rest x xs r (subst (λ (q : ℕ × ℕ). has_pair q xs ≡ true) u k)) ∙ sym (false_from_ne_true (has_pair p ys) (λ k. not_in_rest y ys s (subst (λ (q : ℕ × ℕ). has_pair q ys ≡ true) (u ∙ e) k)))
+          false_from_ne_true (has_pair p xs) (λ k. not_in_rest x xs r (subst (λ (q : ℕ × ℕ). has_pair q xs ≡ true) u k))
+          ∙ sym (false_from_ne_true (has_pair p ys) (λ k. not_in_rest y ys s (subst (λ (q : ℕ × ℕ). has_pair q ys ≡ true) (u ∙ e) k)))
       | inr t ↦
           let v : is_same p y ≡ false = subst (λ (q : ℕ × ℕ). is_same p q ≡ false) e t in
           sym (or_rest (is_same p x) (has_pair p xs) t) ∙ h p l ∙ or_rest (is_same p y) (has_pair p ys) v
@@ -70,21 +76,25 @@ has_with q p (x ∷ xs) = elim (standing p x) [
 ]
 
 -- what a list has without its first pair, and without another one
-without_here : (q p x : ℕ × ℕ) (xs : List (ℕ × ℕ)) → IsRising (x ∷ xs) → p ≡ x → has_pair q xs ≡ (not (is_same q p) && (is_same q x || has_pair q xs))
+without_here : (q p x : ℕ × ℕ) (xs : List (ℕ × ℕ)) → IsRising (x ∷ xs) → p ≡ x
+    → has_pair q xs ≡ (not (is_same q p) && (is_same q x || has_pair q xs))
 without_here q p x xs r e = elim (cases_Bool (is_same q p)) [
   | inl t ↦
       let u : q ≡ x = same_is q p t ∙ e in
-      false_from_ne_true (has_pair q xs) (λ k. not_in_rest x xs r (subst (λ (y : ℕ × ℕ). has_pair y xs ≡ true) u k)) ∙ sym (ap (λ (b : Bool). not b && (is_same q x || has_pair q xs)) t)
+      false_from_ne_true (has_pair q xs) (λ k. not_in_rest x xs r (subst (λ (y : ℕ × ℕ). has_pair y xs ≡ true) u k))
+      ∙ sym (ap (λ (b : Bool). not b && (is_same q x || has_pair q xs)) t)
   | inr t ↦
       let v : is_same q x ≡ false = subst (λ (y : ℕ × ℕ). is_same q y ≡ false) e t in
       sym (ap (λ (b : Bool). not b && (is_same q x || has_pair q xs)) t ∙ or_rest (is_same q x) (has_pair q xs) v)
 ]
 
-without_there : (q p x : ℕ × ℕ) (rest : Bool) → is_same p x ≡ false → (is_same q x || (not (is_same q p) && rest)) ≡ (not (is_same q p) && (is_same q x || rest))
+without_there : (q p x : ℕ × ℕ) (rest : Bool) → is_same p x ≡ false
+    → (is_same q x || (not (is_same q p) && rest)) ≡ (not (is_same q p) && (is_same q x || rest))
 without_there q p x rest s = elim (cases_Bool (is_same q p)) [
   | inl t ↦
       let v : is_same q x ≡ false = subst (λ (y : ℕ × ℕ). is_same y x ≡ false) (sym (same_is q p t)) s in
-      ap (λ (b : Bool). is_same q x || (not b && rest)) t ∙ or_rest (is_same q x) false v ∙ sym (ap (λ (b : Bool). not b && (is_same q x || rest)) t)
+      ap (λ (b : Bool). is_same q x || (not b && rest)) t ∙ or_rest (is_same q x) false v
+      ∙ sym (ap (λ (b : Bool). not b && (is_same q x || rest)) t)
   | inr t ↦ ap (λ (b : Bool). is_same q x || (not b && rest)) t ∙ sym (ap (λ (b : Bool). not b && (is_same q x || rest)) t)
 ]
 
@@ -92,14 +102,16 @@ pub has_without : (q p : ℕ × ℕ) (xs : List (ℕ × ℕ)) → IsRising xs �
 has_without q p [] r = sym (and_off (not (is_same q p)))
 has_without q p (x ∷ xs) r = elim (cases_Bool (is_same p x)) [
   | inl s ↦ ap (has_pair q) (without_same p x xs s) ∙ without_here q p x xs r (same_is p x s)
-  | inr s ↦ ap (has_pair q) (without_other p x xs s) ∙ ap (λ (b : Bool). is_same q x || b) (has_without q p xs r.1.1) ∙ without_there q p x (has_pair q xs) s
+  | inr s ↦ ap (has_pair q) (without_other p x xs s) ∙ ap (λ (b : Bool). is_same q x || b) (has_without q p xs r.1.1)
+      ∙ without_there q p x (has_pair q xs) s
 ]
 
 -- ---- the pairs of which something holds
 
 pub has_append : (p : ℕ × ℕ) (xs ys : List (ℕ × ℕ)) → has_pair p (xs ++ ys) ≡ (has_pair p xs || has_pair p ys)
 has_append p [] ys = refl
-has_append p (x ∷ xs) ys = ap (λ (b : Bool). is_same p x || b) (has_append p xs ys) ∙ sym (or_assoc (is_same p x) (has_pair p xs) (has_pair p ys))
+has_append p (x ∷ xs) ys = ap (λ (b : Bool). is_same p x || b) (has_append p xs ys)
+    ∙ sym (or_assoc (is_same p x) (has_pair p xs) (has_pair p ys))
 
 pub row_with : (test : ℕ → Bool) (a b count : ℕ) → test b ≡ true → row_from test a b (suc count) ≡ (a, b) ∷ row_from test a (suc b) count
 row_with test a b count e = cond-true (test b) _ _ e
@@ -121,7 +133,8 @@ other_row test a b (suc count) p f =
     elim (cases_Bool (test b)) [
       | inl t ↦
           let apart : is_same p (a, b) ≡ false = not_same p (a, b) (λ e. f (first_of e) (omega (arith, second_of e))) in
-          ap (has_pair p) (row_with test a b count t) ∙ or_rest (is_same p (a, b)) (has_pair p (row_from test a (suc b) count)) apart ∙ rest
+          ap (has_pair p) (row_with test a b count t) ∙ or_rest (is_same p (a, b)) (has_pair p (row_from test a (suc b) count))
+          apart ∙ rest
       | inr t ↦ ap (has_pair p) (row_without test a b count t) ∙ rest
     ]
 
@@ -132,8 +145,11 @@ in_row test a b (suc count) c l m = elim (cases_eq c b) [
   | inl e ↦ elim (cases_Bool (test b)) [
     | inl t ↦
         let right : ℕ → ℕ × ℕ = λ x. (a, x) in
-        ap (has_pair (a, c)) (row_with test a b count t) ∙ or_left (is_same (a, c) (a, b)) (has_pair (a, c) (row_from test a (suc b) count)) (is_same_from (a, c) (a, b) (ap right e)) ∙ sym (ap test e ∙ t)
-    | inr t ↦ ap (has_pair (a, c)) (row_without test a b count t) ∙ other_row test a (suc b) count (a, c) (λ u k. omega (arith, e, k)) ∙ sym (ap test e ∙ t)
+        ap (has_pair (a, c)) (row_with test a b count t)
+        ∙ or_left (is_same (a, c) (a, b)) (has_pair (a, c) (row_from test a (suc b) count))
+        (is_same_from (a, c) (a, b) (ap right e)) ∙ sym (ap test e ∙ t)
+    | inr t ↦ ap (has_pair (a, c)) (row_without test a b count t)
+        ∙ other_row test a (suc b) count (a, c) (λ u k. omega (arith, e, k)) ∙ sym (ap test e ∙ t)
   ]
   | inr d ↦
       let k : suc b ≤ c = omega (arith, l, d) in
@@ -141,7 +157,8 @@ in_row test a b (suc count) c l m = elim (cases_eq c b) [
       elim (cases_Bool (test b)) [
         | inl t ↦
             let apart : is_same (a, c) (a, b) ≡ false = not_same (a, c) (a, b) (λ e. d (second_of e)) in
-            ap (has_pair (a, c)) (row_with test a b count t) ∙ or_rest (is_same (a, c) (a, b)) (has_pair (a, c) (row_from test a (suc b) count)) apart ∙ rest
+            ap (has_pair (a, c)) (row_with test a b count t)
+            ∙ or_rest (is_same (a, c) (a, b)) (has_pair (a, c) (row_from test a (suc b) count)) apart ∙ rest
         | inr t ↦ ap (has_pair (a, c)) (row_without test a b count t) ∙ rest
       ]
 ]
@@ -153,7 +170,8 @@ past_row test a b (suc count) p m =
     elim (cases_Bool (test b)) [
       | inl t ↦
           let apart : is_same p (a, b) ≡ false = not_same p (a, b) (λ e. omega (arith, m, second_of e)) in
-          ap (has_pair p) (row_with test a b count t) ∙ or_rest (is_same p (a, b)) (has_pair p (row_from test a (suc b) count)) apart ∙ rest
+          ap (has_pair p) (row_with test a b count t) ∙ or_rest (is_same p (a, b)) (has_pair p (row_from test a (suc b) count))
+          apart ∙ rest
       | inr t ↦ ap (has_pair p) (row_without test a b count t) ∙ rest
     ]
 
@@ -161,7 +179,8 @@ lower_out : (holds : ℕ → ℕ → Bool) (a count : ℕ) (p : ℕ × ℕ) → 
 lower_out holds a zero p l = refl
 lower_out holds a (suc count) p l =
     has_append p (row_from (holds a) a (suc a) count) (pairs_from holds (suc a) count)
-    ∙ ap (λ (b : Bool). b || has_pair p (pairs_from holds (suc a) count)) (other_row (holds a) a (suc a) count p (λ e k. omega (arith, l, e)))
+    ∙ ap (λ (b : Bool). b || has_pair p (pairs_from holds (suc a) count))
+    (other_row (holds a) a (suc a) count p (λ e k. omega (arith, l, e)))
     ∙ lower_out holds (suc a) count p (omega (arith, l))
 
 higher_out : (holds : ℕ → ℕ → Bool) (a count : ℕ) (p : ℕ × ℕ) → p.0 < p.1 → a + count ≤ p.1 → has_pair p (pairs_from holds a count) ≡ false
@@ -171,10 +190,13 @@ higher_out holds a (suc count) p l m =
     ∙ ap (λ (b : Bool). b || has_pair p (pairs_from holds (suc a) count)) (past_row (holds a) a (suc a) count p (omega (arith, m)))
     ∙ higher_out holds (suc a) count p l (omega (arith, m))
 
-first_row : (holds : ℕ → ℕ → Bool) (a count : ℕ) (p : ℕ × ℕ) → p.0 ≡ a → p.0 < p.1 → p.1 < a + suc count → has_pair p (row_from (holds a) a (suc a) count) ≡ holds p.0 p.1
-first_row holds a count (x, y) e m n = ap (λ (z : ℕ). has_pair (z, y) (row_from (holds a) a (suc a) count)) e ∙ in_row (holds a) a (suc a) count y (omega (arith, e, m)) (omega (arith, n)) ∙ ap (λ (z : ℕ). holds z y) (sym e)
+first_row : (holds : ℕ → ℕ → Bool) (a count : ℕ) (p : ℕ × ℕ) → p.0 ≡ a → p.0 < p.1 → p.1 < a + suc count
+    → has_pair p (row_from (holds a) a (suc a) count) ≡ holds p.0 p.1
+first_row holds a count (x, y) e m n = ap (λ (z : ℕ). has_pair (z, y) (row_from (holds a) a (suc a) count)) e
+    ∙ in_row (holds a) a (suc a) count y (omega (arith, e, m)) (omega (arith, n)) ∙ ap (λ (z : ℕ). holds z y) (sym e)
 
-inside : (holds : ℕ → ℕ → Bool) (a count : ℕ) (p : ℕ × ℕ) → a ≤ p.0 → p.0 < p.1 → p.1 < a + count → has_pair p (pairs_from holds a count) ≡ holds p.0 p.1
+inside : (holds : ℕ → ℕ → Bool) (a count : ℕ) (p : ℕ × ℕ) → a ≤ p.0 → p.0 < p.1 → p.1 < a + count
+    → has_pair p (pairs_from holds a count) ≡ holds p.0 p.1
 inside holds a zero p l m n = absurd (omega (arith, l, m, n))
 inside holds a (suc count) p l m n = elim (cases_eq p.0 a) [
   | inl e ↦
@@ -188,29 +210,37 @@ inside holds a (suc count) p l m n = elim (cases_eq p.0 a) [
 ]
 
 -- the lists rise
-starts : (p : ℕ × ℕ) (test : ℕ → Bool) (a b count : ℕ) (ys : List (ℕ × ℕ)) → ((c : ℕ) → b ≤ c → Before p (a, c)) → IsFirst p ys → IsFirst p (row_from test a b count ++ ys)
+starts : (p : ℕ × ℕ) (test : ℕ → Bool) (a b count : ℕ) (ys : List (ℕ × ℕ)) → ((c : ℕ) → b ≤ c → Before p (a, c)) → IsFirst p ys
+    → IsFirst p (row_from test a b count ++ ys)
 starts p test a b zero ys f h = h
 starts p test a b (suc count) ys f h = elim (cases_Bool (test b)) [
-  | inl t ↦ subst (λ (xs : List (ℕ × ℕ)). IsFirst p (xs ++ ys)) (sym (row_with test a b count t)) (is_before_from p (a, b) (f b (omega arith)))
-  | inr t ↦ subst (λ (xs : List (ℕ × ℕ)). IsFirst p (xs ++ ys)) (sym (row_without test a b count t)) (starts p test a (suc b) count ys (λ c l. f c (omega (arith, l))) h)
+  | inl t ↦ subst (λ (xs : List (ℕ × ℕ)). IsFirst p (xs ++ ys)) (sym (row_with test a b count t))
+      (is_before_from p (a, b) (f b (omega arith)))
+  | inr t ↦ subst (λ (xs : List (ℕ × ℕ)). IsFirst p (xs ++ ys)) (sym (row_without test a b count t))
+      (starts p test a (suc b) count ys (λ c l. f c (omega (arith, l))) h)
 ]
 
-row_rises : (test : ℕ → Bool) (a b count : ℕ) (ys : List (ℕ × ℕ)) → a < b → b + count ≤ 2048 → ((c : ℕ) → IsFirst (a, c) ys) → IsRising ys → IsRising (row_from test a b count ++ ys)
+row_rises : (test : ℕ → Bool) (a b count : ℕ) (ys : List (ℕ × ℕ)) → a < b → b + count ≤ 2048 → ((c : ℕ) → IsFirst (a, c) ys)
+    → IsRising ys → IsRising (row_from test a b count ++ ys)
 row_rises test a b zero ys l m f r = r
 row_rises test a b (suc count) ys l m f r =
-    let rest : IsRising (row_from test a (suc b) count ++ ys) = row_rises test a (suc b) count ys (omega (arith, l)) (omega (arith, m)) f r in
+    let rest : IsRising (row_from test a (suc b) count ++ ys) = row_rises test a (suc b) count ys (omega (arith, l))
+    (omega (arith, m)) f r in
     elim (cases_Bool (test b)) [
-      | inl t ↦ subst (λ (xs : List (ℕ × ℕ)). IsRising (xs ++ ys)) (sym (row_with test a b count t)) ((l, omega (arith, m)), (starts (a, b) test a (suc b) count ys (λ c k. inr (refl, omega (arith, k))) (f b), rest))
+      | inl t ↦ subst (λ (xs : List (ℕ × ℕ)). IsRising (xs ++ ys)) (sym (row_with test a b count t))
+          ((l, omega (arith, m)), (starts (a, b) test a (suc b) count ys (λ c k. inr (refl, omega (arith, k))) (f b), rest))
       | inr t ↦ subst (λ (xs : List (ℕ × ℕ)). IsRising (xs ++ ys)) (sym (row_without test a b count t)) rest
     ]
 
 first_from : (holds : ℕ → ℕ → Bool) (a count : ℕ) (p : ℕ × ℕ) → p.0 < a → IsFirst p (pairs_from holds a count)
 first_from holds a zero p l = tt
-first_from holds a (suc count) p l = starts p (holds a) a (suc a) count (pairs_from holds (suc a) count) (λ c k. inl l) (first_from holds (suc a) count p (omega (arith, l)))
+first_from holds a (suc count) p l = starts p (holds a) a (suc a) count (pairs_from holds (suc a) count) (λ c k. inl l)
+    (first_from holds (suc a) count p (omega (arith, l)))
 
 rises_from : (holds : ℕ → ℕ → Bool) (a count : ℕ) → a + count ≤ 2048 → IsRising (pairs_from holds a count)
 rises_from holds a zero l = tt
-rises_from holds a (suc count) l = row_rises (holds a) a (suc a) count (pairs_from holds (suc a) count) (omega arith) (omega (arith, l)) (λ c. first_from holds (suc a) count (a, c) (omega arith)) (rises_from holds (suc a) count (omega (arith, l)))
+rises_from holds a (suc count) l = row_rises (holds a) a (suc a) count (pairs_from holds (suc a) count) (omega arith)
+    (omega (arith, l)) (λ c. first_from holds (suc a) count (a, c) (omega arith)) (rises_from holds (suc a) count (omega (arith, l)))
 
 -- ---- bits as pairs
 
@@ -229,10 +259,12 @@ no_hit slots words a b e = ap (hit_slots words (slot_of slots a)) e ∙ right_no
     right_none None = refl
     right_none (Some s) = refl
 
-pub packed_has : (slots : List (Option ℕ)) (words : List ℕ) (p : ℕ × ℕ) → p.0 < p.1 → has_pair p (pairs_in slots words) ≡ hit slots words p.0 p.1
+pub packed_has : (slots : List (Option ℕ)) (words : List ℕ) (p : ℕ × ℕ) → p.0 < p.1
+    → has_pair p (pairs_in slots words) ≡ hit slots words p.0 p.1
 packed_has slots words p l = elim (cases_lt p.1 (length slots)) [
   | inl m ↦ inside (hit slots words) 0 (length slots) p (omega arith) l (omega (arith, m))
-  | inr m ↦ higher_out (hit slots words) 0 (length slots) p l (omega (arith, m)) ∙ sym (no_hit slots words p.0 p.1 (past_slots slots p.1 m))
+  | inr m ↦ higher_out (hit slots words) 0 (length slots) p l (omega (arith, m))
+      ∙ sym (no_hit slots words p.0 p.1 (past_slots slots p.1 m))
 ]
 
 pub place_turned : (s t : ℕ) → place_of s t ≡ place_of t s
@@ -251,23 +283,28 @@ hit_turned slots words a b = go (slot_of slots a) (slot_of slots b)
     go (Some s) (Some t) = ap (has_bit words) (place_turned s t)
 
 -- the pair of two ids is told by their bit
-pub packed_has_two : (slots : List (Option ℕ)) (words : List ℕ) (a b : ℕ) → (a ≡ b → ⊥) → has a b (pairs_in slots words) ≡ hit slots words a b
+pub packed_has_two : (slots : List (Option ℕ)) (words : List ℕ) (a b : ℕ) → (a ≡ b → ⊥)
+    → has a b (pairs_in slots words) ≡ hit slots words a b
 packed_has_two slots words a b d = elim (cases_lt a b) [
   | inl l ↦
       let low : min a b ≡ a = omega (arith, l) in
       let high : max a b ≡ b = omega (arith, l) in
-      packed_has slots words (pair_of a b) (omega (arith, l)) ∙ ap (λ (x : ℕ). hit slots words x (max a b)) low ∙ ap (hit slots words a) high
+      packed_has slots words (pair_of a b) (omega (arith, l)) ∙ ap (λ (x : ℕ). hit slots words x (max a b)) low
+      ∙ ap (hit slots words a) high
   | inr l ↦
       let m : b < a = omega (arith, l, d) in
       let low : min a b ≡ b = omega (arith, l) in
       let high : max a b ≡ a = omega (arith, l) in
-      packed_has slots words (pair_of a b) (omega (arith, m)) ∙ ap (λ (x : ℕ). hit slots words x (max a b)) low ∙ ap (hit slots words b) high ∙ hit_turned slots words b a
+      packed_has slots words (pair_of a b) (omega (arith, m)) ∙ ap (λ (x : ℕ). hit slots words x (max a b)) low
+      ∙ ap (hit slots words b) high ∙ hit_turned slots words b a
 ]
 
 -- where the bits of all ids are the same, the pairs are
-pub same_pairs : (slots now : List (Option ℕ)) (words words_now : List ℕ) → length slots ≤ 2048 → length now ≤ 2048 → ((a b : ℕ) → hit now words_now a b ≡ hit slots words a b) → pairs_in now words_now ≡ pairs_in slots words
+pub same_pairs : (slots now : List (Option ℕ)) (words words_now : List ℕ) → length slots ≤ 2048 → length now ≤ 2048
+    → ((a b : ℕ) → hit now words_now a b ≡ hit slots words a b) → pairs_in now words_now ≡ pairs_in slots words
 same_pairs slots now words words_now l m h =
-    is_one_list (pairs_in now words_now) (pairs_in slots words) (rises_from (hit now words_now) 0 (length now) (omega (arith, m))) (rises_from (hit slots words) 0 (length slots) (omega (arith, l)))
+    is_one_list (pairs_in now words_now) (pairs_in slots words) (rises_from (hit now words_now) 0 (length now) (omega (arith, m)))
+    (rises_from (hit slots words) 0 (length slots) (omega (arith, l)))
     (λ p k. packed_has now words_now p k ∙ h p.0 p.1 ∙ sym (packed_has slots words p k))
 
 -- ---- rows do not overlap
@@ -279,7 +316,8 @@ later_row s (suc t) l = elim (cases_eq s t) [
   | inr d ↦ omega (arith, later_row s t (omega (arith, l, d)))
 ]
 
-pub rows_apart : (s t a b : ℕ) → a < 64 * suc (s / 64) → b < 64 * suc (t / 64) → 64 * row_start s + a ≡ 64 * row_start t + b → (s ≡ t) × (a ≡ b)
+pub rows_apart : (s t a b : ℕ) → a < 64 * suc (s / 64) → b < 64 * suc (t / 64) → 64 * row_start s + a ≡ 64 * row_start t + b
+    → (s ≡ t) × (a ≡ b)
 rows_apart s t a b l m e = elim (cases_lt s t) [
   | inl k ↦ absurd (omega (arith, later_row s t k, l, e))
   | inr k ↦ elim (cases_lt t s) [
@@ -297,7 +335,9 @@ places_apart s t u v e = rows_apart (max s t) (max u v) (min s t) (min u v) (ome
 -- ---- what a call leaves: one bit is set, or cleared
 
 -- the bit of two ids is no other ids' bit
-other_bit : (slots : List (Option ℕ)) (count : ℕ) (words : List ℕ) → ArePacked slots count words → (a b x y s t u v : ℕ) → slot_of slots a ≡ Some s → slot_of slots b ≡ Some t → slot_of slots x ≡ Some u → slot_of slots y ≡ Some v → a < b → x < y → place_of u v ≡ place_of s t → (x ≡ a) × (y ≡ b)
+other_bit : (slots : List (Option ℕ)) (count : ℕ) (words : List ℕ) → ArePacked slots count words → (a b x y s t u v : ℕ)
+    → slot_of slots a ≡ Some s → slot_of slots b ≡ Some t → slot_of slots x ≡ Some u → slot_of slots y ≡ Some v → a < b → x < y
+    → place_of u v ≡ place_of s t → (x ≡ a) × (y ≡ b)
 other_bit slots count words h a b x y s t u v ea eb ex ey l m e =
     let k = places_apart u v s t e in
     elim (cases_eq u s) [
@@ -312,8 +352,10 @@ other_bit slots count words h a b x y s t u v ea eb ex ey l m e =
           absurd (omega (arith, xb, ya, l, m))
     ]
 
-module _ (slots : List (Option ℕ)) (count : ℕ) (words after : List ℕ) (h : ArePacked slots count words) (a b s t : ℕ) (ea : slot_of slots a ≡ Some s) (eb : slot_of slots b ≡ Some t) where
-  is_it : (x y u v : ℕ) → slot_of slots x ≡ Some u → slot_of slots y ≡ Some v → a < b → x < y → (place_of u v == place_of s t) ≡ is_same (x, y) (a, b)
+module _ (slots : List (Option ℕ)) (count : ℕ) (words after : List ℕ) (h : ArePacked slots count words) (a b s t : ℕ)
+    (ea : slot_of slots a ≡ Some s) (eb : slot_of slots b ≡ Some t) where
+  is_it : (x y u v : ℕ) → slot_of slots x ≡ Some u → slot_of slots y ≡ Some v → a < b → x < y
+      → (place_of u v == place_of s t) ≡ is_same (x, y) (a, b)
   is_it x y u v ex ey l m = elim (cases_eq (place_of u v) (place_of s t)) [
     | inl e ↦
         let k = other_bit slots count words h a b x y s t u v ea eb ex ey l m e in
@@ -327,26 +369,32 @@ module _ (slots : List (Option ℕ)) (count : ℕ) (words after : List ℕ) (h :
         d (ap (λ (z : ℕ). place_of z v) us ∙ ap (place_of s) vt)))
   ]
 
-  pub set_hits : a < b → ((n : ℕ) → has_bit after n ≡ ((n == place_of s t) || has_bit words n)) → (x y : ℕ) → x < y → hit slots after x y ≡ (is_same (x, y) (a, b) || hit slots words x y)
+  pub set_hits : a < b → ((n : ℕ) → has_bit after n ≡ ((n == place_of s t) || has_bit words n)) → (x y : ℕ) → x < y
+      → hit slots after x y ≡ (is_same (x, y) (a, b) || hit slots words x y)
   set_hits l f x y m = go (slot_of slots x) (slot_of slots y) refl refl
     where
       none_same : (u v : Option ℕ) → slot_of slots x ≡ u → slot_of slots y ≡ v → ((u ≡ None) ⊎ (v ≡ None)) → is_same (x, y) (a, b) ≡ false
-      none_same u v ex ey (inl n) = not_same (x, y) (a, b) (λ e. none-some s (sym n ∙ sym ex ∙ ap (slot_of slots) (ap (λ (z : ℕ × ℕ). z.0) e) ∙ ea))
-      none_same u v ex ey (inr n) = not_same (x, y) (a, b) (λ e. none-some t (sym n ∙ sym ey ∙ ap (slot_of slots) (ap (λ (z : ℕ × ℕ). z.1) e) ∙ eb))
+      none_same u v ex ey (inl n) = not_same (x, y) (a, b)
+          (λ e. none-some s (sym n ∙ sym ex ∙ ap (slot_of slots) (ap (λ (z : ℕ × ℕ). z.0) e) ∙ ea))
+      none_same u v ex ey (inr n) = not_same (x, y) (a, b)
+          (λ e. none-some t (sym n ∙ sym ey ∙ ap (slot_of slots) (ap (λ (z : ℕ × ℕ). z.1) e) ∙ eb))
 
-      go : (u v : Option ℕ) → slot_of slots x ≡ u → slot_of slots y ≡ v → hit_slots after u v ≡ (is_same (x, y) (a, b) || hit_slots words u v)
+      go : (u v : Option ℕ) → slot_of slots x ≡ u → slot_of slots y ≡ v
+          → hit_slots after u v ≡ (is_same (x, y) (a, b) || hit_slots words u v)
       go None v ex ey = sym (or_rest (is_same (x, y) (a, b)) false (none_same None v ex ey (inl refl)))
       go (Some u) None ex ey = sym (or_rest (is_same (x, y) (a, b)) false (none_same (Some u) None ex ey (inr refl)))
       go (Some u) (Some v) ex ey = f (place_of u v) ∙ ap (λ (c : Bool). c || has_bit words (place_of u v)) (is_it x y u v ex ey l m)
 
-  pub clear_hits : a < b → ((n : ℕ) → has_bit after n ≡ (not (n == place_of s t) && has_bit words n)) → (x y : ℕ) → x < y → hit slots after x y ≡ (not (is_same (x, y) (a, b)) && hit slots words x y)
+  pub clear_hits : a < b → ((n : ℕ) → has_bit after n ≡ (not (n == place_of s t) && has_bit words n)) → (x y : ℕ) → x < y
+      → hit slots after x y ≡ (not (is_same (x, y) (a, b)) && hit slots words x y)
   clear_hits l f x y m = go (slot_of slots x) (slot_of slots y) refl refl
     where
       and_off : (c : Bool) → (c && false) ≡ false
       and_off true = refl
       and_off false = refl
 
-      go : (u v : Option ℕ) → slot_of slots x ≡ u → slot_of slots y ≡ v → hit_slots after u v ≡ (not (is_same (x, y) (a, b)) && hit_slots words u v)
+      go : (u v : Option ℕ) → slot_of slots x ≡ u → slot_of slots y ≡ v
+          → hit_slots after u v ≡ (not (is_same (x, y) (a, b)) && hit_slots words u v)
       go None v ex ey = sym (and_off (not (is_same (x, y) (a, b))))
       go (Some u) None ex ey = sym (and_off (not (is_same (x, y) (a, b))))
       go (Some u) (Some v) ex ey = f (place_of u v) ∙ ap (λ (c : Bool). not c && has_bit words (place_of u v)) (is_it x y u v ex ey l m)

@@ -1,11 +1,14 @@
 -- Rising lists of pairs: the place of a pair, and what putting and taking away leave.
-use Rattle.std.proofs.Common.{◌≡◌, ℕ, zero, suc, ◌<◌, ◌≤◌, min, max, Bool, true, false, cond, ◌||◌, eqb, ltb, List, [], ◌∷◌, length, get_or, Some, ◌⊎◌, inl, inr, refl, sym, ap, subst, ◌∙◌, arith, eq-eqb}
+use Rattle.std.proofs.Common.{◌≡◌, ℕ, zero, suc, ◌<◌, ◌≤◌, min, max, Bool, true, false, cond, ◌||◌, eqb, ltb, List, [], ◌∷◌, length}
+use Rattle.std.proofs.Common.{get_or, Some, ◌⊎◌, inl, inr, refl, sym, ap, subst, ◌∙◌, arith, eq-eqb}
 use Rattle.std.specs.Prelude.{slice_get}
 use Rattle.std.specs.List.{insert, remove}
-use Rattle.std.proofs.lemmas.Bool.{false≢true, eqb-true, ltb-true, lt-ltb, ne_eqb, and_parts, and_from, cases_lt, cond-true, cond-false, cases_Bool, or_left}
+use Rattle.std.proofs.lemmas.Bool.{false≢true, eqb-true, ltb-true, lt-ltb, ne_eqb, and_parts, and_from, cases_lt, cond-true}
+use Rattle.std.proofs.lemmas.Bool.{cond-false, cases_Bool, or_left}
 use Rattle.std.proofs.lemmas.Option.{none-some}
 use Rattle.jvm_values.proofs.Options.{some_is}
-use Rattle.abs_cells.specs.PairLists.{pair_of, is_same, is_before, IsFirst, IsRising, has_pair, with_pair, without_pair, has, added, removed, place_in}
+use Rattle.abs_cells.specs.PairLists.{pair_of, is_same, is_before, IsFirst, IsRising, has_pair, with_pair, without_pair, has, added}
+use Rattle.abs_cells.specs.PairLists.{removed, place_in}
 
 pub has_swapped : (a b : ℕ) (pairs : List (ℕ × ℕ)) → has b a pairs ≡ has a b pairs
 has_swapped a b pairs =
@@ -54,7 +57,8 @@ same_is (a, b) (c, d) e =
     ap f (eqb-true a c h.0) ∙ ap g (eqb-true b d h.1)
 
 pub is_same_from : (p q : ℕ × ℕ) → p ≡ q → is_same p q ≡ true
-is_same_from p q e = and_from (eqb p.0 q.0) (eqb p.1 q.1) (eq-eqb p.0 q.0 (ap (λ (x : ℕ × ℕ). x.0) e)) (eq-eqb p.1 q.1 (ap (λ (x : ℕ × ℕ). x.1) e))
+is_same_from p q e = and_from (eqb p.0 q.0) (eqb p.1 q.1) (eq-eqb p.0 q.0 (ap (λ (x : ℕ × ℕ). x.0) e))
+    (eq-eqb p.1 q.1 (ap (λ (x : ℕ × ℕ). x.1) e))
 
 pub not_same : (p q : ℕ × ℕ) → (p ≡ q → ⊥) → is_same p q ≡ false
 not_same p q h = elim (cases_Bool (is_same p q)) [ inl e ↦ absurd (h (same_is p q e)) | inr e ↦ e ]
@@ -81,10 +85,22 @@ one : (p q : ℕ × ℕ) → p ≡ q → IsOne p q
 one p q e = record { is = e; same = is_same_from p q e; after = not_before q p (never_itself q p (sym e)) }
 
 less : (p q : ℕ × ℕ) → Before p q → IsLess p q
-less p q h = record { order = h; same = not_same p q (λ e. never_itself p q e h); before = is_before_from p q h; after = not_before q p (never_both p q h) }
+less p q h = record {
+  order = h;
+  same = not_same p q (λ e. never_itself p q e h);
+  before = is_before_from p q h;
+  after = not_before
+      q p (never_both p q h);
+}
 
 behind : (p q : ℕ × ℕ) → Before q p → IsMore p q
-behind p q h = record { order = h; same = not_same p q (λ e. never_itself q p (sym e) h); before = not_before p q (never_both q p h); after = is_before_from q p h }
+behind p q h = record {
+  order = h;
+  same = not_same p q (λ e. never_itself q p (sym e) h);
+  before = not_before p q
+      (never_both q p h);
+  after = is_before_from q p h;
+}
 
 pub standing : (p q : ℕ × ℕ) → IsOne p q ⊎ (IsLess p q ⊎ IsMore p q)
 standing (a, b) (c, d) = elim (cases_lt a c) [
@@ -138,7 +154,8 @@ put_again p (q ∷ rest) h = elim (standing p q) [
   | inl c ↦ cond-true (is_same p q) _ _ c.same
   | inr d ↦ elim d [
     | inl c ↦ absurd (never_itself p q (sym (stands_first p q rest c.after h)) c.order)
-    | inr c ↦ cond-false (is_same p q) _ _ c.same ∙ cond-false (is_before p q) _ _ c.before ∙ ap (λ (ys : List (ℕ × ℕ)). q ∷ ys) (put_again p rest (stands_rest p q rest c.after h))
+    | inr c ↦ cond-false (is_same p q) _ _ c.same ∙ cond-false (is_before p q) _ _ c.before
+        ∙ ap (λ (ys : List (ℕ × ℕ)). q ∷ ys) (put_again p rest (stands_rest p q rest c.after h))
   ]
 ]
 
@@ -147,7 +164,8 @@ put_new p [] h = refl
 put_new p (q ∷ rest) h = elim (standing p q) [
   | inl c ↦ absurd (h (stands_here p q rest c.after (sym c.is)))
   | inr d ↦ elim d [
-    | inl c ↦ cond-false (is_same p q) _ _ c.same ∙ cond-true (is_before p q) _ _ c.before ∙ ap (λ (i : ℕ). insert (q ∷ rest) i p) (sym (place_here p q rest c.after))
+    | inl c ↦ cond-false (is_same p q) _ _ c.same ∙ cond-true (is_before p q) _ _ c.before
+        ∙ ap (λ (i : ℕ). insert (q ∷ rest) i p) (sym (place_here p q rest c.after))
     | inr c ↦
         cond-false (is_same p q) _ _ c.same ∙ cond-false (is_before p q) _ _ c.before
         ∙ ap (λ (ys : List (ℕ × ℕ)). q ∷ ys) (put_new p rest (λ s. h (stands_later p q rest c.after s)))
@@ -160,8 +178,10 @@ first_with q p [] h e = e
 first_with q p (r ∷ rest) h e = elim (standing p r) [
   | inl c ↦ subst (λ (ys : List (ℕ × ℕ)). IsFirst q ys) (sym (cond-true (is_same p r) _ _ c.same)) h
   | inr d ↦ elim d [
-    | inl c ↦ subst (λ (ys : List (ℕ × ℕ)). IsFirst q ys) (sym (cond-false (is_same p r) _ _ c.same ∙ cond-true (is_before p r) _ _ c.before)) e
-    | inr c ↦ subst (λ (ys : List (ℕ × ℕ)). IsFirst q ys) (sym (cond-false (is_same p r) _ _ c.same ∙ cond-false (is_before p r) _ _ c.before)) h
+    | inl c ↦ subst (λ (ys : List (ℕ × ℕ)). IsFirst q ys)
+        (sym (cond-false (is_same p r) _ _ c.same ∙ cond-true (is_before p r) _ _ c.before)) e
+    | inr c ↦ subst (λ (ys : List (ℕ × ℕ)). IsFirst q ys)
+        (sym (cond-false (is_same p r) _ _ c.same ∙ cond-false (is_before p r) _ _ c.before)) h
   ]
 ]
 
@@ -171,7 +191,8 @@ rising_with p (q ∷ rest) l h = elim (standing p q) [
   | inl c ↦ subst IsRising (sym (cond-true (is_same p q) _ _ c.same)) h
   | inr d ↦ elim d [
     | inl c ↦ subst IsRising (sym (cond-false (is_same p q) _ _ c.same ∙ cond-true (is_before p q) _ _ c.before)) (l, (c.before, h))
-    | inr c ↦ subst IsRising (sym (cond-false (is_same p q) _ _ c.same ∙ cond-false (is_before p q) _ _ c.before)) (h.0, (first_with q p rest h.1.0 c.after, rising_with p rest l h.1.1))
+    | inr c ↦ subst IsRising (sym (cond-false (is_same p q) _ _ c.same ∙ cond-false (is_before p q) _ _ c.before))
+        (h.0, (first_with q p rest h.1.0 c.after, rising_with p rest l h.1.1))
   ]
 ]
 
@@ -194,7 +215,8 @@ found p [] r h = absurd (false≢true h)
 found p (q ∷ rest) r h = elim (standing p q) [
   | inl c ↦ stands_here p q rest c.after (sym c.is)
   | inr d ↦ elim d [
-    | inl c ↦ absurd (never_both p q c.order (behind_first q p rest r.1.0 r.1.1 (sym (or_rest (is_same p q) (has_pair p rest) c.same) ∙ h)))
+    | inl c ↦ absurd (never_both p q c.order
+        (behind_first q p rest r.1.0 r.1.1 (sym (or_rest (is_same p q) (has_pair p rest) c.same) ∙ h)))
     | inr c ↦ stands_later p q rest c.after (found p rest r.1.1 (sym (or_rest (is_same p q) (has_pair p rest) c.same) ∙ h))
   ]
 ]
@@ -209,7 +231,8 @@ has_from p (q ∷ rest) h = elim (standing p q) [
   ]
 ]
 
-pub has_is : (p : ℕ × ℕ) (xs : List (ℕ × ℕ)) (result : Bool) → IsRising xs → (result ≡ true → Stands p xs) → (Stands p xs → result ≡ true) → result ≡ has_pair p xs
+pub has_is : (p : ℕ × ℕ) (xs : List (ℕ × ℕ)) (result : Bool) → IsRising xs → (result ≡ true → Stands p xs)
+    → (Stands p xs → result ≡ true) → result ≡ has_pair p xs
 has_is p xs true r h k = sym (has_from p xs (h refl))
 has_is p xs false r h k = elim (cases_Bool (has_pair p xs)) [ inl e ↦ absurd (false≢true (k (found p xs r e))) | inr e ↦ sym e ]
 
@@ -231,7 +254,8 @@ pub without_none : (p : ℕ × ℕ) (xs : List (ℕ × ℕ)) → has_pair p xs �
 without_none p [] h = refl
 without_none p (q ∷ rest) h = elim (cases_Bool (is_same p q)) [
   | inl s ↦ absurd (false≢true (sym h ∙ or_left (is_same p q) (has_pair p rest) s))
-  | inr s ↦ cond-false (is_same p q) _ _ s ∙ ap (λ (ys : List (ℕ × ℕ)). q ∷ ys) (without_none p rest (sym (or_rest (is_same p q) (has_pair p rest) s) ∙ h))
+  | inr s ↦ cond-false (is_same p q) _ _ s
+      ∙ ap (λ (ys : List (ℕ × ℕ)). q ∷ ys) (without_none p rest (sym (or_rest (is_same p q) (has_pair p rest) s) ∙ h))
 ]
 
 pub take_none : (p : ℕ × ℕ) (xs : List (ℕ × ℕ)) → IsRising xs → (Stands p xs → ⊥) → without_pair p xs ≡ xs
@@ -266,14 +290,16 @@ later_too q p (x ∷ rest) f l = elim (cases_Bool (is_before x p)) [
 ]
 
 -- the place lies behind a pair that stands before the sought one, and not behind another
-pub place_behind : (p : ℕ × ℕ) (xs : List (ℕ × ℕ)) (i : ℕ) (d : ℕ × ℕ) → IsRising xs → i < length xs → is_before (get_or xs i d) p ≡ true → i < place_in p xs
+pub place_behind : (p : ℕ × ℕ) (xs : List (ℕ × ℕ)) (i : ℕ) (d : ℕ × ℕ) → IsRising xs → i < length xs
+    → is_before (get_or xs i d) p ≡ true → i < place_in p xs
 place_behind p [] i d r l b = absurd (omega (arith, l))
 place_behind p (q ∷ rest) zero d r l b = omega (arith, place_later p q rest b)
 place_behind p (q ∷ rest) (suc i) d r l b =
     let h = place_behind p rest i d r.1.1 (omega (arith, l)) b in
     omega (arith, h, place_later p q rest (later_too q p rest r.1.0 (omega (arith, h))))
 
-pub place_before : (p : ℕ × ℕ) (xs : List (ℕ × ℕ)) (i : ℕ) (d : ℕ × ℕ) → i < length xs → is_before (get_or xs i d) p ≡ false → place_in p xs ≤ i
+pub place_before : (p : ℕ × ℕ) (xs : List (ℕ × ℕ)) (i : ℕ) (d : ℕ × ℕ) → i < length xs → is_before (get_or xs i d) p ≡ false
+    → place_in p xs ≤ i
 place_before p [] i d l b = absurd (omega (arith, l))
 place_before p (q ∷ rest) zero d l b = omega (arith, place_here p q rest b)
 place_before p (q ∷ rest) (suc i) d l b = elim (cases_Bool (is_before q p)) [
@@ -306,7 +332,8 @@ pub record IsLooked (a b : ℕ) (xs first second : List (ℕ × ℕ)) (low high 
   pub there_to : there ≡ true → slice_get second place ≡ Some (low, high)
   pub there_from : slice_get second place ≡ Some (low, high) → there ≡ true
 
-module _ (a b : ℕ) (xs first second : List (ℕ × ℕ)) (low high place : ℕ) (there : Bool) (h : IsLooked a b xs first second low high place there) where
+module _ (a b : ℕ) (xs first second : List (ℕ × ℕ)) (low high place : ℕ) (there : Bool)
+    (h : IsLooked a b xs first second low high place there) where
   pair_is : (low, high) ≡ pair_of a b
   pair_is =
       let left : ℕ → ℕ × ℕ = λ x. (x, high) in
@@ -317,20 +344,25 @@ module _ (a b : ℕ) (xs first second : List (ℕ × ℕ)) (low high place : ℕ
   place_ok = h.place_is ∙ ap (λ (p : ℕ × ℕ). place_in p first) pair_is ∙ ap (place_in (pair_of a b)) h.first_is
 
   stands : there ≡ true → Stands (pair_of a b) xs
-  stands t = ap (slice_get xs) (sym place_ok) ∙ ap (λ (ys : List (ℕ × ℕ)). slice_get ys place) (sym h.second_is) ∙ h.there_to t ∙ ap Some pair_is
+  stands t = ap (slice_get xs) (sym place_ok) ∙ ap (λ (ys : List (ℕ × ℕ)). slice_get ys place) (sym h.second_is) ∙ h.there_to t
+      ∙ ap Some pair_is
 
   stands_back : Stands (pair_of a b) xs → there ≡ true
-  stands_back s = h.there_from (ap (λ (ys : List (ℕ × ℕ)). slice_get ys place) h.second_is ∙ ap (slice_get xs) place_ok ∙ s ∙ ap Some (sym pair_is))
+  stands_back s = h.there_from (ap (λ (ys : List (ℕ × ℕ)). slice_get ys place) h.second_is ∙ ap (slice_get xs) place_ok ∙ s
+      ∙ ap Some (sym pair_is))
 
   pub within : place ≤ length xs
   within = omega (arith, place_ok, place_within (pair_of a b) xs)
 
   pub after_insert : (after : List (ℕ × ℕ)) → there ≡ false → after ≡ insert xs place (low, high) → after ≡ added a b xs
   after_insert after f e =
-      e ∙ ap (λ (i : ℕ). insert xs i (low, high)) place_ok ∙ ap (insert xs (place_in (pair_of a b) xs)) pair_is ∙ sym (put_new (pair_of a b) xs (λ s. false≢true (sym f ∙ stands_back s)))
+      e ∙ ap (λ (i : ℕ). insert xs i (low, high)) place_ok ∙ ap (insert xs (place_in (pair_of a b) xs)) pair_is
+      ∙ sym (put_new (pair_of a b) xs (λ s. false≢true (sym f ∙ stands_back s)))
 
-  pub inserted_rises : (after : List (ℕ × ℕ)) → there ≡ false → (a ≡ b → ⊥) → (a < 2048) × (b < 2048) → IsRising xs → after ≡ insert xs place (low, high) → IsRising after
-  inserted_rises after f d low r e = subst IsRising (sym (after_insert after f e)) (rising_with (pair_of a b) xs (lower_first a b d, omega (arith, low.0, low.1)) r)
+  pub inserted_rises : (after : List (ℕ × ℕ)) → there ≡ false → (a ≡ b → ⊥) → (a < 2048) × (b < 2048) → IsRising xs
+      → after ≡ insert xs place (low, high) → IsRising after
+  inserted_rises after f d low r e = subst IsRising (sym (after_insert after f e))
+      (rising_with (pair_of a b) xs (lower_first a b d, omega (arith, low.0, low.1)) r)
 
   pub there_again : there ≡ true → added a b xs ≡ xs
   there_again t = put_again (pair_of a b) xs (stands t)

@@ -29,26 +29,31 @@ first_kept : (a b : Option (Option Pattern)) → IsKept a b → (u v : Option Pa
 first_kept None b h u v k x e = absurd (none-some x e)
 first_kept (Some r) b h u v k x e = ap (λ (y : Option (Option Pattern)). with_first y v) (h r refl) ∙ rest_kept r u v k x e
 
-patterns_kept : (f g : ℕ → Option (Option Pattern)) → ((id : ℕ) → IsKept (f id) (g id)) → (ids : List ℕ) → IsKept (patterns_by f ids) (patterns_by g ids)
+patterns_kept : (f g : ℕ → Option (Option Pattern)) → ((id : ℕ) → IsKept (f id) (g id)) → (ids : List ℕ)
+    → IsKept (patterns_by f ids) (patterns_by g ids)
 patterns_kept f g h [] x e = e
 patterns_kept f g h (id ∷ ids) x e = first_kept (f id) (g id) (h id) (patterns_by f ids) (patterns_by g ids) (patterns_kept f g h ids) x e
 
-cell_kept : (f g : ℕ → Option (Option Pattern)) → ((id : ℕ) → IsKept (f id) (g id)) → (id : ℕ) (cell : Cell) → IsKept (pattern_of_cell f id cell) (pattern_of_cell g id cell)
+cell_kept : (f g : ℕ → Option (Option Pattern)) → ((id : ℕ) → IsKept (f id) (g id)) → (id : ℕ) (cell : Cell)
+    → IsKept (pattern_of_cell f id cell) (pattern_of_cell g id cell)
 cell_kept f g h id (Int interval) x e = e
 cell_kept f g h id Null x e = e
-cell_kept f g h id (Obj class ids) x e = map_kept (λ (children : Patterns). Some (node class children)) (patterns_by f ids) (patterns_by g ids) (patterns_kept f g h ids) x e
+cell_kept f g h id (Obj class ids) x e = map_kept (λ (children : Patterns). Some (node class children)) (patterns_by f ids)
+    (patterns_by g ids) (patterns_kept f g h ids) x e
 cell_kept f g h id (Nums kind len) x e = e
 cell_kept f g h id (Refs element len shape) x e = e
 cell_kept f g h id (Unk bound nullable shape) x e = e
 
-chain_kept : (f g : ℕ → Option (Option Pattern)) → ((id : ℕ) → IsKept (f id) (g id)) → (id : ℕ) (c : Option Cell) → IsKept (option_and_then (pattern_of_cell f id) c) (option_and_then (pattern_of_cell g id) c)
+chain_kept : (f g : ℕ → Option (Option Pattern)) → ((id : ℕ) → IsKept (f id) (g id)) → (id : ℕ) (c : Option Cell)
+    → IsKept (option_and_then (pattern_of_cell f id) c) (option_and_then (pattern_of_cell g id) c)
 chain_kept f g h id None x e = absurd (none-some x e)
 chain_kept f g h id (Some cell) x e = cell_kept f g h id cell x e
 
 within_kept : (d e : ℕ) (state : AbstractState) → d ≤ e → (id : ℕ) → IsKept (pattern_within d state id) (pattern_within e state id)
 within_kept zero e state l id x h = absurd (none-some x h)
 within_kept (suc d) zero state l id x h = absurd (omega (arith, l))
-within_kept (suc d) (suc e) state l id x h = chain_kept (pattern_within d state) (pattern_within e state) (within_kept d e state (omega (arith, l))) id (cell_at state id) x h
+within_kept (suc d) (suc e) state l id x h = chain_kept (pattern_within d state) (pattern_within e state)
+    (within_kept d e state (omega (arith, l))) id (cell_at state id) x h
 
 pub one_pattern : PatternsAreOne
 one_pattern state id p q h k = elim (cases_lt h.depth k.depth) [

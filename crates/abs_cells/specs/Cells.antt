@@ -125,7 +125,8 @@ is_comparable sub a b = sub a b || sub b a
 abbrev pub are_compatible_types : (Ty → Ty → Bool) → Bool → Bool → Option Ty → Option Ty → Bool
 are_compatible_types sub c_known d_known None d = false
 are_compatible_types sub c_known d_known (Some a) None = false
-are_compatible_types sub c_known d_known (Some a) (Some b) = is_comparable sub a b && ((not c_known || sub a b) && (not d_known || sub b a))
+are_compatible_types sub c_known d_known (Some a) (Some b) = is_comparable sub a b
+    && ((not c_known || sub a b) && (not d_known || sub b a))
 
 abbrev pub are_compatible : (Ty → Ty → Bool) → Cell → Cell → Bool
 are_compatible sub c d = are_compatible_types sub (is_known c) (is_known d) (type_of_cell c) (type_of_cell d)

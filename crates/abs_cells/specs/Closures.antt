@@ -54,5 +54,6 @@ pub record IsFiniteId (state : AbstractState) (x : ℕ) : Type 0 where
 -- known cells reach each id there by one path, each hazy id there has a tree as its region, and no two ids there share
 pub record IsTreeId (state : AbstractState) (x : ℕ) : Type 0 where
   pub one_path : IsTreeFrom (counted_steps state) x
-  pub hazy : (q : ℕ) (cell : Cell) (shape : Shape) → KnownFrom state x q → cell_at state q ≡ Some cell → shape_of cell ≡ Some shape → shape ≡ Tree
+  pub hazy : (q : ℕ) (cell : Cell) (shape : Shape) → KnownFrom state x q → cell_at state q ≡ Some cell → shape_of cell ≡ Some shape
+      → shape ≡ Tree
   pub apart : (p q : ℕ) → KnownFrom state x p → KnownFrom state x q → p ≢ q → Share state p q → ⊥

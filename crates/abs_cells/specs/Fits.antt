@@ -77,7 +77,8 @@ Describes types heap meaning Null value = value ≡ values.Null
 Describes types heap meaning (Obj class ids) value = IsObject heap value (λ object. object ≡ objects.Instance class (map meaning ids))
 Describes types heap meaning (Nums kind len) value = IsObject heap value (IsArrayOfNumbers meaning kind len)
 Describes types heap meaning (Refs element len shape) value = IsObject heap value (IsArrayBelow types meaning element len)
-Describes types heap meaning (Unk bound nullable shape) value = ((nullable ≡ true) × (value ≡ values.Null)) ⊎ IsObject heap value (λ object. IsTrue (types.sub (type_of object) bound))
+Describes types heap meaning (Unk bound nullable shape) value = ((nullable ≡ true) × (value ≡ values.Null))
+    ⊎ IsObject heap value (λ object. IsTrue (types.sub (type_of object) bound))
 
 -- ---- the whole
 
@@ -89,12 +90,16 @@ pub record Fits (types : WorldTypes) (state : AbstractState) (machine : MachineS
   -- each cell describes its value
   pub cells : (id : ℕ) (cell : Cell) → cell_at state id ≡ Some cell → Describes types machine.heap meaning cell (meaning id)
   -- two ids with one object are a pair
-  pub aliases : (a b o : ℕ) → HasCell (λ _. true) state a → HasCell (λ _. true) state b → a ≢ b → target (meaning a) ≡ Some o → target (meaning b) ≡ Some o → AreEqual state a b
+  pub aliases : (a b o : ℕ) → HasCell (λ _. true) state a → HasCell (λ _. true) state b → a ≢ b → target (meaning a) ≡ Some o
+      → target (meaning b) ≡ Some o → AreEqual state a b
   -- two hazy ids whose regions meet share, and so do a known id and a hazy one in whose region its object lies
-  pub meeting : (a b o : ℕ) → HasCell is_hazy state a → HasCell is_hazy state b → a ≢ b → Region machine.heap (meaning a) o → Region machine.heap (meaning b) o → Share state a b
-  pub inside : (k b o : ℕ) → HasCell is_known state k → HasCell is_hazy state b → target (meaning k) ≡ Some o → Region machine.heap (meaning b) o → Share state k b
+  pub meeting : (a b o : ℕ) → HasCell is_hazy state a → HasCell is_hazy state b → a ≢ b → Region machine.heap (meaning a) o
+      → Region machine.heap (meaning b) o → Share state a b
+  pub inside : (k b o : ℕ) → HasCell is_known state k → HasCell is_hazy state b → target (meaning k) ≡ Some o
+      → Region machine.heap (meaning b) o → Share state k b
   -- each hazy id's shape holds of its region
-  pub shapes : (id : ℕ) (cell : Cell) (shape : Shape) → cell_at state id ≡ Some cell → shape_of cell ≡ Some shape → HasShape shape machine.heap (meaning id)
+  pub shapes : (id : ℕ) (cell : Cell) (shape : Shape) → cell_at state id ≡ Some cell → shape_of cell ≡ Some shape
+      → HasShape shape machine.heap (meaning id)
 
 -- no reference that an object holds, or that an id stands for, leads past the heap's end
 pub record IsClosedState (machine : MachineState) (state : AbstractState) (meaning : Meaning) : Type 0 where

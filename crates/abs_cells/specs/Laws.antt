@@ -20,7 +20,8 @@ abbrev pub KnownIdsAreApart : Type 0
 KnownIdsAreApart =
     (types : WorldTypes) (state : AbstractState) (machine : MachineState) (meaning : Meaning)
     → IsWellFormed state → Fits types state machine meaning
-    → (a b o : ℕ) → HasCell is_known state a → HasCell is_known state b → a ≢ b → target (meaning a) ≡ Some o → target (meaning b) ≡ Some o → ⊥
+    → (a b o : ℕ) → HasCell is_known state a → HasCell is_known state b → a ≢ b → target (meaning a) ≡ Some o
+    → target (meaning b) ≡ Some o → ⊥
 
 -- An id has one pattern.
 abbrev pub PatternsAreOne : Type 0

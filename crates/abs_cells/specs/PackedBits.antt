@@ -1,5 +1,6 @@
 -- Pairs of ids as bits: each id that was ever in a pair has a slot, and each slot a row of bits, one for each slot before it.
-use Rattle.std.specs.Prelude.{◌≡◌, ℕ, zero, suc, ◌+◌, ◌-◌, ◌*◌, ◌/◌, ◌<◌, ◌≤◌, min, max, Bool, true, false, if◌then◌else◌, List, [], ◌∷◌, ◌++◌, length, Option, Some, None, slice_get}
+use Rattle.std.specs.Prelude.{◌≡◌, ℕ, zero, suc, ◌+◌, ◌-◌, ◌*◌, ◌/◌, ◌<◌, ◌≤◌, min, max, Bool, true, false, if◌then◌else◌, List, []}
+use Rattle.std.specs.Prelude.{◌∷◌, ◌++◌, length, Option, Some, None, slice_get}
 use Rattle.std.specs.Option.{option_and_then}
 use Rattle.std.specs.Int.{bit_at}
 use Rattle.abs_cells.specs.PairLists.{has_pair}
@@ -106,5 +107,7 @@ pub record IsCleared (old now : List (ℕ × ℕ)) (a b : ℕ) : Type 0 where
 
 -- the pairs went that have an id below `a` which is not in the set, and no others
 pub record IsKeptTo (ids : List ℕ) (old now : List (ℕ × ℕ)) (a : ℕ) : Type 0 where
-  pub gone : (p : ℕ × ℕ) → p.0 < p.1 → has_pair p now ≡ true → (has_pair p old ≡ true) × ((p.0 < a → has_id ids p.0 ≡ true) × (p.1 < a → has_id ids p.1 ≡ true))
-  pub kept : (p : ℕ × ℕ) → p.0 < p.1 → has_pair p old ≡ true → (p.0 < a → has_id ids p.0 ≡ true) → (p.1 < a → has_id ids p.1 ≡ true) → has_pair p now ≡ true
+  pub gone : (p : ℕ × ℕ) → p.0 < p.1 → has_pair p now ≡ true
+      → (has_pair p old ≡ true) × ((p.0 < a → has_id ids p.0 ≡ true) × (p.1 < a → has_id ids p.1 ≡ true))
+  pub kept : (p : ℕ × ℕ) → p.0 < p.1 → has_pair p old ≡ true → (p.0 < a → has_id ids p.0 ≡ true) → (p.1 < a → has_id ids p.1 ≡ true)
+      → has_pair p now ≡ true

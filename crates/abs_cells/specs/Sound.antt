@@ -1,5 +1,6 @@
 -- Well-formed abstract states, and those that are sound for the types of a world.
-use Rattle.std.specs.Prelude.{◌≡◌, ◌≢◌, ℕ, suc, ◌<◌, ◌≤◌, Bool, true, false, not, ◌&&◌, List, [], ◌∷◌, ◌++◌, All, IsTrue, Option, Some, None}
+use Rattle.std.specs.Prelude.{◌≡◌, ◌≢◌, ℕ, suc, ◌<◌, ◌≤◌, Bool, true, false, not, ◌&&◌, List, [], ◌∷◌, ◌++◌, All, IsTrue, Option}
+use Rattle.std.specs.Prelude.{Some, None}
 use Rattle.std.specs.List.{AllZip, flat_map}
 use Rattle.jvm_values.specs.declared.types.Slot.{Slot}
 use Rattle.jvm_values.specs.declared.types.Slot.TheVariants as slots
@@ -32,7 +33,8 @@ ids_used state = flat_map ids_of_frame state.frames ++ (given_ids (state.throwin
 
 -- two ids may be a pair: both are references, and not both are known
 abbrev pub may_join : List (ℕ × Cell) → ℕ → ℕ → Bool
-may_join cells a b = (is_of_sort is_reference (cell_in cells a) && is_of_sort is_reference (cell_in cells b)) && not (is_of_sort is_known (cell_in cells a) && is_of_sort is_known (cell_in cells b))
+may_join cells a b = (is_of_sort is_reference (cell_in cells a) && is_of_sort is_reference (cell_in cells b)) && not
+    (is_of_sort is_known (cell_in cells a) && is_of_sort is_known (cell_in cells b))
 
 abbrev pub MayAllJoin : List (ℕ × Cell) → List (ℕ × ℕ) → Type 0
 MayAllJoin cells pairs = (a b : ℕ) → a < b → has a b pairs ≡ true → may_join cells a b ≡ true
@@ -57,9 +59,12 @@ IsOfSlot state (slots.Ref t) id = HasCell (λ cell. not (is_int cell)) state id
 abbrev pub IsSoundCell : WorldTypes → AbstractState → Cell → Type 0
 IsSoundCell types state (Int interval) = IsOfKind kinds.Int interval.lo × IsOfKind kinds.Int interval.hi
 IsSoundCell types state Null = Unit {0}
-IsSoundCell types state (Obj class ids) = (class < types.classes) × (IsTrue (types.can_be_made class) × AllZip (IsOfSlot state) (types.fields class) ids)
+IsSoundCell types state (Obj class ids) = (class < types.classes)
+    × (IsTrue (types.can_be_made class) × AllZip (IsOfSlot state) (types.fields class) ids)
 IsSoundCell types state (Nums kind len) = HasCell is_int state len
-IsSoundCell types state (Refs element len shape) = HasCell is_int state len × ((IsReference types.classes element × IsErased types.erase element) × (IsReference types.classes (array_of element) × IsErased types.erase (array_of element)))
+IsSoundCell types state (Refs element len shape) = HasCell is_int state len
+    × ((IsReference types.classes element × IsErased types.erase element)
+    × (IsReference types.classes (array_of element) × IsErased types.erase (array_of element)))
 IsSoundCell types state (Unk bound nullable shape) = IsReference types.classes bound × IsErased types.erase bound
 
 -- a cell of an object, which is not null

@@ -23,7 +23,7 @@ pub use ids::{Id, Ids};
 pub use laws::{fitting_frames_agree, known_ids_are_apart, patterns_are_one};
 pub use limits::MOST_IDS;
 pub use packed::PackedPairs;
-pub use pairs::{ListPairs, Pairs};
+pub use pairs::{ListPairs, Pairs, is_pair};
 pub use replays::{PairCall, replay};
 pub use sets::IdSet;
 pub use states::{AbsFrame, AbsState, StateParts};

@@ -1,9 +1,12 @@
 //! Pairs of ids held as packed bits.
-ghost use Rattle.std.specs.Prelude.{◌≡◌, ◌≢◌, ℕ, suc, ◌+◌, ◌*◌, ◌/◌, ◌<◌, ◌≤◌, ◌==◌, ◌||◌, ◌&&◌, ◌⊎◌, not, true, false, IsTrue, ◌↔◌, length, List, Some, None, slice_get, if◌then◌else◌, IfSome, IfNone, ◌++◌, ◌∷◌, [], IfOk, IfErr, OnOk, OnErr};
+ghost use Rattle.std.specs.Prelude.{◌≡◌, ◌≢◌, ℕ, suc, ◌+◌, ◌*◌, ◌/◌, ◌<◌, ◌≤◌, ◌==◌, ◌||◌, ◌&&◌, ◌⊎◌, not, true, false, IsTrue, ◌↔◌};
+ghost use Rattle.std.specs.Prelude.{length, List, Some, None, slice_get, if◌then◌else◌, IfSome, IfNone, ◌++◌, ◌∷◌, [], IfOk, IfErr};
+ghost use Rattle.std.specs.Prelude.{OnOk, OnErr};
 ghost use Rattle.std.specs.Int.{bit_at};
 ghost use Rattle.abs_cells.specs.PairLists.{added, removed, AreAmong};
 ghost use Rattle.abs_cells.specs.IdSets.{has_bit, has_id, are_touched, kept};
-ghost use Rattle.abs_cells.specs.PackedBits.{slot_of, slots_in, row_start, place_of, hit, whole_row, pairs_in, ArePacked, IsGrown, RowMeets, SideMeets, HasSlot, AreBothSet, IsRowAmong, IsCleared};
+ghost use Rattle.abs_cells.specs.PackedBits.{slot_of, slots_in, row_start, place_of, hit, whole_row, pairs_in, ArePacked, IsGrown};
+ghost use Rattle.abs_cells.specs.PackedBits.{RowMeets, SideMeets, HasSlot, AreBothSet, IsRowAmong, IsCleared};
 
 use crate::ids::Id;
 use crate::pairs::Pairs;
@@ -320,8 +323,10 @@ fn add_pair(packed: &mut Packed, a: Id, b: Id) -> Result<(), AllocError>
     requires differ { a ≢ b }
     requires low { (a < 2048) × (b < 2048) }
     ensures packed { ArePacked packed.new.slots.items packed.new.count packed.new.words.items }
-    ensures ok { OnOk result (pairs_in packed.new.slots.items packed.new.words.items ≡ added a b (pairs_in packed.old.slots.items packed.old.words.items)) }
-    ensures err { OnErr result (pairs_in packed.new.slots.items packed.new.words.items ≡ pairs_in packed.old.slots.items packed.old.words.items) }
+    ensures ok { OnOk result
+        (pairs_in packed.new.slots.items packed.new.words.items ≡ added a b (pairs_in packed.old.slots.items packed.old.words.items)) }
+    ensures err { OnErr result (pairs_in packed.new.slots.items packed.new.words.items ≡ pairs_in packed.old.slots.items
+        packed.old.words.items) }
 {
     let s = list_id(packed, a)?;
     let t = list_id(packed, b)?;
@@ -334,7 +339,8 @@ fn remove_pair(packed: &mut Packed, a: Id, b: Id)
     requires packed { ArePacked packed.old.slots.items packed.old.count packed.old.words.items }
     requires differ { a ≢ b }
     ensures packed { ArePacked packed.new.slots.items packed.new.count packed.new.words.items }
-    ensures pairs { pairs_in packed.new.slots.items packed.new.words.items ≡ removed a b (pairs_in packed.old.slots.items packed.old.words.items) }
+    ensures pairs { pairs_in packed.new.slots.items packed.new.words.items ≡ removed a b
+        (pairs_in packed.old.slots.items packed.old.words.items) }
 {
     if let Some(s) = slot_of(&packed.slots, a) {
         if let Some(t) = slot_of(&packed.slots, b) {
@@ -347,7 +353,8 @@ fn remove_pair(packed: &mut Packed, a: Id, b: Id)
 fn clear_row(packed: &mut Packed, a: Id)
     requires { ArePacked packed.old.slots.items packed.old.count packed.old.words.items }
     ensures packed { ArePacked packed.new.slots.items packed.new.count packed.new.words.items }
-    ensures pairs { IsCleared (pairs_in packed.old.slots.items packed.old.words.items) (pairs_in packed.new.slots.items packed.new.words.items) a 2048 }
+    ensures pairs { IsCleared (pairs_in packed.old.slots.items packed.old.words.items)
+        (pairs_in packed.new.slots.items packed.new.words.items) a 2048 }
 {
     for b in 0..2048u16 {
         if b != a {
@@ -368,7 +375,8 @@ fn is_lost(packed: &Packed, ids: &IdSet, a: Id) -> bool
 fn keep_pairs(packed: &mut Packed, ids: &IdSet)
     requires { ArePacked packed.old.slots.items packed.old.count packed.old.words.items }
     ensures packed { ArePacked packed.new.slots.items packed.new.count packed.new.words.items }
-    ensures pairs { pairs_in packed.new.slots.items packed.new.words.items ≡ kept ids.now (pairs_in packed.old.slots.items packed.old.words.items) }
+    ensures pairs { pairs_in packed.new.slots.items packed.new.words.items ≡ kept ids.now
+        (pairs_in packed.old.slots.items packed.old.words.items) }
 {
     for a in 0..2048u16 {
         if is_lost(packed, ids, a) {
@@ -402,7 +410,8 @@ fn row_among(some: &Packed, others: &Packed, a: Id) -> bool
     requires some { ArePacked some.now.slots.items some.now.count some.now.words.items }
     requires others { ArePacked others.now.slots.items others.now.count others.now.words.items }
     requires low { a < length some.now.slots.items }
-    ensures { IsTrue result ↔ IsRowAmong (hit some.now.slots.items some.now.words.items) (hit others.now.slots.items others.now.words.items) a }
+    ensures { IsTrue result ↔ IsRowAmong (hit some.now.slots.items some.now.words.items)
+        (hit others.now.slots.items others.now.words.items) a }
 {
     if slot_of(&some.slots, a).is_none() {
         return true;
@@ -420,7 +429,8 @@ fn row_among(some: &Packed, others: &Packed, a: Id) -> bool
 fn all_among(some: &Packed, others: &Packed) -> bool
     requires some { ArePacked some.now.slots.items some.now.count some.now.words.items }
     requires others { ArePacked others.now.slots.items others.now.count others.now.words.items }
-    ensures { IsTrue result ↔ AreAmong (pairs_in some.now.slots.items some.now.words.items) (pairs_in others.now.slots.items others.now.words.items) }
+    ensures { IsTrue result ↔ AreAmong (pairs_in some.now.slots.items some.now.words.items)
+        (pairs_in others.now.slots.items others.now.words.items) }
 {
     let end = some.slots.len() as u16;
     for a in 0..end {
@@ -459,6 +469,8 @@ impl Pairs for PackedPairs {
     fn nth(&self, n: usize) -> Option<(Id, Id)> {
         nth_pair(&self.packed, n)
     }
+
+    fn rise(&self) {}
 
     fn list(&self, alloc: Global) -> Result<Vec<(Id, Id)>, AllocError> {
         list_pairs(&self.packed, alloc)

@@ -44,6 +44,10 @@ pub trait Pairs: Drop {
         ensures value { result ≡ slice_get (pairs self.now) n }
         ensures rising { IsRising (pairs self.now) };
 
+    /// Does nothing: it says that the pairs rise, to whoever has to know it.
+    fn rise(&self)
+        ensures { IsRising (pairs self.now) };
+
     /// All pairs in rising order. The whole list costs about as much as `nth` at its last place.
     ///
     /// # Errors
@@ -201,6 +205,8 @@ impl Pairs for ListPairs {
         self.pairs.get(n).copied()
     }
 
+    fn rise(&self) {}
+
     fn list(&self, alloc: Global) -> Result<Vec<(Id, Id)>, AllocError> {
         Ok(Vec::from_slice(alloc, &self.pairs)?)
     }
@@ -222,4 +228,22 @@ impl Pairs for ListPairs {
     fn are_among(&self, others: &Self) -> bool {
         list_among(&self.pairs, &others.pairs)
     }
+}
+
+/// Whether two ids are a pair, whatever they are: no id is one with itself, and none of 2,048 or above is in a pair. It takes no
+/// memory.
+pub fn is_pair<P: Pairs>(pairs: &P, a: Id, b: Id) -> bool
+    ensures { result ≡ has a b (P.pairs pairs.now) }
+{
+    pairs.rise();
+    if a == b {
+        return false;
+    }
+    if a >= 2048 {
+        return false;
+    }
+    if b >= 2048 {
+        return false;
+    }
+    pairs.has(a, b)
 }

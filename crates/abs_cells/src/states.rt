@@ -191,7 +191,14 @@ impl<P: Pairs> AbsState<P> {
     /// The state without the cells of ids that are not in a set, and without their pairs. Frames and the thrown id stay as
     /// they are. It takes no memory.
     pub fn kept(self, ids: &IdSet) -> AbsState<P>
-        ensures { result ≡ record { frames = self.frames; throwing = self.throwing; cells = filter (λ c. has_id ids.now c.0) self.cells; eq = kept ids.now self.eq; share = kept ids.now self.share } }
+        ensures { result ≡ record {
+          frames = self.frames;
+          throwing = self.throwing;
+          cells = filter (λ c. has_id ids.now c.0)
+              self.cells;
+          eq = kept ids.now self.eq;
+          share = kept ids.now self.share;
+        } }
     {
         let StateParts {
             frames,

@@ -18,7 +18,8 @@ frame_same f g p i =
     ∙ ap (λ m. record { method = g.method; pc = g.pc; locals = m; stack = f.stack }) i.0
     ∙ ap (λ m. record g { stack = m }) i.1
 
-pub state_same : (s t : AbstractState) → (s.throwing ≡ t.throwing) × (s.frames ≡ t.frames) → (s.cells ≡ t.cells) × ((s.eq ≡ t.eq) × (s.share ≡ t.share)) → s ≡ t
+pub state_same : (s t : AbstractState) → (s.throwing ≡ t.throwing) × (s.frames ≡ t.frames)
+    → (s.cells ≡ t.cells) × ((s.eq ≡ t.eq) × (s.share ≡ t.share)) → s ≡ t
 state_same s t p w =
     ap (λ x. record s { throwing = x }) p.0
     ∙ ap (λ x. record { frames = x; throwing = t.throwing; cells = s.cells; eq = s.eq; share = s.share }) p.1

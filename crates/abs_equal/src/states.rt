@@ -9,8 +9,8 @@ use abs_cells::{AbsState, Pairs};
 fn are_same_pairs<P: Pairs>(a: &P, b: &P) -> bool
     ensures { IsTrue result ↔ (P.pairs a.now ≡ P.pairs b.now) }
 {
-    let _first = a.nth(0);
-    let _other = b.nth(0);
+    a.rise();
+    b.rise();
     a.are_among(b) && b.are_among(a)
 }
 

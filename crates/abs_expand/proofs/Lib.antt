@@ -1,6 +1,3 @@
-pub use Rattle.abs_turns.proofs.OptionLists
-pub use Rattle.abs_turns.proofs.ShortRows
-pub use Rattle.abs_turns.proofs.SwitchLists
 pub mod Acting
 pub mod CellLists
 pub mod Changing
@@ -8,8 +5,6 @@ pub mod ChildLists
 pub mod GoingTo
 pub mod HeapChildren
 pub mod IntPrograms
-pub mod IntStates
-pub mod IntTurns
 pub mod Placed
 pub mod SplitChildren
 pub mod SplitCounts

@@ -1,4 +1,4 @@
--- Programs whose instructions are about ints alone, and the states that they meet: what the expansion is built for so far.
+-- Programs whose instructions are about ints alone, and the states that they meet.
 use Rattle.std.specs.Prelude.{◌≡◌, ℕ, ◌&&◌, Bool, true, false, List, [], Some, None, slice_get}
 use Rattle.std.specs.List.{list_all}
 use Rattle.std.specs.Option.{option_map_or, is_none}

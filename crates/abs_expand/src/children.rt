@@ -152,8 +152,8 @@ fn lean<P: Pairs>(whole: AbsState<P>, marks: &mut Marks) -> AbsState<P>
     ensures { IsLeanState whole result }
 {
     let part = drop_unreached(whole, marks);
-    let _equal = part.eq().nth(0);
-    let _shared = part.share().nth(0);
+    part.eq().rise();
+    part.share().rise();
     part
 }
 

@@ -132,8 +132,8 @@ fn changed_state<P: Pairs>(
 {
     let equal = state.eq();
     let shared = state.share();
-    let _equal = equal.nth(0);
-    let _shared = shared.nth(0);
+    equal.rise();
+    shared.rise();
     let cells = changed_cells(alloc, state.cells(), changed)?;
     let ids = references(cells.as_slice());
     let eq = kept_pairs(alloc, equal, &ids)?;
@@ -169,8 +169,8 @@ fn with_one<P: Pairs>(
 {
     let equal = state.eq();
     let shared = state.share();
-    let _equal = equal.nth(0);
-    let _shared = shared.nth(0);
+    equal.rise();
+    shared.rise();
     let copy = copied_cells(alloc, state.cells())?;
     let cells = with_cell(copy, id, cell)?;
     let frames = copied_frames(alloc, state.frames())?;

@@ -1,5 +1,6 @@
 -- The ids that a write affects, and their new numbers.
-use Rattle.std.proofs.Common.{◌≡◌, ℕ, suc, ◌<◌, ◌≤◌, ◌+◌, ◌==◌, ◌&&◌, ◌||◌, Bool, true, false, List, [], ◌∷◌, ◌++◌, length, map, zip, take, get_or, Some, inl, inr, refl, sym, ap, subst, ◌∙◌, arith, All, eq-eqb}
+use Rattle.std.proofs.Common.{◌≡◌, ℕ, suc, ◌<◌, ◌≤◌, ◌+◌, ◌==◌, ◌&&◌, ◌||◌, Bool, true, false, List, [], ◌∷◌, ◌++◌, length, map}
+use Rattle.std.proofs.Common.{zip, take, get_or, Some, inl, inr, refl, sym, ap, subst, ◌∙◌, arith, All, eq-eqb}
 use Rattle.std.specs.Prelude.{◌↔◌, Contains}
 use Rattle.std.proofs.lemmas.Bool.{eqb-true, or_cases, or_left, or_right, and_parts, and_from, cond-true, cond-false, cases_Bool, cases_eq}
 use Rattle.std.proofs.lemmas.List.{take_more, take_all}
@@ -23,10 +24,12 @@ use Rattle.abs_heap.proofs.Renamed.{named_here, named_later}
 
 -- ---- which they are
 
-sort_on : (test : Cell → Bool) (n : ℕ) (one other : List (ℕ × Cell)) → one ≡ other → is_of_sort test (cell_in one n) ≡ is_of_sort test (cell_in other n)
+sort_on : (test : Cell → Bool) (n : ℕ) (one other : List (ℕ × Cell)) → one ≡ other
+    → is_of_sort test (cell_in one n) ≡ is_of_sort test (cell_in other n)
 sort_on test n one other e = ap (λ (cs : List (ℕ × Cell)). is_of_sort test (cell_in cs n)) e
 
-pub affected_is : (state : AbstractState) (k n : ℕ) (one other : List (ℕ × Cell)) (shares : List (ℕ × ℕ)) (partner hazy all array : Bool) → one ≡ state.cells → other ≡ state.cells → shares ≡ state.share
+pub affected_is : (state : AbstractState) (k n : ℕ) (one other : List (ℕ × Cell)) (shares : List (ℕ × ℕ))
+    (partner hazy all array : Bool) → one ≡ state.cells → other ≡ state.cells → shares ≡ state.share
     → partner ≡ has k n shares
     → hazy ≡ (partner && is_of_sort is_hazy (cell_in one n))
     → array ≡ is_of_sort is_array_of_references (cell_in other k)
@@ -34,12 +37,23 @@ pub affected_is : (state : AbstractState) (k n : ℕ) (one other : List (ℕ × 
     → (all ≡ true) ↔ IsAffected state k n
 affected_is state k n one other shares partner hazy all array eo ec es p h a e = (
   λ t. elim (or_cases (array && (n == k)) hazy (sym e ∙ t)) [
-    | inl u ↦ let q = and_parts array (n == k) u in inr (eqb-true n k q.1, has_cell_from is_array_of_references state k (sort_on is_array_of_references k state.cells other (sym ec) ∙ sym a ∙ q.0))
-    | inr u ↦ let q = and_parts partner (is_of_sort is_hazy (cell_in one n)) (sym h ∙ u) in inl (ap (has k n) (sym es) ∙ sym p ∙ q.0, has_cell_from is_hazy state n (sort_on is_hazy n state.cells one (sym eo) ∙ q.1))
+    | inl u ↦ let q = and_parts array (n == k) u in inr (
+      eqb-true n k q.1,
+      has_cell_from is_array_of_references state k (sort_on is_array_of_references k state.cells other (sym ec)
+          ∙ sym a ∙ q.0),
+    )
+    | inr u ↦ let q = and_parts partner (is_of_sort is_hazy (cell_in one n)) (sym h ∙ u) in inl (
+      ap (has k n) (sym es) ∙ sym p
+          ∙ q.0,
+      has_cell_from is_hazy state n (sort_on is_hazy n state.cells one (sym eo) ∙ q.1),
+    )
   ],
   λ t. e ∙ elim t [
-    | inl u ↦ or_right (array && (n == k)) hazy (h ∙ and_from partner _ (p ∙ ap (has k n) es ∙ u.0) (sort_on is_hazy n one state.cells eo ∙ has_cell_to is_hazy state n u.1))
-    | inr u ↦ or_left (array && (n == k)) hazy (and_from array (n == k) (a ∙ sort_on is_array_of_references k other state.cells ec ∙ has_cell_to is_array_of_references state k u.1) (eq-eqb n k u.0))
+    | inl u ↦ or_right (array && (n == k)) hazy
+        (h ∙ and_from partner _ (p ∙ ap (has k n) es ∙ u.0) (sort_on is_hazy n one state.cells eo ∙ has_cell_to is_hazy state n u.1))
+    | inr u ↦ or_left (array && (n == k)) hazy
+        (and_from array (n == k) (a ∙ sort_on is_array_of_references k other state.cells ec
+        ∙ has_cell_to is_array_of_references state k u.1) (eq-eqb n k u.0))
   ],
 )
 
@@ -49,7 +63,8 @@ affected_there state k x (inr h) = subst (λ (i : ℕ). HasCell (λ _. true) sta
 
 -- ---- in order
 
-yes_in : (set : List ℕ) (c : ℕ × Cell) (cells : List (ℕ × Cell)) → has_id set c.0 ≡ true → ids_among set (c ∷ cells) ≡ c.0 ∷ ids_among set cells
+yes_in : (set : List ℕ) (c : ℕ × Cell) (cells : List (ℕ × Cell)) → has_id set c.0 ≡ true
+    → ids_among set (c ∷ cells) ≡ c.0 ∷ ids_among set cells
 yes_in set c cells e = cond-true (has_id set c.0) (c.0 ∷ ids_among set cells) (ids_among set cells) e
 
 not_in : (set : List ℕ) (c : ℕ × Cell) (cells : List (ℕ × Cell)) → has_id set c.0 ≡ false → ids_among set (c ∷ cells) ≡ ids_among set cells
@@ -58,21 +73,27 @@ not_in set c cells e = cond-false (has_id set c.0) (c.0 ∷ ids_among set cells)
 among_joined : (set : List ℕ) (xs : List (ℕ × Cell)) (c : ℕ × Cell) → ids_among set (xs ++ c ∷ []) ≡ ids_among set xs ++ if_in set c.0
 among_joined set [] c = refl
 among_joined set (x ∷ xs) c = elim (cases_Bool (has_id set x.0)) [
-  | inl e ↦ yes_in set x (xs ++ c ∷ []) e ∙ ap (λ (ys : List ℕ). x.0 ∷ ys) (among_joined set xs c) ∙ ap (λ (ys : List ℕ). ys ++ if_in set c.0) (sym (yes_in set x xs e))
+  | inl e ↦ yes_in set x (xs ++ c ∷ []) e ∙ ap (λ (ys : List ℕ). x.0 ∷ ys) (among_joined set xs c)
+      ∙ ap (λ (ys : List ℕ). ys ++ if_in set c.0) (sym (yes_in set x xs e))
   | inr e ↦ not_in set x (xs ++ c ∷ []) e ∙ among_joined set xs c ∙ ap (λ (ys : List ℕ). ys ++ if_in set c.0) (sym (not_in set x xs e))
 ]
 
-among_next : (set : List ℕ) (cells : List (ℕ × Cell)) (i id : ℕ) (d : ℕ × Cell) → i < length cells → id ≡ (get_or cells i d).0 → ids_among set (take (i + 1) cells) ≡ ids_among set (take i cells) ++ if_in set id
-among_next set cells i id d l is = ap (ids_among set) (take_more cells i d l) ∙ among_joined set (take i cells) (get_or cells i d) ∙ ap (λ (n : ℕ). ids_among set (take i cells) ++ if_in set n) (sym is)
+among_next : (set : List ℕ) (cells : List (ℕ × Cell)) (i id : ℕ) (d : ℕ × Cell) → i < length cells → id ≡ (get_or cells i d).0
+    → ids_among set (take (i + 1) cells) ≡ ids_among set (take i cells) ++ if_in set id
+among_next set cells i id d l is = ap (ids_among set) (take_more cells i d l) ∙ among_joined set (take i cells) (get_or cells i d)
+    ∙ ap (λ (n : ℕ). ids_among set (take i cells) ++ if_in set n) (sym is)
 
-pub listed_next : (set : List ℕ) (cells : List (ℕ × Cell)) (i id : ℕ) (d : ℕ × Cell) (ids pushed : List ℕ) → i < length cells → id ≡ (get_or cells i d).0
+pub listed_next : (set : List ℕ) (cells : List (ℕ × Cell)) (i id : ℕ) (d : ℕ × Cell) (ids pushed : List ℕ) → i < length cells
+    → id ≡ (get_or cells i d).0
     → ids ≡ ids_among set (take i cells) → pushed ≡ ids ++ if_in set id → pushed ≡ ids_among set (take (i + 1) cells)
 listed_next set cells i id d ids pushed l is e f = f ∙ ap (λ (xs : List ℕ). xs ++ if_in set id) e ∙ sym (among_next set cells i id d l is)
 
-pub listed_all : (set : List ℕ) (cells : List (ℕ × Cell)) (i : ℕ) (ids : List ℕ) → length cells ≤ i → ids ≡ ids_among set (take i cells) → ids ≡ ids_among set cells
+pub listed_all : (set : List ℕ) (cells : List (ℕ × Cell)) (i : ℕ) (ids : List ℕ) → length cells ≤ i
+    → ids ≡ ids_among set (take i cells) → ids ≡ ids_among set cells
 listed_all set cells i ids l e = e ∙ ap (ids_among set) (take_all i cells l)
 
-among_above : (set : List ℕ) (low : ℕ) (cells : List (ℕ × Cell)) (n : ℕ) → AreIdsRising low cells → n < low → IsBelowFirst n (ids_among set cells)
+among_above : (set : List ℕ) (low : ℕ) (cells : List (ℕ × Cell)) (n : ℕ) → AreIdsRising low cells → n < low
+    → IsBelowFirst n (ids_among set cells)
 among_above set low [] n r l = tt
 among_above set low (c ∷ cells) n r l = elim (cases_Bool (has_id set c.0)) [
   | inl e ↦ subst (IsBelowFirst n) (sym (yes_in set c cells e)) (omega (arith, l, r.0))
@@ -82,7 +103,8 @@ among_above set low (c ∷ cells) n r l = elim (cases_Bool (has_id set c.0)) [
 among_rise : (set : List ℕ) (low : ℕ) (cells : List (ℕ × Cell)) → AreIdsRising low cells → AreRising (ids_among set cells)
 among_rise set low [] r = tt
 among_rise set low (c ∷ cells) r = elim (cases_Bool (has_id set c.0)) [
-  | inl e ↦ subst AreRising (sym (yes_in set c cells e)) (among_above set (suc c.0) cells c.0 r.1.1 (omega arith), among_rise set (suc c.0) cells r.1.1)
+  | inl e ↦ subst AreRising (sym (yes_in set c cells e))
+      (among_above set (suc c.0) cells c.0 r.1.1 (omega arith), among_rise set (suc c.0) cells r.1.1)
   | inr e ↦ subst AreRising (sym (not_in set c cells e)) (among_rise set (suc c.0) cells r.1.1)
 ]
 
@@ -91,18 +113,22 @@ among_few set [] = omega arith
 among_few set (c ∷ cells) =
     let h = among_few set cells in
     elim (cases_Bool (has_id set c.0)) [
-      | inl e ↦ let f : length (ids_among set (c ∷ cells)) ≡ suc (length (ids_among set cells)) = ap (λ (xs : List ℕ). length xs) (yes_in set c cells e) in omega (arith, h, f)
-      | inr e ↦ let f : length (ids_among set (c ∷ cells)) ≡ length (ids_among set cells) = ap (λ (xs : List ℕ). length xs) (not_in set c cells e) in omega (arith, h, f)
+      | inl e ↦ let f : length (ids_among set (c ∷ cells)) ≡ suc (length (ids_among set cells)) = ap (λ (xs : List ℕ). length xs)
+          (yes_in set c cells e) in omega (arith, h, f)
+      | inr e ↦ let f : length (ids_among set (c ∷ cells)) ≡ length (ids_among set cells) = ap (λ (xs : List ℕ). length xs)
+          (not_in set c cells e) in omega (arith, h, f)
     ]
 
 among_in : (set : List ℕ) (cells : List (ℕ × Cell)) → All (λ id. has_id set id ≡ true) (ids_among set cells)
 among_in set [] = All-nil (λ id. has_id set id ≡ true)
 among_in set (c ∷ cells) = elim (cases_Bool (has_id set c.0)) [
-  | inl e ↦ subst (λ (xs : List ℕ). All (λ id. has_id set id ≡ true) xs) (sym (yes_in set c cells e)) (All-cons (λ id. has_id set id ≡ true) c.0 (ids_among set cells) e (among_in set cells))
+  | inl e ↦ subst (λ (xs : List ℕ). All (λ id. has_id set id ≡ true) xs) (sym (yes_in set c cells e))
+      (All-cons (λ id. has_id set id ≡ true) c.0 (ids_among set cells) e (among_in set cells))
   | inr e ↦ subst (λ (xs : List ℕ). All (λ id. has_id set id ≡ true) xs) (sym (not_in set c cells e)) (among_in set cells)
 ]
 
-among_all : (set : List ℕ) (cells : List (ℕ × Cell)) (x : ℕ) (cell : Cell) → cell_in cells x ≡ Some cell → has_id set x ≡ true → Contains (ids_among set cells) x
+among_all : (set : List ℕ) (cells : List (ℕ × Cell)) (x : ℕ) (cell : Cell) → cell_in cells x ≡ Some cell → has_id set x ≡ true
+    → Contains (ids_among set cells) x
 among_all set [] x cell e h = absurd (none-some cell e)
 among_all set (c ∷ cells) x cell e h = elim (cases_eq c.0 x) [
   | inl s ↦
@@ -116,8 +142,10 @@ among_all set (c ∷ cells) x cell e h = elim (cases_eq c.0 x) [
       ]
 ]
 
-pub names_few : (state : AbstractState) (set : List ℕ) (list : List (ℕ × Cell)) (olds : List ℕ) (n : ℕ) → list ≡ state.cells → olds ≡ ids_among set list → length state.cells ≤ 512 → n ≡ length olds → length state.cells + n ≤ 2048
-names_few state set list olds n c e few is = let h = among_few set list in let f = ap (λ (xs : List ℕ). length xs) e in let g = ap (λ (xs : List (ℕ × Cell)). length xs) c in omega (arith, few, is, h, f, g)
+pub names_few : (state : AbstractState) (set : List ℕ) (list : List (ℕ × Cell)) (olds : List ℕ) (n : ℕ) → list ≡ state.cells
+    → olds ≡ ids_among set list → length state.cells ≤ 512 → n ≡ length olds → length state.cells + n ≤ 2048
+names_few state set list olds n c e few is = let h = among_few set list in let f = ap (λ (xs : List ℕ). length xs) e in let g = ap
+    (λ (xs : List (ℕ × Cell)). length xs) c in omega (arith, few, is, h, f, g)
 
 -- ---- with their numbers
 
@@ -141,13 +169,18 @@ pub paired_next : (olds news : List ℕ) (i d e : ℕ) (names pushed : List (ℕ
     → names ≡ take i (zip olds news) → pushed ≡ names ++ (get_or olds i d, get_or news i e) ∷ [] → pushed ≡ take (i + 1) (zip olds news)
 paired_next olds news i d e names pushed l same f g =
     let k = zip_long olds news same in
-    let parts : get_or (zip olds news) i (d, e) ≡ (get_or olds i d, get_or news i e) = get_or-zip olds news i (d, e) l (omega (arith, l, same)) in
-    g ∙ ap (λ (xs : List (ℕ × ℕ)). xs ++ (get_or olds i d, get_or news i e) ∷ []) f ∙ ap (λ (x : ℕ × ℕ). take i (zip olds news) ++ x ∷ []) (sym parts) ∙ sym (take_more (zip olds news) i (d, e) (omega (arith, k, l)))
+    let parts : get_or (zip olds news) i (d, e) ≡ (get_or olds i d, get_or news i e) = get_or-zip olds news i (d, e) l
+    (omega (arith, l, same)) in
+    g ∙ ap (λ (xs : List (ℕ × ℕ)). xs ++ (get_or olds i d, get_or news i e) ∷ []) f
+    ∙ ap (λ (x : ℕ × ℕ). take i (zip olds news) ++ x ∷ []) (sym parts) ∙ sym (take_more (zip olds news) i (d, e) (omega (arith, k, l)))
 
-pub paired_all : (olds news : List ℕ) (i : ℕ) (names : List (ℕ × ℕ)) → length olds ≤ i → length olds ≡ length news → names ≡ take i (zip olds news) → names ≡ zip olds news
+pub paired_all : (olds news : List ℕ) (i : ℕ) (names : List (ℕ × ℕ)) → length olds ≤ i → length olds ≡ length news
+    → names ≡ take i (zip olds news) → names ≡ zip olds news
 paired_all olds news i names l e f = let k = zip_long olds news e in f ∙ take_all i (zip olds news) (omega (arith, k, l))
 
-module _ (state : AbstractState) (set : List ℕ) (list : List (ℕ × Cell)) (olds news : List ℕ) (names : List (ℕ × ℕ)) (cells_are : list ≡ state.cells) (rising : AreIdsRising 0 state.cells) (olds_are : olds ≡ ids_among set list) (count : length news ≡ length olds) (names_are : names ≡ zip olds news) where
+module _ (state : AbstractState) (set : List ℕ) (list : List (ℕ × Cell)) (olds news : List ℕ) (names : List (ℕ × ℕ))
+    (cells_are : list ≡ state.cells) (rising : AreIdsRising 0 state.cells) (olds_are : olds ≡ ids_among set list)
+    (count : length news ≡ length olds) (names_are : names ≡ zip olds news) where
   old_is : olds ≡ ids_among set state.cells
   old_is = olds_are ∙ ap (ids_among set) cells_are
 
@@ -161,7 +194,8 @@ module _ (state : AbstractState) (set : List ℕ) (list : List (ℕ × Cell)) (o
   names_of there fresh = record {
     old_rise = subst AreRising (sym first_names) (among_rise set 0 state.cells rising);
     listed = λ x. (
-      λ c. All-contains (λ id. has_id set id ≡ true) (ids_among set state.cells) x (among_in set state.cells) (subst (λ (xs : List ℕ). Contains xs x) first_names c),
+      λ c. All-contains (λ id. has_id set id ≡ true) (ids_among set state.cells) x (among_in set state.cells)
+          (subst (λ (xs : List ℕ). Contains xs x) first_names c),
       λ h. subst (λ (xs : List ℕ). Contains xs x) (sym first_names) (let t = there x h in among_all set state.cells x t.cell t.is h),
     );
     fresh = subst (AreFresh state) (sym second_names) fresh;
@@ -172,8 +206,10 @@ module _ (state : AbstractState) (set : List ℕ) (list : List (ℕ × Cell)) (o
   low_name (a ∷ xs) [] id low l = l
   low_name (a ∷ xs) (b ∷ bs) id low l = elim (cases_eq a id) [
     | inl s ↦ subst (λ (n : ℕ). n < 2048) (sym (named_here (a, b) (zip xs bs) id s)) (All-head (λ i. i < 2048) b bs low)
-    | inr s ↦ subst (λ (n : ℕ). n < 2048) (sym (named_later (a, b) (zip xs bs) id s)) (low_name xs bs id (All-tail (λ i. i < 2048) b bs low) l)
+    | inr s ↦ subst (λ (n : ℕ). n < 2048) (sym (named_later (a, b) (zip xs bs) id s))
+        (low_name xs bs id (All-tail (λ i. i < 2048) b bs low) l)
   ]
 
   pub names_low : All (λ id. id < 2048) news → All (λ c. name_in names c.0 < 2048) state.cells
-  names_low low = λ k d l. subst (λ (ns : List (ℕ × ℕ)). name_in ns (get_or state.cells k d).0 < 2048) (sym names_are) (low_name olds news (get_or state.cells k d).0 low (id_is_low 0 state.cells k d rising l))
+  names_low low = λ k d l. subst (λ (ns : List (ℕ × ℕ)). name_in ns (get_or state.cells k d).0 < 2048) (sym names_are)
+      (low_name olds news (get_or state.cells k d).0 low (id_is_low 0 state.cells k d rising l))

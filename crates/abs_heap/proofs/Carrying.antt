@@ -35,9 +35,16 @@ own_cell state id c e = record { old = c; old_is = e; known = λ k. k; hazy = λ
 
 -- every value is kept in its own heap
 pub same_kept : (heap : Heap) (x : Value) → IsKept heap heap x
-same_kept heap x = record { region = λ b. (λ r. r, λ r. r); paths = λ a t path. refl; shape = λ s. (λ h. h, λ h. h); term = λ t. (λ h. h, λ h. h) }
+same_kept heap x = record {
+  region = λ b. (λ r. r, λ r. r);
+  paths = λ a t path. refl;
+  shape = λ s. (λ h. h, λ h. h);
+  term = λ t.
+      (λ h. h, λ h. h);
+}
 
-module _ (types : WorldTypes) (state : AbstractState) (before : MachineState) (m : Meaning) (good : IsWellFormed state) (h : Fits types state before m)
+module _ (types : WorldTypes) (state : AbstractState) (before : MachineState) (m : Meaning) (good : IsWellFormed state)
+    (h : Fits types state before m)
     (frames : List AbstractFrame) (throwing : Option ℕ) (cell : ℕ → Option Cell) (machine : MachineState)
     (kept : (x : Value) → IsKept before.heap machine.heap x)
     (positions : AllZip (FitsFrame m) frames (with_statics machine.statics machine.frames))
@@ -60,20 +67,27 @@ module _ (types : WorldTypes) (state : AbstractState) (before : MachineState) (m
     cells = described;
     aliases = λ a b o c d e f n ta tb. inl (h.aliases a b o (any_there a c e) (any_there b d f) n ta tb);
     apart = λ a b o c d e f k l n ta tb. known_apart types state before m good h a b o (known_there a c e k) (known_there b d f l) n ta tb;
-    meeting = λ a b o c d e f k l n ra rb. inl (h.meeting a b o (hazy_there a c e k) (hazy_there b d f l) n (((kept (m a)).region o).0 ra) (((kept (m b)).region o).0 rb));
+    meeting = λ a b o c d e f k l n ra rb. inl
+        (h.meeting a b o (hazy_there a c e k) (hazy_there b d f l) n (((kept (m a)).region o).0 ra) (((kept (m b)).region o).0 rb));
     inside = λ k b o c d e f p q t rb. inl (h.inside k b o (known_there k c e p) (hazy_there b d f q) t (((kept (m b)).region o).0 rb));
     shapes = λ id c s e f. let k = carried id c e in ((kept (m id)).shape s).1 (h.shapes id k.old s k.old_is (k.shaped s f));
   }
 
 -- a state that differs from another one in its cells alone fits where those hold
-pub fits_other : (types : WorldTypes) (state child : AbstractState) (cell : ℕ → Option Cell) (machine : MachineState) (m : Meaning) → FitsBy types state.frames state.throwing cell (AreEqual state) (Share state) machine m → HasOtherCells state cell child → Fits types child machine m
+pub fits_other : (types : WorldTypes) (state child : AbstractState) (cell : ℕ → Option Cell) (machine : MachineState) (m : Meaning)
+    → FitsBy types state.frames state.throwing cell (AreEqual state) (Share state) machine m → HasOtherCells state cell child
+    → Fits types child machine m
 fits_other types state child cell machine m f g = record {
-  positions = subst (λ (fs : List AbstractFrame). AllZip (FitsFrame m) fs (with_statics machine.statics machine.frames)) (sym g.frames_are) f.positions;
+  positions = subst (λ (fs : List AbstractFrame). AllZip (FitsFrame m) fs (with_statics machine.statics machine.frames))
+      (sym g.frames_are) f.positions;
   mode = subst (λ (t : Option ℕ). FitsMode m t machine.mode) (sym g.throwing_is) f.mode;
   cells = λ id c e. f.cells id c (sym (g.cells id) ∙ e);
-  aliases = λ a b o ca cb n ta tb. in_child state.eq child.eq g.eq_is a b (f.aliases a b o ca.cell cb.cell (there a ca) (there b cb) n ta tb);
-  meeting = λ a b o ca cb n ra rb. in_child state.share child.share g.share_is a b (f.meeting a b o ca.cell cb.cell (there a ca) (there b cb) ca.sort_is cb.sort_is n ra rb);
-  inside = λ k b o ck cb t rb. in_child state.share child.share g.share_is k b (f.inside k b o ck.cell cb.cell (there k ck) (there b cb) ck.sort_is cb.sort_is t rb);
+  aliases = λ a b o ca cb n ta tb. in_child state.eq child.eq g.eq_is a b
+      (f.aliases a b o ca.cell cb.cell (there a ca) (there b cb) n ta tb);
+  meeting = λ a b o ca cb n ra rb. in_child state.share child.share g.share_is a b
+      (f.meeting a b o ca.cell cb.cell (there a ca) (there b cb) ca.sort_is cb.sort_is n ra rb);
+  inside = λ k b o ck cb t rb. in_child state.share child.share g.share_is k b
+      (f.inside k b o ck.cell cb.cell (there k ck) (there b cb) ck.sort_is cb.sort_is t rb);
   shapes = λ id c s e k. f.shapes id c s (sym (g.cells id) ∙ e) k;
 }
   where
@@ -85,12 +99,15 @@ fits_other types state child cell machine m f g = record {
     in_child old new e a b (inr k) = ap (has a b) e ∙ sym (has_swapped a b old) ∙ k
 
 -- an edge where ids keep their values, over a heap that keeps what values reach
-pub kept_edge : (state : AbstractState) (before : MachineState) (m : Meaning) (step : Bool) (child : AbstractState) (machine : MachineState) → ((x : Value) → IsKept before.heap machine.heap x) → Edge state before m (plain_link step None) child machine m
+pub kept_edge : (state : AbstractState) (before : MachineState) (m : Meaning) (step : Bool) (child : AbstractState)
+    (machine : MachineState) → ((x : Value) → IsKept before.heap machine.heap x)
+    → Edge state before m (plain_link step None) child machine m
 kept_edge state before m step child machine kept = record {
   ints = λ id h k. refl;
   rows = All-nil (HoldsBetween m m);
   sizes = λ id h s. size_kept before.heap machine.heap (m id) (m id) refl (λ t is. ((kept (m id)).term t).0 is);
 }
 
-pub same_edge : (state : AbstractState) (machine : MachineState) (m : Meaning) (step : Bool) (child : AbstractState) → Edge state machine m (plain_link step None) child machine m
+pub same_edge : (state : AbstractState) (machine : MachineState) (m : Meaning) (step : Bool) (child : AbstractState)
+    → Edge state machine m (plain_link step None) child machine m
 same_edge state machine m step child = kept_edge state machine m step child machine (same_kept machine.heap)

@@ -1,22 +1,16 @@
 -- A split by class: what the object is, among the cases in order.
-use Rattle.std.proofs.Common.{◌≡◌, ◌≢◌, ℕ, zero, suc, ◌+◌, ◌-◌, ◌<◌, ◌≤◌, ◌&&◌, Bool, true, false, List, [], ◌∷◌, ◌++◌, length, map, Option, Some, None, ◌⊎◌, inl, inr, refl, sym, ap, subst, ◌∙◌, arith, IsTrue, pos}
-use Rattle.std.specs.Prelude.{slice_get, zip, filter, nat_lt}
+use Rattle.std.proofs.Common.{◌≡◌, ◌≢◌, ℕ, suc, ◌-◌, true, false, List, [], ◌∷◌, length, map}
+use Rattle.std.proofs.Common.{Option, Some, None, ◌⊎◌, inl, inr, refl, sym, ap, subst, ◌∙◌, arith, IsTrue, pos}
+use Rattle.std.specs.Prelude.{slice_get, zip}
 use Rattle.std.specs.List.{AllZip}
-use Rattle.std.proofs.lemmas.Bool.{false≢true, cases_Bool, and_from, lt-ltb, cond-true, cond-false, cases_eq}
+use Rattle.std.proofs.lemmas.Bool.{false≢true, cases_Bool, cond-true, cond-false, cases_eq}
 use Rattle.std.proofs.lemmas.Int.{ints}
 use Rattle.std.proofs.lemmas.List.Elements.{All-nil}
 use Rattle.std.proofs.lemmas.Slice.Zip.{AllZip-long}
 use Rattle.std.proofs.lemmas.Option.{none-some}
-use Rattle.abs_cells.proofs.CellLaws.{hazy_not_known}
-use Rattle.list_views.proofs.Orders.{zero_before}
 use Rattle.list_views.proofs.Zipped.{zip_left}
 use Rattle.list_views.proofs.Quantified.{all_at}
-use Rattle.list_views.proofs.Items.{get_before}
 use Rattle.jvm_values.specs.declared.types.Ty.{Ty}
-use Rattle.jvm_values.specs.declared.types.Base.{Base}
-use Rattle.jvm_values.specs.declared.types.Base.TheVariants as bases
-use Rattle.jvm_values.specs.declared.types.Kind.{Kind}
-use Rattle.jvm_values.specs.declared.types.Kind.TheVariants as kinds
 use Rattle.jvm_values.specs.declared.types.Slot.{Slot}
 use Rattle.jvm_values.specs.declared.types.Slot.TheVariants as slots
 use Rattle.jvm_values.specs.declared.heap.Value.{Value}
@@ -27,9 +21,8 @@ use Rattle.jvm_values.specs.declared.heap.Heap.{Heap}
 use Rattle.jvm_values.specs.declared.shape.Shape.{Shape}
 use Rattle.jvm_values.specs.declared.shape.Shape.TheVariants.{Tree, Dag, Any}
 use Rattle.jvm_values.specs.States.{MachineState}
-use Rattle.jvm_values.specs.Joins.{item_of, item_under}
 use Rattle.jvm_values.specs.Heaps.{target, values_of, Region, HasShape}
-use Rattle.jvm_values.specs.Subtyping.{class_type, object_type, array_of, array_of_numbers, IsReference, IsReferenceBase, IsSlot}
+use Rattle.jvm_values.specs.Subtyping.{class_type, IsSlot}
 use Rattle.jvm_values.specs.TypedHeaps.{WorldTypes, AreLawful, HasType, Holds, IsTypedHeap, IsTypedObject, type_of}
 use Rattle.jvm_values.proofs.Options.{some_is}
 use Rattle.jvm_values.proofs.Ranges.{kind_ints}
@@ -37,15 +30,16 @@ use Rattle.abs_cells.specs.declared.cells.Cell.{Cell}
 use Rattle.abs_cells.specs.declared.cells.Cell.TheVariants as cells
 use Rattle.abs_cells.specs.AbstractStates.{AbstractState}
 use Rattle.abs_cells.specs.Cells.{is_known, is_hazy, is_reference, is_comparable, shape_of, cell_in, cell_at, HasCell, AreEqual, Share}
-use Rattle.abs_cells.specs.Sound.{IsWellFormed, IsSound, IsSoundCell}
+use Rattle.abs_cells.specs.Sound.{IsSound, IsSoundCell}
 use Rattle.abs_cells.specs.Fits.{Meaning, Describes, Fits, with_statics}
 use Rattle.abs_cells.proofs.Fitting.{known_apart}
 use Rattle.abs_cells.proofs.PairLaws.{has_swapped}
 use Rattle.abs_reach.proofs.Walks.{some_cell}
 use Rattle.term_graph.specs.Edges.{HoldsBetween}
-use Rattle.abs_heap.specs.Given.{first_cell, with_cells, IsGiven, AreFresh, MayBeOne}
-use Rattle.list_views.specs.Lists.{numbers_from}
-use Rattle.abs_heap.specs.Refining.{Case, instance, numbers, references, lower_of, cell_of_slot, length_cell, IsReferenceField, JoinsFields, IsInstanceChild, IsCase, instances_below, numbers_below, element_below, listed, cases_below, cases_of}
+use Rattle.abs_heap.specs.Given.{first_cell, with_cells, MayBeOne}
+use Rattle.abs_heap.specs.Refining.{Case, instance, numbers, references, lower_of, cell_of_slot, IsReferenceField}
+use Rattle.abs_heap.specs.Refining.{JoinsFields, IsInstanceChild, IsCase}
+use Rattle.abs_heap.specs.Refining.{cases_below, cases_of}
 use Rattle.abs_heap.specs.Laws.{plain_link, Goes, GoesToCase, ClassesSplit}
 use Rattle.abs_heap.proofs.Placing.{cell_here, cell_later}
 use Rattle.abs_heap.proofs.Fitted.{FitsBy, fits_given, names_reference}
@@ -55,256 +49,92 @@ use Rattle.abs_heap.proofs.NewThings.{with_values, kept_others, valued_here, val
 use Rattle.abs_heap.proofs.Telling.{Tells, tells, told_compatible, sound_at, array_reference}
 use Rattle.abs_heap.proofs.OneObject.{object_at, ref_of}
 use Rattle.abs_heap.proofs.Loading.{held_path, held_region, held_shape, held_itself, known_or_hazy}
-
--- ---- where a case stands
-
--- a place of a list
-abbrev Stands : {X : Type 0} → List X → X → Type 0
-Stands {X} xs x = (n : ℕ) × (slice_get xs n ≡ Some x)
-
-one_more : (k n : ℕ) → suc k + n ≡ suc (k + n)
-one_more k n = omega arith
-
-stands_behind : {X : Type 0} (xs ys : List X) (x : X) (n : ℕ) → slice_get ys n ≡ Some x → slice_get (xs ++ ys) (length xs + n) ≡ Some x
-stands_behind [] ys x n e = ap (slice_get ys) (zero_before n) ∙ e
-stands_behind (y ∷ xs) ys x n e = ap (slice_get (y ∷ (xs ++ ys))) (one_more (length xs) n) ∙ stands_behind xs ys x n e
-
-stands_mapped : {X Y : Type 0} (f : X → Y) (xs : List X) (x : X) (n : ℕ) → slice_get xs n ≡ Some x → slice_get (map f xs) n ≡ Some (f x)
-stands_mapped f [] x n e = absurd (none-some x e)
-stands_mapped f (y ∷ xs) x zero e = ap (λ (z : _). Some (f z)) (some_is e)
-stands_mapped f (y ∷ xs) x (suc n) e = stands_mapped f xs x n e
-
-stands_filtered : {X : Type 0} (test : X → Bool) (xs : List X) (x : X) (n : ℕ) → slice_get xs n ≡ Some x → test x ≡ true → Stands (filter test xs) x
-stands_filtered test [] x n e t = absurd (none-some x e)
-stands_filtered test (y ∷ xs) x zero e t = (0, ap (λ (ys : List _). slice_get ys 0) (cond-true (test y) (y ∷ filter test xs) (filter test xs) (ap test (some_is e) ∙ t)) ∙ e)
-stands_filtered test (y ∷ xs) x (suc n) e t =
-    let h = stands_filtered test xs x n e t in
-    elim (cases_Bool (test y)) [
-      | inl s ↦ (suc h.0, ap (λ (ys : List _). slice_get ys (suc h.0)) (cond-true (test y) (y ∷ filter test xs) (filter test xs) s) ∙ h.1)
-      | inr s ↦ (h.0, ap (λ (ys : List _). slice_get ys h.0) (cond-false (test y) (y ∷ filter test xs) (filter test xs) s) ∙ h.1)
-    ]
-
-number_stands : (from count n : ℕ) → n < count → slice_get (numbers_from from count) n ≡ Some (from + n)
-number_stands from zero n l = absurd (omega (arith, l))
-number_stands from (suc count) zero l = let same : from ≡ from + 0 = omega arith in ap Some same
-number_stands from (suc count) (suc n) l = let same : suc from + n ≡ from + suc n = omega arith in number_stands (suc from) count n (omega (arith, l)) ∙ ap Some same
-
--- ---- the cases
-
-abbrev ty_of : ℕ → Base → Ty
-ty_of dims base = record { dims = dims; base = base }
-
-module _ (types : WorldTypes) (laws : AreLawful types) (low : Ty) where
-  instance_stands : (class : ℕ) → class < types.classes → IsTrue (types.can_be_made class) → IsTrue (types.sub (class_type class) low) → Stands (cases_below types low) (instance class)
-  instance_stands class l made below =
-      let at = number_stands 0 types.classes class l in
-      let same : 0 + class ≡ class = omega arith in
-      let kept = stands_filtered (λ c. types.can_be_made c && types.sub (class_type c) low) (numbers_from 0 types.classes) class class (at ∙ ap Some same) (and_from _ _ made below) in
-      (kept.0, get_before (instances_below types low) (numbers_below types low ++ listed (element_below types low)) kept.0 (instance class) (stands_mapped instance (filter (λ c. types.can_be_made c && types.sub (class_type c) low) (numbers_from 0 types.classes)) class kept.0 kept.1))
-
-  kind_at : (kind : Kind) → Stands (kinds.Boolean ∷ kinds.Char ∷ kinds.Byte ∷ kinds.Short ∷ kinds.Int ∷ []) kind
-  kind_at kinds.Boolean = (0, refl)
-  kind_at kinds.Char = (1, refl)
-  kind_at kinds.Byte = (2, refl)
-  kind_at kinds.Short = (3, refl)
-  kind_at kinds.Int = (4, refl)
-
-  numbers_stand : (kind : Kind) → IsTrue (types.sub (array_of_numbers kind) low) → Stands (cases_below types low) (numbers kind)
-  numbers_stand kind below =
-      let at = kind_at kind in
-      let kept = stands_filtered (λ k. types.sub (array_of_numbers k) low) (kinds.Boolean ∷ kinds.Char ∷ kinds.Byte ∷ kinds.Short ∷ kinds.Int ∷ []) kind at.0 at.1 below in (
-        length (instances_below types low) + kept.0,
-        stands_behind (instances_below types low) (numbers_below types low ++ listed (element_below types low)) (numbers kind) kept.0
-            (get_before (numbers_below types low) (listed (element_below types low)) kept.0 (numbers kind) (stands_mapped numbers (filter (λ k. types.sub (array_of_numbers k) low) (kinds.Boolean ∷ kinds.Char ∷ kinds.Byte ∷ kinds.Short ∷ kinds.Int ∷ [])) kind kept.0 kept.1)),
-      )
-
-  listed_stands : (element : Ty) → element_below types low ≡ Some element → Stands (cases_below types low) (references element)
-  listed_stands element e = (
-    length (instances_below types low) + (length (numbers_below types low) + 0),
-    stands_behind (instances_below types low) (numbers_below types low ++ listed (element_below types low)) (references element) (length (numbers_below types low) + 0)
-        (stands_behind (numbers_below types low) (listed (element_below types low)) (references element) 0 (ap (λ (o : Option Ty). slice_get (listed o) 0) e)),
-  )
-
-  -- the item type of an array type
-  item_again : (t : Ty) → IsReference types.classes t → item_of (array_of t) ≡ Some t
-  item_again t r = go t.dims t.base r.1
-    where
-      same_dims : (d : ℕ) → (d + 1) - 1 ≡ d
-      same_dims d = omega arith
-
-      go : (d : ℕ) (b : Base) → IsReferenceBase types.classes d b → item_under (d + 1) b ≡ Some (record { dims = d; base = b })
-      go d (bases.Class class) h = cond-true (nat_lt 0 (d + 1)) _ None (lt-ltb 0 (d + 1) (omega arith)) ∙ ap (λ (n : ℕ). Some (ty_of n (bases.Class class))) (same_dims d)
-      go d (bases.Num kind) h = cond-true (nat_lt 1 (d + 1)) _ None (lt-ltb 1 (d + 1) (omega (arith, h))) ∙ ap (λ (n : ℕ). Some (ty_of n (bases.Num kind))) (same_dims d)
-
-  -- an array of references below a type is of items below the listed element type
-  element_stands : (item : Ty) → IsReference types.classes (array_of item) → IsReference types.classes item → IsTrue (types.sub (array_of item) low) → (element : Ty) × ((element_below types low ≡ Some element) × IsTrue (types.sub item element))
-  element_stands item whole inner below = elim (cases_Bool (types.sub object_type low)) [
-    | inl top ↦ (object_type, (cond-true (types.sub object_type low) (Some object_type) (item_of low) top, laws.object_on_top item inner))
-    | inr not_top ↦ elim (laws.array_below item low inner below) [
-      | inl is_top ↦ absurd (false≢true (sym not_top ∙ subst (λ (t : Ty). IsTrue (types.sub object_type t)) (sym is_top) (laws.reflexive object_type (object_reference inner below))))
-      | inr above ↦ (above.0, (cond-false (types.sub object_type low) (Some object_type) (item_of low) not_top ∙ ap item_of above.3 ∙ item_again above.0 above.1, above.2))
-    ]
-  ]
-    where
-      object_reference : IsReference types.classes item → IsTrue (types.sub (array_of item) low) → IsReference types.classes object_type
-      object_reference r b = (laws.of_world (array_of item) object_type (laws.object_on_top (array_of item) whole)).1
-
--- ---- an array
-
-module _ (types : WorldTypes) (state : AbstractState) (machine : MachineState) (m : Meaning) (good : IsWellFormed state) (h : Fits types state machine m)
-    (x : ℕ) (bound : Ty) (shape : Shape) (at : cell_at state x ≡ Some (cells.Unk bound false shape)) (unknown : (k : ℕ) → HasCell is_known state k → AreEqual state x k → ⊥) where
-  hazy_x : HasCell is_hazy state x
-  hazy_x = record { cell = cells.Unk bound false shape; is = at; sort_is = refl }
-
-  any_x : HasCell (λ _. true) state x
-  any_x = record { cell = cells.Unk bound false shape; is = at; sort_is = refl }
-
-  itself : (a p : ℕ) → target (m a) ≡ Some p → Region machine.heap (m a) p
-  itself a p t = record { start = p; names = t; reaches = record { path = []; leads = refl } }
-
-  module _ (len count : ℕ) (thing : Cell) (fresh : AreFresh state (len ∷ [])) (small : count ≤ 2147483647)
-      (described : Describes types machine.heap (with_values ((len, values.Int (pos count)) ∷ []) m) thing (m x))
-      (shaped : (s : Shape) → shape_of thing ≡ Some s → HasShape s machine.heap (m x)) where
-    abbrev now : Meaning
-    now = with_values ((len, values.Int (pos count)) ∷ []) m
-
-    agrees : Agrees state m now
-    agrees = λ i p. kept_others state m (len ∷ []) (values.Int (pos count) ∷ []) fresh.free i p
-
-    data Sort (i : ℕ) (c : Cell) : Type 0 where
-      old : cell_at state i ≡ Some c → now i ≡ m i → (x ≡ i → ⊥) → Sort i c
-      split : x ≡ i → thing ≡ c → now i ≡ m i → Sort i c
-      size : length_cell ≡ c → now i ≡ values.Int (pos count) → Sort i c
-
-    sort_of : (i : ℕ) (c : Cell) → with_cells ((x, thing) ∷ (len, length_cell) ∷ []) state i ≡ Some c → Sort i c
-    sort_of i c e = elim (cases_eq x i) [
-      | inl f ↦ split f (some_is (sym (ap (λ (y : Option Cell). first_cell y (cell_at state i)) (cell_here (x, thing) ((len, length_cell) ∷ []) i f)) ∙ e)) (subst (λ (j : ℕ). now j ≡ m j) f (agrees x any_x))
-      | inr f ↦
-          let rest : first_cell (cell_in ((len, length_cell) ∷ []) i) (cell_at state i) ≡ Some c = sym (ap (λ (y : Option Cell). first_cell y (cell_at state i)) (cell_later (x, thing) ((len, length_cell) ∷ []) i f)) ∙ e in
-          elim (cases_eq len i) [
-            | inl g ↦ size (some_is (sym (ap (λ (y : Option Cell). first_cell y (cell_at state i)) (cell_here (len, length_cell) [] i g)) ∙ rest)) (valued_here (len, values.Int (pos count)) [] m i g)
-            | inr g ↦
-                let there : cell_at state i ≡ Some c = sym (ap (λ (y : Option Cell). first_cell y (cell_at state i)) (cell_later (len, length_cell) [] i g)) ∙ rest in
-                old there (agrees i (record { cell = c; is = there; sort_is = refl })) f
-          ]
-    ]
-
-    moved : (v w : Value) (p : ℕ) → v ≡ w → target v ≡ Some p → target w ≡ Some p
-    moved v w p e t = ap target (sym e) ∙ t
-
-    across : (v w : Value) (p : ℕ) → v ≡ w → Region machine.heap v p → Region machine.heap w p
-    across v w p e r = subst (λ (u : Value). Region machine.heap u p) e r
-
-    no_name : (v : Value) (p : ℕ) → v ≡ values.Int (pos count) → target v ≡ Some p → ⊥
-    no_name v p e t = none-some p (sym (ap target e) ∙ t)
-
-    cells_now : (i : ℕ) (c : Cell) → Sort i c → Describes types machine.heap now c (now i)
-    cells_now i c (old e s q) = cell_carried types state machine.heap machine.heap m now good agrees (λ r ob f. f) i c e (h.cells i c e)
-    cells_now i c (split f g s) = subst (λ (u : Value). Describes types machine.heap now c u) (ap m f ∙ sym s) (subst (λ (d : Cell). Describes types machine.heap now d (m x)) g described)
-    cells_now i c (size g s) = subst (λ (d : Cell). Describes types machine.heap now d (now i)) g (pos count, (s, (omega (arith, ints), omega (arith, ints, small))))
-
-    there : (i p : ℕ) (c : Cell) → Sort i c → target (now i) ≡ Some p → HasCell (λ _. true) state i × (target (m i) ≡ Some p)
-    there i p c (old e s q) t = (record { cell = c; is = e; sort_is = refl }, moved (now i) (m i) p s t)
-    there i p c (split f g s) t = (subst (λ (j : ℕ). HasCell (λ _. true) state j) f any_x, moved (now i) (m i) p s t)
-    there i p c (size g s) t = absurd (no_name (now i) p s t)
-
-    apart_now : (a b p : ℕ) (c d : Cell) → Sort a c → Sort b d → is_known c ≡ true → is_known d ≡ true → a ≢ b → target (now a) ≡ Some p → target (now b) ≡ Some p → ⊥
-    apart_now a b p c d (old e s u) (old f t v) k l n ta tb = known_apart types state machine m good h a b p (record { cell = c; is = e; sort_is = k }) (record { cell = d; is = f; sort_is = l }) n (moved (now a) (m a) p s ta) (moved (now b) (m b) p t tb)
-    apart_now a b p c d (old e s u) (split f g t) k l n ta tb =
-        unknown a (record { cell = c; is = e; sort_is = k }) (h.aliases x a p any_x (record { cell = c; is = e; sort_is = refl }) (λ q. n (sym q ∙ f)) (ap (λ (j : ℕ). target (m j)) f ∙ moved (now b) (m b) p t tb) (moved (now a) (m a) p s ta))
-    apart_now a b p c d (old e s u) (size g t) k l n ta tb = no_name (now b) p t tb
-    apart_now a b p c d (split f g s) (old e t u) k l n ta tb =
-        unknown b (record { cell = d; is = e; sort_is = l }) (h.aliases x b p any_x (record { cell = d; is = e; sort_is = refl }) (λ q. n (sym f ∙ q)) (ap (λ (j : ℕ). target (m j)) f ∙ moved (now a) (m a) p s ta) (moved (now b) (m b) p t tb))
-    apart_now a b p c d (split f g s) (split e i t) k l n ta tb = n (sym f ∙ e)
-    apart_now a b p c d (split f g s) (size i t) k l n ta tb = no_name (now b) p t tb
-    apart_now a b p c d (size g s) y k l n ta tb = no_name (now a) p s ta
-
-    -- a hazy id of the child is one of the state, with its region
-    hazy_there : (i p : ℕ) (c : Cell) → Sort i c → is_hazy c ≡ true → Region machine.heap (now i) p → HasCell is_hazy state i × Region machine.heap (m i) p
-    hazy_there i p c (old e s q) z r = (record { cell = c; is = e; sort_is = z }, across (now i) (m i) p s r)
-    hazy_there i p c (split f g s) z r = (subst (λ (j : ℕ). HasCell is_hazy state j) f hazy_x, across (now i) (m i) p s r)
-    hazy_there i p c (size g s) z r = absurd (none-some r.start (sym (ap target s) ∙ r.names))
-
-    inside_now : (a b p : ℕ) (c d : Cell) → Sort a c → Sort b d → is_known c ≡ true → is_hazy d ≡ true → target (now a) ≡ Some p → Region machine.heap (now b) p → Share state a b
-    inside_now a b p c d (old e s u) y k l ta rb = let z = hazy_there b p d y l rb in h.inside a b p (record { cell = c; is = e; sort_is = k }) z.0 (moved (now a) (m a) p s ta) z.1
-    inside_now a b p c d (split f g s) (old e t u) k l ta rb =
-        h.meeting a b p (subst (λ (j : ℕ). HasCell is_hazy state j) f hazy_x) (record { cell = d; is = e; sort_is = l }) (λ q. u (f ∙ q)) (itself a p (moved (now a) (m a) p s ta)) (across (now b) (m b) p t rb)
-    inside_now a b p c d (split f g s) (split e i t) k l ta rb = absurd (false≢true (sym (hazy_not_known d l) ∙ ap is_known (sym i ∙ g) ∙ k))
-    inside_now a b p c d (split f g s) (size i t) k l ta rb = absurd (false≢true (ap is_hazy i ∙ l))
-    inside_now a b p c d (size g s) y k l ta rb = absurd (no_name (now a) p s ta)
-
-    shapes_now : (i : ℕ) (c : Cell) (s : Shape) → Sort i c → shape_of c ≡ Some s → HasShape s machine.heap (now i)
-    shapes_now i c s (old e t q) g = subst (λ (u : Value). HasShape s machine.heap u) (sym t) (h.shapes i c s e g)
-    shapes_now i c s (split f e t) g = subst (λ (u : Value). HasShape s machine.heap u) (ap m f ∙ sym t) (shaped s (ap shape_of e ∙ g))
-    shapes_now i c s (size e t) g = absurd (none-some s (ap shape_of e ∙ g))
-
-    array_fits : FitsBy types state.frames state.throwing (with_cells ((x, thing) ∷ (len, length_cell) ∷ []) state) (AreEqual state) (Share state) machine now
-    array_fits = record {
-      positions = positions_carried state m now (with_statics machine.statics machine.frames) good agrees h.positions;
-      mode = mode_carried state m now machine.mode good agrees h.mode;
-      cells = λ i c e. cells_now i c (sort_of i c e);
-      aliases = λ a b p c d e f n ta tb.
-          let y = there a p c (sort_of a c e) ta in
-          let z = there b p d (sort_of b d f) tb in
-          inl (h.aliases a b p y.0 z.0 n y.1 z.1);
-      apart = λ a b p c d e f k l n ta tb. apart_now a b p c d (sort_of a c e) (sort_of b d f) k l n ta tb;
-      meeting = λ a b p c d e f k l n ra rb.
-          let y = hazy_there a p c (sort_of a c e) k ra in
-          let z = hazy_there b p d (sort_of b d f) l rb in
-          inl (h.meeting a b p y.0 z.0 n y.1 z.1);
-      inside = λ a b p c d e f k l ta rb. inl (inside_now a b p c d (sort_of a c e) (sort_of b d f) k l ta rb);
-      shapes = λ i c s e f. shapes_now i c s (sort_of i c e) f;
-    }
-
-    pub array_goes : (child : AbstractState) → IsGiven state.frames state.throwing (with_cells ((x, thing) ∷ (len, length_cell) ∷ []) state) (AreEqual state) (Share state) child → Goes types state machine m (plain_link false None) child machine
-    array_goes child g = record {
-      meaning_after = now;
-      fits = fits_given types state.frames state.throwing (with_cells ((x, thing) ∷ (len, length_cell) ∷ []) state) (AreEqual state) (Share state) machine now array_fits child g;
-      edge = record {
-        ints = λ i k l. agrees i (some_cell state i k);
-        rows = All-nil (HoldsBetween m now);
-        sizes = λ i k s. same_size machine.heap (m i) (now i) (agrees i (some_cell state i k));
-      };
-    }
+use Rattle.abs_heap.proofs.ArrayCases.{array_goes, Stands, instance_stands, numbers_stand, listed_stands, element_stands, itself}
 
 -- ---- an instance
 
 -- an id that a field of the object has
-field_pair : (ids : List ℕ) (ss : List Slot) (g : Slot → Cell) (vs : List Value) (m : Meaning) (i : ℕ) (c : Cell) → cell_in (zip ids (map g ss)) i ≡ Some c → length ids ≡ length vs
-    → (place : ℕ) × ((slot : Slot) × ((value : Value) × ((slice_get ids place ≡ Some i) × ((slice_get ss place ≡ Some slot) × ((slice_get vs place ≡ Some value) × ((g slot ≡ c) × (with_values (zip ids vs) m i ≡ value)))))))
+field_pair : (ids : List ℕ) (ss : List Slot) (g : Slot → Cell) (vs : List Value) (m : Meaning) (i : ℕ) (c : Cell)
+    → cell_in (zip ids (map g ss)) i ≡ Some c → length ids ≡ length vs
+    → (place : ℕ) × ((slot : Slot)
+    × ((value : Value) × ((slice_get ids place ≡ Some i)
+    × ((slice_get ss place ≡ Some slot)
+    × ((slice_get vs place ≡ Some value) × ((g slot ≡ c) × (with_values (zip ids vs) m i ≡ value)))))))
 field_pair [] ss g vs m i c e l = absurd (none-some c e)
 field_pair (y ∷ ids) [] g vs m i c e l = absurd (none-some c e)
 field_pair (y ∷ ids) (s ∷ ss) g [] m i c e l = absurd (omega (arith, l))
 field_pair (y ∷ ids) (s ∷ ss) g (v ∷ vs) m i c e l = elim (cases_eq y i) [
-  | inl f ↦ (0, (s, (v, (ap Some f, (refl, (refl, (some_is (sym (cell_here (y, g s) (zip ids (map g ss)) i f) ∙ e), valued_here (y, v) (zip ids vs) m i f)))))))
+  | inl f ↦ (
+    0,
+    (
+      s,
+      (
+        v,
+        (
+          ap Some f,
+          (
+            refl,
+            (
+              refl,
+              (
+                some_is (sym (cell_here (y, g s) (zip ids (map g ss)) i f) ∙ e),
+                valued_here (y, v)
+                    (zip ids vs) m i f,
+              ),
+            ),
+          ),
+        ),
+      ),
+    ),
+  )
   | inr f ↦
-      let r = field_pair ids ss g vs m i c (sym (cell_later (y, g s) (zip ids (map g ss)) i f) ∙ e) (omega (arith, l)) in
-      (suc r.0, (r.1.0, (r.1.1.0, (r.1.1.1.0, (r.1.1.1.1.0, (r.1.1.1.1.1.0, (r.1.1.1.1.1.1.0, valued_later (y, v) (zip ids vs) m i f ∙ r.1.1.1.1.1.1.1)))))))
+      let r = field_pair ids ss g vs m i c (sym (cell_later (y, g s) (zip ids (map g ss)) i f) ∙ e) (omega (arith, l)) in (
+        suc r.0,
+        (
+          r.1.0,
+          (
+            r.1.1.0,
+            (r.1.1.1.0, (r.1.1.1.1.0, (r.1.1.1.1.1.0, (r.1.1.1.1.1.1.0, valued_later (y, v) (zip ids vs) m i f ∙ r.1.1.1.1.1.1.1)))),
+          ),
+        ),
+      )
 ]
 
-held_at : (types : WorldTypes) (heap : Heap) (ss : List Slot) (vs : List Value) (n : ℕ) (slot : Slot) (value : Value) → AllZip (Holds types heap) ss vs → slice_get ss n ≡ Some slot → slice_get vs n ≡ Some value → Holds types heap slot value
+held_at : (types : WorldTypes) (heap : Heap) (ss : List Slot) (vs : List Value) (n : ℕ) (slot : Slot) (value : Value)
+    → AllZip (Holds types heap) ss vs → slice_get ss n ≡ Some slot → slice_get vs n ≡ Some value → Holds types heap slot value
 held_at types heap ss vs n slot value z e f =
     let r = zip_left (Holds types heap) ss vs n slot z e in
     subst (Holds types heap slot) (some_is (sym r.1.0 ∙ f)) r.1.1
 
 -- an object that reaches itself through a value that it holds has a region of any shape
-module _ (heap : Heap) (holder value : Value) (o n : ℕ) (object : Object) (names : target holder ≡ Some o) (stands : slice_get heap.objects o ≡ Some object) (got : slice_get (values_of object) n ≡ Some value) where
+module _ (heap : Heap) (holder value : Value) (o n : ℕ) (object : Object) (names : target holder ≡ Some o)
+    (stands : slice_get heap.objects o ≡ Some object) (got : slice_get (values_of object) n ≡ Some value) where
   never_empty : (p : List ℕ) → n ∷ p ≡ [] → ⊥
   never_empty p e = cc
 
   pub held_cycle : (shape : Shape) → HasShape shape heap holder → Region heap value o → shape ≡ Any
-  held_cycle Tree s r = absurd (never_empty r.reaches.path (s o names (n ∷ r.reaches.path) [] o (held_path heap holder value o n object names stands got r.start o r.reaches.path r.names r.reaches.leads) refl))
-  held_cycle Dag s r = absurd (never_empty r.reaches.path (s o names [] o refl (n ∷ r.reaches.path) (held_path heap holder value o n object names stands got r.start o r.reaches.path r.names r.reaches.leads)))
+  held_cycle Tree s r = absurd
+      (never_empty r.reaches.path
+      (s o names (n ∷ r.reaches.path) [] o (held_path heap holder value o n object names stands got r.start o r.reaches.path
+      r.names r.reaches.leads) refl))
+  held_cycle Dag s r = absurd
+      (never_empty r.reaches.path
+      (s o names [] o refl (n ∷ r.reaches.path) (held_path heap holder value o n object names stands got r.start o r.reaches.path
+      r.names r.reaches.leads)))
   held_cycle Any s r = refl
 
 abbrev first_of : List ℕ → ℕ
 first_of [] = 0
 first_of (x ∷ xs) = x
 
-module _ (types : WorldTypes) (state child : AbstractState) (machine : MachineState) (m : Meaning) (laws : AreLawful types) (sound : IsSound types state) (typed : IsTypedHeap types machine.heap) (h : Fits types state machine m)
-    (x : ℕ) (bound : Ty) (shape : Shape) (at : cell_at state x ≡ Some (cells.Unk bound false shape)) (unknown : (k : ℕ) → HasCell is_known state k → AreEqual state x k → ⊥)
-    (o class : ℕ) (fields : List Value) (names : target (m x) ≡ Some o) (stands : slice_get machine.heap.objects o ≡ Some (objects.Instance class fields))
-    (object_typed : IsTypedObject types machine.heap (objects.Instance class fields)) (is : IsInstanceChild types state x shape class child) where
+module _ (types : WorldTypes) (state child : AbstractState) (machine : MachineState) (m : Meaning) (laws : AreLawful types)
+    (sound : IsSound types state) (typed : IsTypedHeap types machine.heap) (h : Fits types state machine m)
+    (x : ℕ) (bound : Ty) (shape : Shape) (at : cell_at state x ≡ Some (cells.Unk bound false shape)) (unknown : (k : ℕ)
+    → HasCell is_known state k → AreEqual state x k → ⊥)
+    (o class : ℕ) (fields : List Value) (names : target (m x) ≡ Some o)
+    (stands : slice_get machine.heap.objects o ≡ Some (objects.Instance class fields))
+    (object_typed : IsTypedObject types machine.heap (objects.Instance class fields))
+    (is : IsInstanceChild types state x shape class child) where
   abbrev heap : Heap
   heap = machine.heap
 
@@ -366,20 +196,38 @@ module _ (types : WorldTypes) (state child : AbstractState) (machine : MachineSt
   now_x : with_values (zip is.ids fields) m x ≡ m x
   now_x = iagrees x iany_x
 
-  isort_of : (i : ℕ) (c : Cell) → with_cells ((x, cells.Obj class is.ids) ∷ zip is.ids (map (cell_of_slot types.erase shape) (types.fields class))) state i ≡ Some c → ISort i c
+  isort_of : (i : ℕ) (c : Cell)
+      → with_cells ((x, cells.Obj class is.ids) ∷ zip is.ids (map (cell_of_slot types.erase shape) (types.fields class))) state i
+      ≡ Some c → ISort i c
   isort_of i c e = elim (cases_eq x i) [
-    | inl f ↦ isplit f (some_is (sym (ap (λ (y : Option Cell). first_cell y (cell_at state i)) (cell_here (x, cells.Obj class is.ids) (zip is.ids (map (cell_of_slot types.erase shape) (types.fields class))) i f)) ∙ e))
-    | inr f ↦ later f (cell_in (zip is.ids (map (cell_of_slot types.erase shape) (types.fields class))) i) refl (sym (ap (λ (y : Option Cell). first_cell y (cell_at state i)) (cell_later (x, cells.Obj class is.ids) (zip is.ids (map (cell_of_slot types.erase shape) (types.fields class))) i f)) ∙ e)
+    | inl f ↦ isplit f (some_is
+        (sym (ap (λ (y : Option Cell). first_cell y (cell_at state i))
+        (cell_here (x, cells.Obj class is.ids) (zip is.ids (map (cell_of_slot types.erase shape) (types.fields class))) i f)) ∙ e))
+    | inr f ↦ later f (cell_in (zip is.ids (map (cell_of_slot types.erase shape) (types.fields class))) i) refl
+        (sym (ap (λ (y : Option Cell). first_cell y (cell_at state i))
+        (cell_later (x, cells.Obj class is.ids) (zip is.ids (map (cell_of_slot types.erase shape) (types.fields class))) i f)) ∙ e)
   ]
     where
-      later : (x ≡ i → ⊥) → (q : Option Cell) → cell_in (zip is.ids (map (cell_of_slot types.erase shape) (types.fields class))) i ≡ q → first_cell (cell_in (zip is.ids (map (cell_of_slot types.erase shape) (types.fields class))) i) (cell_at state i) ≡ Some c → ISort i c
+      later : (x ≡ i → ⊥) → (q : Option Cell) → cell_in (zip is.ids (map (cell_of_slot types.erase shape) (types.fields class))) i
+          ≡ q → first_cell (cell_in (zip is.ids (map (cell_of_slot types.erase shape) (types.fields class))) i) (cell_at state i)
+          ≡ Some c → ISort i c
       later f None g k =
           let there : cell_at state i ≡ Some c = ap (λ (y : Option Cell). first_cell y (cell_at state i)) (sym g) ∙ k in
           iold there (iagrees i (record { cell = c; is = there; sort_is = refl })) f
       later f (Some d) g k =
           let same : d ≡ c = some_is (ap (λ (y : Option Cell). first_cell y (cell_at state i)) (sym g) ∙ k) in
           let r = field_pair is.ids (types.fields class) (cell_of_slot types.erase shape) fields m i c (g ∙ ap Some same) long in
-          ifield (record { place = r.0; slot = r.1.0; value = r.1.1.0; id_is = r.1.1.1.0; slot_is = r.1.1.1.1.0; value_is = r.1.1.1.1.1.0; cell_is = r.1.1.1.1.1.1.0; now_is = r.1.1.1.1.1.1.1 }) f
+          ifield (record {
+            place = r.0;
+            slot = r.1.0;
+            value = r.1.1.0;
+            id_is = r.1.1.1.0;
+            slot_is = r.1.1.1.1.0;
+            value_is =
+                r.1.1.1.1.1.0;
+            cell_is = r.1.1.1.1.1.1.0;
+            now_is = r.1.1.1.1.1.1.1;
+          }) f
 
   -- what a field's cell tells
   slot_described : (s : Slot) (v : Value) → Holds types heap s v → Describes types heap inow (cell_of_slot types.erase shape s) v
@@ -394,7 +242,8 @@ module _ (types : WorldTypes) (state child : AbstractState) (machine : MachineSt
   field_holds i c f = held_at types heap (types.fields class) fields f.place f.slot f.value object_typed.1.1 f.slot_is f.value_is
 
   field_described : (i : ℕ) (c : Cell) (f : Field i c) → Describes types heap inow c f.value
-  field_described i c f = subst (λ (d : Cell). Describes types heap inow d f.value) f.cell_is (slot_described f.slot f.value (field_holds i c f))
+  field_described i c f = subst (λ (d : Cell). Describes types heap inow d f.value) f.cell_is
+      (slot_described f.slot f.value (field_holds i c f))
 
   -- a field that names an object holds a reference
   slot_sound : (s : Slot) → IsSlot types.classes s → IsSoundCell types state (cell_of_slot types.erase shape s)
@@ -402,7 +251,9 @@ module _ (types : WorldTypes) (state child : AbstractState) (machine : MachineSt
   slot_sound (slots.Ref y) r = ((laws.of_world y (types.erase y) (laws.erase_up y r)).1, laws.erase_erased y r)
 
   field_sound : (i : ℕ) (c : Cell) (f : Field i c) → IsSoundCell types state c
-  field_sound i c f = subst (λ (d : Cell). IsSoundCell types state d) f.cell_is (slot_sound f.slot (all_at (IsSlot types.classes) (types.fields class) f.place f.slot (laws.slots_of_world class object_typed.0) f.slot_is))
+  field_sound i c f = subst (λ (d : Cell). IsSoundCell types state d) f.cell_is
+      (slot_sound f.slot (all_at (IsSlot types.classes) (types.fields class) f.place f.slot
+      (laws.slots_of_world class object_typed.0) f.slot_is))
 
   reference_slot : (s : Slot) (v : Value) (p : ℕ) → Holds types heap s v → target v ≡ Some p → (y : Ty) × (s ≡ slots.Ref y)
   reference_slot (slots.Num kind) (values.Int n) p t e = absurd (none-some p e)
@@ -439,41 +290,53 @@ module _ (types : WorldTypes) (state child : AbstractState) (machine : MachineSt
   shape_x = h.shapes x (cells.Unk bound false shape) shape at refl
 
   -- two fields whose regions meet are in no tree
-  no_tree : (i j : ℕ) (c d : Cell) (f : Field i c) (g : Field j d) (p : ℕ) → i ≢ j → Region heap f.value p → Region heap g.value p → shape ≡ Tree → ⊥
+  no_tree : (i j : ℕ) (c d : Cell) (f : Field i c) (g : Field j d) (p : ℕ) → i ≢ j → Region heap f.value p → Region heap g.value p
+      → shape ≡ Tree → ⊥
   no_tree i j c d f g p differ ra rb s =
       let tree : HasShape Tree heap (m x) = subst (λ (y : Shape). HasShape y heap (m x)) s shape_x in
-      let one = held_path heap (m x) f.value o f.place (objects.Instance class fields) names stands f.value_is ra.start p ra.reaches.path ra.names ra.reaches.leads in
-      let other = held_path heap (m x) g.value o g.place (objects.Instance class fields) names stands g.value_is rb.start p rb.reaches.path rb.names rb.reaches.leads in
+      let one = held_path heap (m x) f.value o f.place (objects.Instance class fields) names stands f.value_is ra.start p
+      ra.reaches.path ra.names ra.reaches.leads in
+      let other = held_path heap (m x) g.value o g.place (objects.Instance class fields) names stands g.value_is rb.start p
+      rb.reaches.path rb.names rb.reaches.leads in
       let same : f.place ≡ g.place = ap first_of (tree o names (f.place ∷ ra.reaches.path) (g.place ∷ rb.reaches.path) p one other) in
       differ (some_is (sym f.id_is ∙ ap (slice_get is.ids) same ∙ g.id_is))
 
-  itarget : (i p : ℕ) (v : Value) → with_values (zip is.ids fields) m i ≡ v → target (with_values (zip is.ids fields) m i) ≡ Some p → target v ≡ Some p
+  itarget : (i p : ℕ) (v : Value) → with_values (zip is.ids fields) m i ≡ v → target (with_values (zip is.ids fields) m i) ≡ Some p
+      → target v ≡ Some p
   itarget i p v e t = ap target (sym e) ∙ t
 
-  iregion : (i p : ℕ) (v : Value) → with_values (zip is.ids fields) m i ≡ v → Region heap (with_values (zip is.ids fields) m i) p → Region heap v p
+  iregion : (i p : ℕ) (v : Value) → with_values (zip is.ids fields) m i ≡ v → Region heap (with_values (zip is.ids fields) m i) p
+      → Region heap v p
   iregion i p v e r = subst (λ (u : Value). Region heap u p) e r
 
   at_x : (i p : ℕ) → x ≡ i → target (with_values (zip is.ids fields) m i) ≡ Some p → target (m x) ≡ Some p
   at_x i p f t = ap target (sym now_x) ∙ ap (λ (j : ℕ). target (with_values (zip is.ids fields) m j)) f ∙ t
 
   -- ---- pairs
-  child_cell : (i : ℕ) (c : Cell) → with_cells ((x, cells.Obj class is.ids) ∷ zip is.ids (map (cell_of_slot types.erase shape) (types.fields class))) state i ≡ Some c → cell_in child.cells i ≡ Some c
+  child_cell : (i : ℕ) (c : Cell)
+      → with_cells ((x, cells.Obj class is.ids) ∷ zip is.ids (map (cell_of_slot types.erase shape) (types.fields class))) state i
+      ≡ Some c → cell_in child.cells i ≡ Some c
   child_cell i c e = is.is.cells i ∙ e
 
-  instance_cell : with_cells ((x, cells.Obj class is.ids) ∷ zip is.ids (map (cell_of_slot types.erase shape) (types.fields class))) state x ≡ Some (cells.Obj class is.ids)
-  instance_cell = ap (λ (y : Option Cell). first_cell y (cell_at state x)) (cell_here (x, cells.Obj class is.ids) (zip is.ids (map (cell_of_slot types.erase shape) (types.fields class))) x refl)
+  instance_cell : with_cells ((x, cells.Obj class is.ids) ∷ zip is.ids (map (cell_of_slot types.erase shape) (types.fields class)))
+      state x ≡ Some (cells.Obj class is.ids)
+  instance_cell = ap (λ (y : Option Cell). first_cell y (cell_at state x))
+      (cell_here (x, cells.Obj class is.ids) (zip is.ids (map (cell_of_slot types.erase shape) (types.fields class))) x refl)
 
   -- a hazy or known id that stands for something in a field's region shares with x
-  shares_x : (b p : ℕ) (d : Cell) → cell_at state b ≡ Some d → (x ≡ b → ⊥) → is_reference d ≡ true → target (m b) ≡ Some p → Region heap (m x) p → Share state x b
+  shares_x : (b p : ℕ) (d : Cell) → cell_at state b ≡ Some d → (x ≡ b → ⊥) → is_reference d ≡ true → target (m b) ≡ Some p
+      → Region heap (m x) p → Share state x b
   shares_x b p d e n r t region = elim (known_or_hazy d r) [
     | inl k ↦ has_swapped b x state.share ∙ h.inside b x p (record { cell = d; is = e; sort_is = k }) ihazy_x t region
     | inr z ↦ h.meeting x b p ihazy_x (record { cell = d; is = e; sort_is = z }) n region (iitself (m b) p t)
   ]
 
-  one_object : (i b p : ℕ) (c d : Cell) (f : Field i c) → with_cells ((x, cells.Obj class is.ids) ∷ zip is.ids (map (cell_of_slot types.erase shape) (types.fields class))) state i ≡ Some c
+  one_object : (i b p : ℕ) (c d : Cell) (f : Field i c)
+      → with_cells ((x, cells.Obj class is.ids) ∷ zip is.ids (map (cell_of_slot types.erase shape) (types.fields class))) state i ≡ Some c
       → with_cells ((x, cells.Obj class is.ids) ∷ zip is.ids (map (cell_of_slot types.erase shape) (types.fields class))) state b ≡ Some d
       → target f.value ≡ Some p → ((ob : Object) → slice_get heap.objects p ≡ Some ob → Tells types d ob)
-      → JoinsFields (types.fields class) is.ids state x shape i b → MayBeOne types.sub (JoinsFields (types.fields class) is.ids state x shape) child.cells i b
+      → JoinsFields (types.fields class) is.ids state x shape i b
+      → MayBeOne types.sub (JoinsFields (types.fields class) is.ids state x shape) child.cells i b
   one_object i b p c d f ec ed tf td j =
       let ob = object_at types heap inow c f.value p (field_described i c f) tf in
       record {
@@ -487,7 +350,8 @@ module _ (types : WorldTypes) (state child : AbstractState) (machine : MachineSt
             (td ob.0 ob.1);
       }
 
-  old_tells : (b p : ℕ) (d : Cell) → cell_at state b ≡ Some d → target (m b) ≡ Some p → (ob : Object) → slice_get heap.objects p ≡ Some ob → Tells types d ob
+  old_tells : (b p : ℕ) (d : Cell) → cell_at state b ≡ Some d → target (m b) ≡ Some p → (ob : Object)
+      → slice_get heap.objects p ≡ Some ob → Tells types d ob
   old_tells b p d e t ob s = tells types state heap m laws typed d (m b) p ob (sound_at types state b d sound e) (h.cells b d e) t s
 
   x_tells : (p : ℕ) → target (m x) ≡ Some p → (ob : Object) → slice_get heap.objects p ≡ Some ob → Tells types (cells.Obj class is.ids) ob
@@ -498,12 +362,14 @@ module _ (types : WorldTypes) (state child : AbstractState) (machine : MachineSt
       record {
         t = class_type class;
         is = refl;
-        above = subst (λ (y : Ty). IsTrue (types.sub y (class_type class))) own (laws.reflexive (class_type class) (omega arith, object_typed.0));
+        above = subst (λ (y : Ty). IsTrue (types.sub y (class_type class))) own
+            (laws.reflexive (class_type class) (omega arith, object_typed.0));
         erased = laws.made_is_erased class object_typed.0 object_typed.1.0;
         exact = λ k. own;
       }
 
-  field_tells : (j p : ℕ) (d : Cell) (g : Field j d) → target g.value ≡ Some p → (ob : Object) → slice_get heap.objects p ≡ Some ob → Tells types d ob
+  field_tells : (j p : ℕ) (d : Cell) (g : Field j d) → target g.value ≡ Some p → (ob : Object) → slice_get heap.objects p ≡ Some ob
+      → Tells types d ob
   field_tells j p d g t ob s = tells types state heap inow laws typed d g.value p ob (field_sound j d g) (field_described j d g) t s
 
   -- a field and another id, in this order
@@ -513,75 +379,123 @@ module _ (types : WorldTypes) (state child : AbstractState) (machine : MachineSt
       → i ≢ b → target f.value ≡ Some p → target (with_values (zip is.ids fields) m b) ≡ Some p → wants_one i b
   field_with i b p c d f (iold e s n) ec ed differ tf tb =
       let t = itarget b p (m b) s tb in
-      let why = shares_x b p d e n (names_reference types machine m d (m b) p (h.cells b d e) t) t (in_object i c f p (iitself f.value p tf)) in
+      let why = shares_x b p d e n (names_reference types machine m d (m b) p (h.cells b d e) t) t
+      (in_object i c f p (iitself f.value p tf)) in
       inr (one_object i b p c d f ec ed tf (old_tells b p d e t) (record { is_field = is_field i c f p tf; why = inl why }))
   field_with i b p c d f (isplit g k) ec ed differ tf tb =
       let t = at_x b p g tb in
       let there : target f.value ≡ Some o = tf ∙ sym t ∙ names in
-      let any : shape ≡ Any = held_itself heap (m x) f.value o f.place (objects.Instance class fields) names stands f.value_is shape shape_x there in
-      inr (one_object i b p c d f ec ed tf (λ ob s. subst (λ (y : Cell). Tells types y ob) k (x_tells p t ob s)) (record { is_field = is_field i c f p tf; why = inr (inr (any, sym g)) }))
+      let any : shape ≡ Any = held_itself heap (m x) f.value o f.place (objects.Instance class fields) names stands f.value_is shape
+      shape_x there in
+      inr (one_object i b p c d f ec ed tf (λ ob s. subst (λ (y : Cell). Tells types y ob) k (x_tells p t ob s))
+      (record { is_field = is_field i c f p tf; why = inr (inr (any, sym g)) }))
   field_with i b p c d f (ifield g n) ec ed differ tf tb =
       let t = itarget b p g.value g.now_is tb in
       inr (one_object i b p c d f ec ed tf (field_tells b p d g t)
-      (record { is_field = is_field i c f p tf; why = inr (inl (no_tree i b c d f g p differ (iitself f.value p tf) (iitself g.value p t), is_field b d g p t)) }))
+      (record {
+        is_field = is_field i c f p tf;
+        why = inr
+            (inl (no_tree i b c d f g p differ (iitself f.value p tf) (iitself g.value p t), is_field b d g p t));
+      }))
 
   ialiases : (a b p : ℕ) (c d : Cell) → ISort a c → ISort b d
       → with_cells ((x, cells.Obj class is.ids) ∷ zip is.ids (map (cell_of_slot types.erase shape) (types.fields class))) state a ≡ Some c
       → with_cells ((x, cells.Obj class is.ids) ∷ zip is.ids (map (cell_of_slot types.erase shape) (types.fields class))) state b ≡ Some d
-      → a ≢ b → target (with_values (zip is.ids fields) m a) ≡ Some p → target (with_values (zip is.ids fields) m b) ≡ Some p → wants_one a b ⊎ wants_one b a
+      → a ≢ b → target (with_values (zip is.ids fields) m a) ≡ Some p → target (with_values (zip is.ids fields) m b) ≡ Some p
+      → wants_one a b ⊎ wants_one b a
   ialiases a b p c d (ifield f n) y ec ed differ ta tb = inl (field_with a b p c d f y ec ed differ (itarget a p f.value f.now_is ta) tb)
-  ialiases a b p c d (iold e s n) (ifield g q) ec ed differ ta tb = inr (field_with b a p d c g (iold e s n) ed ec (λ w. differ (sym w)) (itarget b p g.value g.now_is tb) ta)
-  ialiases a b p c d (isplit e s) (ifield g q) ec ed differ ta tb = inr (field_with b a p d c g (isplit e s) ed ec (λ w. differ (sym w)) (itarget b p g.value g.now_is tb) ta)
-  ialiases a b p c d (iold e s n) (iold f t q) ec ed differ ta tb = inl (inl (h.aliases a b p (record { cell = c; is = e; sort_is = refl }) (record { cell = d; is = f; sort_is = refl }) differ (itarget a p (m a) s ta) (itarget b p (m b) t tb)))
-  ialiases a b p c d (iold e s n) (isplit f t) ec ed differ ta tb = inl (inl (subst (λ (j : ℕ). AreEqual state a j) f (h.aliases a x p (record { cell = c; is = e; sort_is = refl }) iany_x (λ w. n (sym w)) (itarget a p (m a) s ta) (at_x b p f tb))))
-  ialiases a b p c d (isplit e s) (iold f t n) ec ed differ ta tb = inl (inl (subst (λ (j : ℕ). AreEqual state j b) e (h.aliases x b p iany_x (record { cell = d; is = f; sort_is = refl }) n (at_x a p e ta) (itarget b p (m b) t tb))))
+  ialiases a b p c d (iold e s n) (ifield g q) ec ed differ ta tb = inr
+      (field_with b a p d c g (iold e s n) ed ec (λ w. differ (sym w)) (itarget b p g.value g.now_is tb) ta)
+  ialiases a b p c d (isplit e s) (ifield g q) ec ed differ ta tb = inr
+      (field_with b a p d c g (isplit e s) ed ec (λ w. differ (sym w)) (itarget b p g.value g.now_is tb) ta)
+  ialiases a b p c d (iold e s n) (iold f t q) ec ed differ ta tb = inl
+      (inl (h.aliases a b p (record { cell = c; is = e; sort_is = refl }) (record { cell = d; is = f; sort_is = refl }) differ
+      (itarget a p (m a) s ta) (itarget b p (m b) t tb)))
+  ialiases a b p c d (iold e s n) (isplit f t) ec ed differ ta tb = inl
+      (inl (subst (λ (j : ℕ). AreEqual state a j) f
+      (h.aliases a x p (record { cell = c; is = e; sort_is = refl }) iany_x (λ w. n (sym w)) (itarget a p (m a) s ta)
+      (at_x b p f tb))))
+  ialiases a b p c d (isplit e s) (iold f t n) ec ed differ ta tb = inl
+      (inl (subst (λ (j : ℕ). AreEqual state j b) e
+      (h.aliases x b p iany_x (record { cell = d; is = f; sort_is = refl }) n (at_x a p e ta) (itarget b p (m b) t tb))))
   ialiases a b p c d (isplit e s) (isplit f t) ec ed differ ta tb = absurd (differ (sym e ∙ f))
 
-  iapart : (a b p : ℕ) (c d : Cell) → ISort a c → ISort b d → is_known c ≡ true → is_known d ≡ true → a ≢ b → target (with_values (zip is.ids fields) m a) ≡ Some p → target (with_values (zip is.ids fields) m b) ≡ Some p → ⊥
+  iapart : (a b p : ℕ) (c d : Cell) → ISort a c → ISort b d → is_known c ≡ true → is_known d ≡ true → a ≢ b
+      → target (with_values (zip is.ids fields) m a) ≡ Some p → target (with_values (zip is.ids fields) m b) ≡ Some p → ⊥
   iapart a b p c d (ifield f n) y k l differ ta tb = unknown_field a c f k
   iapart a b p c d (iold e s n) (ifield g q) k l differ ta tb = unknown_field b d g l
   iapart a b p c d (isplit e s) (ifield g q) k l differ ta tb = unknown_field b d g l
-  iapart a b p c d (iold e s n) (iold f t q) k l differ ta tb = known_apart types state machine m sound.well_formed h a b p (record { cell = c; is = e; sort_is = k }) (record { cell = d; is = f; sort_is = l }) differ (itarget a p (m a) s ta) (itarget b p (m b) t tb)
-  iapart a b p c d (iold e s n) (isplit f t) k l differ ta tb = unknown a (record { cell = c; is = e; sort_is = k }) (h.aliases x a p iany_x (record { cell = c; is = e; sort_is = refl }) n (at_x b p f tb) (itarget a p (m a) s ta))
-  iapart a b p c d (isplit e s) (iold f t n) k l differ ta tb = unknown b (record { cell = d; is = f; sort_is = l }) (h.aliases x b p iany_x (record { cell = d; is = f; sort_is = refl }) n (at_x a p e ta) (itarget b p (m b) t tb))
+  iapart a b p c d (iold e s n) (iold f t q) k l differ ta tb = known_apart types state machine m sound.well_formed h a b p
+      (record { cell = c; is = e; sort_is = k }) (record { cell = d; is = f; sort_is = l }) differ (itarget a p (m a) s ta)
+      (itarget b p (m b) t tb)
+  iapart a b p c d (iold e s n) (isplit f t) k l differ ta tb = unknown a (record { cell = c; is = e; sort_is = k })
+      (h.aliases x a p iany_x (record { cell = c; is = e; sort_is = refl }) n (at_x b p f tb) (itarget a p (m a) s ta))
+  iapart a b p c d (isplit e s) (iold f t n) k l differ ta tb = unknown b (record { cell = d; is = f; sort_is = l })
+      (h.aliases x b p iany_x (record { cell = d; is = f; sort_is = refl }) n (at_x a p e ta) (itarget b p (m b) t tb))
   iapart a b p c d (isplit e s) (isplit f t) k l differ ta tb = differ (sym e ∙ f)
 
-  field_meets : (i b p : ℕ) (c d : Cell) (f : Field i c) → ISort b d → is_hazy c ≡ true → is_hazy d ≡ true → i ≢ b → Region heap f.value p → Region heap (with_values (zip is.ids fields) m b) p → wants_share i b
-  field_meets i b p c d f (iold e s n) k l differ ra rb = inr (record { is_field = hazy_field i c f k; why = inl (h.meeting x b p ihazy_x (record { cell = d; is = e; sort_is = l }) n (in_object i c f p ra) (iregion b p (m b) s rb)) })
+  field_meets : (i b p : ℕ) (c d : Cell) (f : Field i c) → ISort b d → is_hazy c ≡ true → is_hazy d ≡ true → i ≢ b
+      → Region heap f.value p → Region heap (with_values (zip is.ids fields) m b) p → wants_share i b
+  field_meets i b p c d f (iold e s n) k l differ ra rb = inr
+      (record {
+        is_field = hazy_field i c f k;
+        why = inl
+            (h.meeting x b p ihazy_x (record { cell = d; is = e; sort_is = l }) n (in_object i c f p ra) (iregion b p (m b) s rb));
+      })
   field_meets i b p c d f (isplit g t) k l differ ra rb = absurd (false≢true (ap is_hazy t ∙ l))
-  field_meets i b p c d f (ifield g n) k l differ ra rb = inr (record { is_field = hazy_field i c f k; why = inr (inl (no_tree i b c d f g p differ ra (iregion b p g.value g.now_is rb), hazy_field b d g l)) })
+  field_meets i b p c d f (ifield g n) k l differ ra rb = inr
+      (record {
+        is_field = hazy_field i c f k;
+        why = inr
+            (inl (no_tree i b c d f g p differ ra (iregion b p g.value g.now_is rb), hazy_field b d g l));
+      })
 
-  imeeting : (a b p : ℕ) (c d : Cell) → ISort a c → ISort b d → is_hazy c ≡ true → is_hazy d ≡ true → a ≢ b → Region heap (with_values (zip is.ids fields) m a) p → Region heap (with_values (zip is.ids fields) m b) p → wants_share a b ⊎ wants_share b a
+  imeeting : (a b p : ℕ) (c d : Cell) → ISort a c → ISort b d → is_hazy c ≡ true → is_hazy d ≡ true → a ≢ b
+      → Region heap (with_values (zip is.ids fields) m a) p → Region heap (with_values (zip is.ids fields) m b) p
+      → wants_share a b ⊎ wants_share b a
   imeeting a b p c d (ifield f n) y k l differ ra rb = inl (field_meets a b p c d f y k l differ (iregion a p f.value f.now_is ra) rb)
   imeeting a b p c d (isplit e s) y k l differ ra rb = absurd (false≢true (ap is_hazy s ∙ k))
-  imeeting a b p c d (iold e s n) (ifield g q) k l differ ra rb = inr (field_meets b a p d c g (iold e s n) l k (λ w. differ (sym w)) (iregion b p g.value g.now_is rb) ra)
+  imeeting a b p c d (iold e s n) (ifield g q) k l differ ra rb = inr
+      (field_meets b a p d c g (iold e s n) l k (λ w. differ (sym w)) (iregion b p g.value g.now_is rb) ra)
   imeeting a b p c d (iold e s n) (isplit f t) k l differ ra rb = absurd (false≢true (ap is_hazy t ∙ l))
-  imeeting a b p c d (iold e s n) (iold f t q) k l differ ra rb = inl (inl (h.meeting a b p (record { cell = c; is = e; sort_is = k }) (record { cell = d; is = f; sort_is = l }) differ (iregion a p (m a) s ra) (iregion b p (m b) t rb)))
+  imeeting a b p c d (iold e s n) (iold f t q) k l differ ra rb = inl
+      (inl (h.meeting a b p (record { cell = c; is = e; sort_is = k }) (record { cell = d; is = f; sort_is = l }) differ
+      (iregion a p (m a) s ra) (iregion b p (m b) t rb)))
 
-  iinside : (a b p : ℕ) (c d : Cell) → ISort a c → ISort b d → is_known c ≡ true → is_hazy d ≡ true → target (with_values (zip is.ids fields) m a) ≡ Some p → Region heap (with_values (zip is.ids fields) m b) p → wants_share a b ⊎ wants_share b a
+  iinside : (a b p : ℕ) (c d : Cell) → ISort a c → ISort b d → is_known c ≡ true → is_hazy d ≡ true
+      → target (with_values (zip is.ids fields) m a) ≡ Some p → Region heap (with_values (zip is.ids fields) m b) p
+      → wants_share a b ⊎ wants_share b a
   iinside a b p c d (ifield f n) y k l ta rb = absurd (unknown_field a c f k)
-  iinside a b p c d (iold e s n) (iold f t q) k l ta rb = inl (inl (h.inside a b p (record { cell = c; is = e; sort_is = k }) (record { cell = d; is = f; sort_is = l }) (itarget a p (m a) s ta) (iregion b p (m b) t rb)))
+  iinside a b p c d (iold e s n) (iold f t q) k l ta rb = inl
+      (inl (h.inside a b p (record { cell = c; is = e; sort_is = k }) (record { cell = d; is = f; sort_is = l })
+      (itarget a p (m a) s ta) (iregion b p (m b) t rb)))
   iinside a b p c d (iold e s n) (isplit f t) k l ta rb = absurd (false≢true (ap is_hazy t ∙ l))
   iinside a b p c d (iold e s n) (ifield g q) k l ta rb =
-      let share = h.inside a x p (record { cell = c; is = e; sort_is = k }) ihazy_x (itarget a p (m a) s ta) (in_object b d g p (iregion b p g.value g.now_is rb)) in
+      let share = h.inside a x p (record { cell = c; is = e; sort_is = k }) ihazy_x (itarget a p (m a) s ta)
+      (in_object b d g p (iregion b p g.value g.now_is rb)) in
       inr (inr (record { is_field = hazy_field b d g l; why = inl (has_swapped a x state.share ∙ share) }))
-  iinside a b p c d (isplit e s) (iold f t n) k l ta rb = inl (inl (subst (λ (j : ℕ). Share state j b) e (h.meeting x b p ihazy_x (record { cell = d; is = f; sort_is = l }) n (iitself (m x) p (at_x a p e ta)) (iregion b p (m b) t rb))))
+  iinside a b p c d (isplit e s) (iold f t n) k l ta rb = inl
+      (inl (subst (λ (j : ℕ). Share state j b) e
+      (h.meeting x b p ihazy_x (record { cell = d; is = f; sort_is = l }) n (iitself (m x) p (at_x a p e ta))
+      (iregion b p (m b) t rb))))
   iinside a b p c d (isplit e s) (isplit f t) k l ta rb = absurd (false≢true (ap is_hazy t ∙ l))
   iinside a b p c d (isplit e s) (ifield g q) k l ta rb =
       let place : p ≡ o = some_is (sym (at_x a p e ta) ∙ names) in
       let cycle : Region heap g.value o = subst (λ (y : ℕ). Region heap g.value y) place (iregion b p g.value g.now_is rb) in
-      let any : shape ≡ Any = held_cycle heap (m x) g.value o g.place (objects.Instance class fields) names stands g.value_is shape shape_x cycle in
+      let any : shape ≡ Any = held_cycle heap (m x) g.value o g.place (objects.Instance class fields) names stands g.value_is shape
+      shape_x cycle in
       inr (inr (record { is_field = hazy_field b d g l; why = inr (inr (any, sym e)) }))
 
   icells : (i : ℕ) (c : Cell) → ISort i c → Describes types heap inow c (with_values (zip is.ids fields) m i)
   icells i c (iold e s n) = cell_carried types state heap heap m inow sound.well_formed iagrees (λ r ob f. f) i c e (h.cells i c e)
-  icells i c (isplit f g) = subst (λ (j : ℕ). Describes types heap inow c (with_values (zip is.ids fields) m j)) f (subst (λ (d : Cell). Describes types heap inow d (with_values (zip is.ids fields) m x)) g (record {
-    place = o;
-    object = objects.Instance class fields;
-    names = now_x ∙ ref_of (m x) o names;
-    stands = stands;
-    holds = ap (objects.Instance class) (sym (values_are m is.ids fields is.fresh.rise long));
-  }))
+  icells i c (isplit f g) = subst (λ (j : ℕ). Describes types heap inow c (with_values (zip is.ids fields) m j)) f
+      (subst (λ (d : Cell). Describes types heap inow d (with_values (zip is.ids fields) m x)) g (record {
+        place = o;
+        object = objects.Instance class fields;
+        names = now_x ∙ ref_of (m x) o names;
+        stands = stands;
+        holds = ap (objects.Instance class) (sym (values_are m is.ids fields is.fresh.rise long));
+      }))
   icells i c (ifield f n) = subst (λ (v : Value). Describes types heap inow c v) (sym f.now_is) (field_described i c f)
 
   slot_shape : (s : Slot) (t : Shape) → shape_of (cell_of_slot types.erase shape s) ≡ Some t → t ≡ shape
@@ -593,9 +507,12 @@ module _ (types : WorldTypes) (state child : AbstractState) (machine : MachineSt
   ishapes i c s (isplit f t) g = absurd (none-some s (ap shape_of t ∙ g))
   ishapes i c s (ifield f n) g =
       let same : s ≡ shape = slot_shape f.slot s (ap shape_of f.cell_is ∙ g) in
-      subst (λ (v : Value). HasShape s heap v) (sym f.now_is) (subst (λ (y : Shape). HasShape y heap f.value) (sym same) (held_shape heap (m x) f.value o f.place (objects.Instance class fields) names stands f.value_is shape shape_x))
+      subst (λ (v : Value). HasShape s heap v) (sym f.now_is)
+      (subst (λ (y : Shape). HasShape y heap f.value) (sym same)
+      (held_shape heap (m x) f.value o f.place (objects.Instance class fields) names stands f.value_is shape shape_x))
 
-  instance_fits : FitsBy types state.frames state.throwing (with_cells ((x, cells.Obj class is.ids) ∷ zip is.ids (map (cell_of_slot types.erase shape) (types.fields class))) state)
+  instance_fits : FitsBy types state.frames state.throwing
+      (with_cells ((x, cells.Obj class is.ids) ∷ zip is.ids (map (cell_of_slot types.erase shape) (types.fields class))) state)
       (λ a b. AreEqual state a b ⊎ MayBeOne types.sub (JoinsFields (types.fields class) is.ids state x shape) child.cells a b)
       (λ a b. Share state a b ⊎ JoinsFields (types.fields class) is.ids state x shape a b) machine (with_values (zip is.ids fields) m)
   instance_fits = record {
@@ -612,7 +529,8 @@ module _ (types : WorldTypes) (state child : AbstractState) (machine : MachineSt
   pub instance_goes : Goes types state machine m (plain_link false None) child machine
   instance_goes = record {
     meaning_after = inow;
-    fits = fits_given types state.frames state.throwing (with_cells ((x, cells.Obj class is.ids) ∷ zip is.ids (map (cell_of_slot types.erase shape) (types.fields class))) state)
+    fits = fits_given types state.frames state.throwing
+        (with_cells ((x, cells.Obj class is.ids) ∷ zip is.ids (map (cell_of_slot types.erase shape) (types.fields class))) state)
         (λ a b. AreEqual state a b ⊎ MayBeOne types.sub (JoinsFields (types.fields class) is.ids state x shape) child.cells a b)
         (λ a b. Share state a b ⊎ JoinsFields (types.fields class) is.ids state x shape a b) machine inow instance_fits child is.is;
     edge = record {
@@ -625,55 +543,98 @@ module _ (types : WorldTypes) (state child : AbstractState) (machine : MachineSt
 -- ---- the whole split
 
 pub classes_split : ClassesSplit
-classes_split types state children machine m x bound wanted shape laws sound typed closed h at comparable has unknown zip_is = elim (h.cells x (cells.Unk bound false shape) at) [
-  | inl d ↦ absurd (false≢true d.0)
-  | inr d ↦ by_object d.place d.object (ap target d.names) d.stands d.holds (wanted_below d.place d.object d.names d.stands)
-]
+classes_split types state children machine m x bound wanted shape laws sound typed closed h at comparable has unknown zip_is = elim
+    (h.cells x (cells.Unk bound false shape) at) [
+      | inl d ↦ absurd (false≢true d.0)
+      | inr d ↦ by_object d.place d.object (ap target d.names) d.stands d.holds (wanted_below d.place d.object d.names d.stands)
+    ]
   where
     cases_are : cases_of types bound wanted ≡ cases_below types (lower_of types.sub bound wanted)
     cases_are = cond-true (is_comparable types.sub bound wanted) (cases_below types (lower_of types.sub bound wanted)) [] comparable
 
-    wanted_below : (o : ℕ) (ob : Object) → m x ≡ values.Ref o → slice_get machine.heap.objects o ≡ Some ob → IsTrue (types.sub (type_of ob) wanted)
+    wanted_below : (o : ℕ) (ob : Object) → m x ≡ values.Ref o → slice_get machine.heap.objects o ≡ Some ob
+        → IsTrue (types.sub (type_of ob) wanted)
     wanted_below o ob e s =
         let t : HasType types machine.heap (values.Ref o) wanted = subst (λ (v : Value). HasType types machine.heap v wanted) e has in
         subst (λ (y : Object). IsTrue (types.sub (type_of y) wanted)) (some_is (sym t.1.0 ∙ s)) t.1.1
 
-    low_below : (ob : Object) → IsTrue (types.sub (type_of ob) bound) → IsTrue (types.sub (type_of ob) wanted) → IsTrue (types.sub (type_of ob) (lower_of types.sub bound wanted))
+    low_below : (ob : Object) → IsTrue (types.sub (type_of ob) bound) → IsTrue (types.sub (type_of ob) wanted)
+        → IsTrue (types.sub (type_of ob) (lower_of types.sub bound wanted))
     low_below ob a b = elim (cases_Bool (types.sub bound wanted)) [
       | inl e ↦ subst (λ (t : Ty). IsTrue (types.sub (type_of ob) t)) (sym (cond-true (types.sub bound wanted) bound wanted e)) a
       | inr e ↦ subst (λ (t : Ty). IsTrue (types.sub (type_of ob) t)) (sym (cond-false (types.sub bound wanted) bound wanted e)) b
     ]
 
-    child_at : (case : Case) → Stands (cases_below types (lower_of types.sub bound wanted)) case → (n : ℕ) × ((child : AbstractState) × ((slice_get children n ≡ Some child) × IsCase types state x shape case child))
+    child_at : (case : Case) → Stands (cases_below types (lower_of types.sub bound wanted)) case
+        → (n : ℕ) × ((child : AbstractState) × ((slice_get children n ≡ Some child) × IsCase types state x shape case child))
     child_at case s =
-        let r = zip_left (IsCase types state x shape) (cases_of types bound wanted) children s.0 case zip_is (ap (λ (cs : List Case). slice_get cs s.0) cases_are ∙ s.1) in
+        let r = zip_left (IsCase types state x shape) (cases_of types bound wanted) children s.0 case zip_is
+        (ap (λ (cs : List Case). slice_get cs s.0) cases_are ∙ s.1) in
         (s.0, (r.0, r.1))
 
-    by_object : (o : ℕ) (ob : Object) → target (m x) ≡ Some o → slice_get machine.heap.objects o ≡ Some ob → IsTrue (types.sub (type_of ob) bound) → IsTrue (types.sub (type_of ob) wanted) → GoesToCase types state machine m children
+    by_object : (o : ℕ) (ob : Object) → target (m x) ≡ Some o → slice_get machine.heap.objects o ≡ Some ob
+        → IsTrue (types.sub (type_of ob) bound) → IsTrue (types.sub (type_of ob) wanted) → GoesToCase types state machine m children
     by_object o (objects.Instance class fields) t s a b =
         let object_typed = all_at (IsTypedObject types machine.heap) machine.heap.objects o (objects.Instance class fields) typed s in
-        let c = child_at (instance class) (instance_stands types laws (lower_of types.sub bound wanted) class object_typed.0 object_typed.1.0 (low_below (objects.Instance class fields) a b)) in
-        record { n = c.0; child = c.1.0; is = c.1.1.0; goes = instance_goes types state c.1.0 machine m laws sound typed h x bound shape at unknown o class fields t s object_typed c.1.1.1 }
-    by_object o (objects.Nums kind items) t s a b =
-        let object_typed = all_at (IsTypedObject types machine.heap) machine.heap.objects o (objects.Nums kind items) typed s in
-        let c = child_at (numbers kind) (numbers_stand types laws (lower_of types.sub bound wanted) kind (low_below (objects.Nums kind items) a b)) in
+        let c = child_at (instance class) (instance_stands types laws (lower_of types.sub bound wanted) class object_typed.0
+        object_typed.1.0 (low_below (objects.Instance class fields) a b)) in
         record {
           n = c.0;
           child = c.1.0;
           is = c.1.1.0;
-          goes = array_goes types state machine m sound.well_formed h x bound shape at unknown c.1.1.1.len (length items) (cells.Nums kind c.1.1.1.len) c.1.1.1.fresh object_typed.0
-              (record { place = o; object = objects.Nums kind items; names = ref_of (m x) o t; stands = s; holds = record { items = items; is = refl; length_is = valued_here (c.1.1.1.len, values.Int (pos (length items))) [] m c.1.1.1.len refl } })
+          goes = instance_goes types state c.1.0 machine m laws sound typed h x bound
+              shape at unknown o class fields t s object_typed c.1.1.1;
+        }
+    by_object o (objects.Nums kind items) t s a b =
+        let object_typed = all_at (IsTypedObject types machine.heap) machine.heap.objects o (objects.Nums kind items) typed s in
+        let c = child_at (numbers kind)
+        (numbers_stand types laws (lower_of types.sub bound wanted) kind (low_below (objects.Nums kind items) a b)) in
+        record {
+          n = c.0;
+          child = c.1.0;
+          is = c.1.1.0;
+          goes = array_goes types state machine m sound.well_formed h x bound shape at unknown c.1.1.1.len (length items)
+              (cells.Nums kind c.1.1.1.len) c.1.1.1.fresh object_typed.0
+              (record {
+                place = o;
+                object = objects.Nums kind items;
+                names = ref_of (m x) o t;
+                stands = s;
+                holds = record {
+                  items = items;
+                  is = refl;
+                  length_is = valued_here (c.1.1.1.len, values.Int (pos (length items))) [] m
+                      c.1.1.1.len refl;
+                };
+              })
               (λ y e. absurd (none-some y e)) c.1.0 c.1.1.1.is;
         }
     by_object o (objects.Refs item items) t s a b =
         let object_typed = all_at (IsTypedObject types machine.heap) machine.heap.objects o (objects.Refs item items) typed s in
-        let e = element_stands types laws (lower_of types.sub bound wanted) item (array_reference types item object_typed.1.0 object_typed.1.1.0) object_typed.1.1.0 (low_below (objects.Refs item items) a b) in
+        let e = element_stands types laws (lower_of types.sub bound wanted) item
+        (array_reference types item object_typed.1.0 object_typed.1.1.0) object_typed.1.1.0
+        (low_below (objects.Refs item items) a b) in
         let c = child_at (references e.0) (listed_stands types laws (lower_of types.sub bound wanted) e.0 e.1.0) in
         record {
           n = c.0;
           child = c.1.0;
           is = c.1.1.0;
-          goes = array_goes types state machine m sound.well_formed h x bound shape at unknown c.1.1.1.len (length items) (cells.Refs e.0 c.1.1.1.len shape) c.1.1.1.fresh object_typed.0
-              (record { place = o; object = objects.Refs item items; names = ref_of (m x) o t; stands = s; holds = record { item = item; items = items; is = refl; below = e.1.1; length_is = valued_here (c.1.1.1.len, values.Int (pos (length items))) [] m c.1.1.1.len refl } })
-              (λ y f. subst (λ (z : Shape). HasShape z machine.heap (m x)) (some_is f) (h.shapes x (cells.Unk bound false shape) shape at refl)) c.1.0 c.1.1.1.is;
+          goes = array_goes types state machine m sound.well_formed h x bound shape at unknown c.1.1.1.len (length items)
+              (cells.Refs e.0 c.1.1.1.len shape) c.1.1.1.fresh object_typed.0
+              (record {
+                place = o;
+                object = objects.Refs item items;
+                names = ref_of (m x) o t;
+                stands = s;
+                holds = record {
+                  item = item;
+                  items = items;
+                  is = refl;
+                  below = e.1.1;
+                  length_is = valued_here
+                      (c.1.1.1.len, values.Int (pos (length items))) [] m c.1.1.1.len refl;
+                };
+              })
+              (λ y f. subst (λ (z : Shape). HasShape z machine.heap (m x)) (some_is f)
+              (h.shapes x (cells.Unk bound false shape) shape at refl)) c.1.0 c.1.1.1.is;
         }

@@ -1,5 +1,6 @@
 -- The first case whose child has too many ids.
-use Rattle.std.proofs.Common.{◌≡◌, ℕ, zero, suc, ◌+◌, ◌<◌, ◌≤◌, Bool, false, List, [], ◌∷◌, ◌++◌, length, map, get_or, take, drop, Result, Ok, Err, inl, inr, refl, sym, ap, subst, ◌∙◌, arith}
+use Rattle.std.proofs.Common.{◌≡◌, ℕ, zero, suc, ◌+◌, ◌<◌, ◌≤◌, Bool, false, List, [], ◌∷◌, ◌++◌, length, map, get_or, take, drop}
+use Rattle.std.proofs.Common.{Result, Ok, Err, inl, inr, refl, sym, ap, subst, ◌∙◌, arith}
 use Rattle.std.specs.Prelude.{◌↔◌, nat_lt, filter, IsErrAnd}
 use Rattle.std.specs.List.{list_any}
 use Rattle.std.proofs.lemmas.Bool.{cases_Bool, or_from, ltb-true, lt-ltb, cond-true, cond-false}
@@ -75,19 +76,26 @@ module _ (test : Case → Bool) where
 filter_short : {X : Type 0} (test : X → Bool) (xs : List X) → length (filter test xs) ≤ length xs
 filter_short test [] = omega arith
 filter_short test (x ∷ xs) = elim (cases_Bool (test x)) [
-  | inl t ↦ let k = ap (λ (ys : List _). length ys) (cond-true (test x) (x ∷ filter test xs) (filter test xs) t) in let h = filter_short test xs in omega (arith, k, h)
-  | inr f ↦ let k = ap (λ (ys : List _). length ys) (cond-false (test x) (x ∷ filter test xs) (filter test xs) f) in let h = filter_short test xs in omega (arith, k, h)
+  | inl t ↦ let k = ap (λ (ys : List _). length ys) (cond-true (test x) (x ∷ filter test xs) (filter test xs) t) in let h =
+      filter_short test xs in omega (arith, k, h)
+  | inr f ↦ let k = ap (λ (ys : List _). length ys) (cond-false (test x) (x ∷ filter test xs) (filter test xs) f) in let h =
+      filter_short test xs in omega (arith, k, h)
 ]
 
 module _ {X : Type 0} (make : X → Case) (among_test : X → Bool) (test : Case → Bool) where
   abbrev some : List X → List Case
   some xs = map make (filter among_test xs)
 
-  pub crowd_more : (xs : List X) (i : ℕ) (x : X) (n m : ℕ) (r : Result ℕ ℕ) → i < length xs → x ≡ get_or xs i x → first_crowd test (some (take i xs)) n ≡ Ok m → r ≡ first_crowd test (some (x ∷ [])) m → first_crowd test (some (take (i + 1) xs)) n ≡ r
+  pub crowd_more : (xs : List X) (i : ℕ) (x : X) (n m : ℕ) (r : Result ℕ ℕ) → i < length xs → x ≡ get_or xs i x
+      → first_crowd test (some (take i xs)) n ≡ Ok m → r ≡ first_crowd test (some (x ∷ [])) m
+      → first_crowd test (some (take (i + 1) xs)) n ≡ r
   crowd_more xs i x n m r l e was is =
-      ap (λ (cs : List Case). first_crowd test cs n) (among_more make among_test test xs i x l e) ∙ crowd_joined test (some (take i xs)) (some (x ∷ [])) n m was ∙ sym is
+      ap (λ (cs : List Case). first_crowd test cs n) (among_more make among_test test xs i x l e)
+      ∙ crowd_joined test (some (take i xs)) (some (x ∷ [])) n m was ∙ sym is
 
-  pub crowd_more_at : (xs : List X) (i : ℕ) (d : X) (n m : ℕ) (r : Result ℕ ℕ) → i < length xs → first_crowd test (some (take i xs)) n ≡ Ok m → r ≡ first_crowd test (some (get_or xs i d ∷ [])) m → first_crowd test (some (take (i + 1) xs)) n ≡ r
+  pub crowd_more_at : (xs : List X) (i : ℕ) (d : X) (n m : ℕ) (r : Result ℕ ℕ) → i < length xs
+      → first_crowd test (some (take i xs)) n ≡ Ok m → r ≡ first_crowd test (some (get_or xs i d ∷ [])) m
+      → first_crowd test (some (take (i + 1) xs)) n ≡ r
   crowd_more_at xs i d n m r l was is = crowd_more xs i (get_or xs i d) n m r l (get_or_default xs i d (get_or xs i d) l) was is
 
   pub crowd_found : (xs : List X) (i n k : ℕ) → first_crowd test (some (take i xs)) n ≡ Err k → first_crowd test (some xs) n ≡ Err k
@@ -96,7 +104,8 @@ module _ {X : Type 0} (make : X → Case) (among_test : X → Bool) (test : Case
       ∙ ap (λ (cs : List Case). first_crowd test cs n) (among_joined make among_test test (take i xs) (drop i xs))
       ∙ crowd_stays test (some (take i xs)) (some (drop i xs)) n k h
 
-  pub crowd_all : (xs : List X) (i n : ℕ) (r : Result ℕ ℕ) → length xs ≤ i → first_crowd test (some (take i xs)) n ≡ r → first_crowd test (some xs) n ≡ r
+  pub crowd_all : (xs : List X) (i n : ℕ) (r : Result ℕ ℕ) → length xs ≤ i → first_crowd test (some (take i xs)) n ≡ r
+      → first_crowd test (some xs) n ≡ r
   crowd_all xs i n r l h = ap (λ (ys : List X). first_crowd test (some ys) n) (sym (take_all i xs l)) ∙ h
 
   -- no more have passed than were looked at
@@ -117,12 +126,24 @@ module _ (types : WorldTypes) (state : AbstractState) where
     | inr f ↦ f
   ]
 
-  pub to_first : (cases : List Case) (n k : ℕ) → first_crowd (crowds types state) cases n ≡ Err k → (j : ℕ) × ((k ≡ n + j) × IsFirstTooMany (case_counts types state cases) j)
+  pub to_first : (cases : List Case) (n k : ℕ) → first_crowd (crowds types state) cases n ≡ Err k
+      → (j : ℕ) × ((k ≡ n + j) × IsFirstTooMany (case_counts types state cases) j)
   to_first [] n k e = absurd (ok_no_err n k e)
   to_first (c ∷ cases) n k e = elim (cases_Bool (crowds types state c)) [
     | inl t ↦
-        let same = one_err (Err n) n k refl (sym (cond-true (crowds types state c) _ _ t) ∙ e) in
-        (0, (omega (arith, same), record { count = length state.cells + new_ids types c; is = refl; many = ltb-true 512 (length state.cells + new_ids types c) t; before = All-nil (λ (count : ℕ). count ≤ 512) }))
+        let same = one_err (Err n) n k refl (sym (cond-true (crowds types state c) _ _ t) ∙ e) in (
+          0,
+          (
+            omega (arith, same),
+            record {
+              count = length state.cells + new_ids types c;
+              is = refl;
+              many = ltb-true 512
+                  (length state.cells + new_ids types c) t;
+              before = All-nil (λ (count : ℕ). count ≤ 512);
+            },
+          ),
+        )
     | inr f ↦
         let p = to_first cases (n + 1) k (sym (cond-false (crowds types state c) _ _ f) ∙ e) in
         let same = p.1.0 in (
@@ -133,26 +154,31 @@ module _ (types : WorldTypes) (state : AbstractState) where
               count = p.1.1.count;
               is = p.1.1.is;
               many = p.1.1.many;
-              before = All-cons (λ (count : ℕ). count ≤ 512) (length state.cells + new_ids types c) (take p.0 (case_counts types state cases)) (has_room_for (length state.cells) (new_ids types c) f) p.1.1.before;
+              before = All-cons (λ (count : ℕ). count ≤ 512) (length state.cells + new_ids types c)
+                  (take p.0 (case_counts types state cases)) (has_room_for (length state.cells) (new_ids types c) f) p.1.1.before;
             },
           ),
         )
   ]
 
-  pub from_first : (cases : List Case) (n j : ℕ) → IsFirstTooMany (case_counts types state cases) j → first_crowd (crowds types state) cases n ≡ Err (n + j)
+  pub from_first : (cases : List Case) (n j : ℕ) → IsFirstTooMany (case_counts types state cases) j
+      → first_crowd (crowds types state) cases n ≡ Err (n + j)
   from_first [] n j h = absurd (none-some h.count h.is)
   from_first (c ∷ cases) n zero h =
       let many = subst (λ (count : ℕ). 512 < count) (sym (some_is h.is)) h.many in
       cond-true (crowds types state c) _ _ (lt-ltb 512 (length state.cells + new_ids types c) many) ∙ ap (λ (i : ℕ). Err i) (omega arith)
   from_first (c ∷ cases) n (suc j) h =
-      let few = All-head (λ (count : ℕ). count ≤ 512) (length state.cells + new_ids types c) (take j (case_counts types state cases)) h.before in
-      let rest = All-tail (λ (count : ℕ). count ≤ 512) (length state.cells + new_ids types c) (take j (case_counts types state cases)) h.before in
+      let few = All-head (λ (count : ℕ). count ≤ 512) (length state.cells + new_ids types c)
+      (take j (case_counts types state cases)) h.before in
+      let rest = All-tail (λ (count : ℕ). count ≤ 512) (length state.cells + new_ids types c)
+      (take j (case_counts types state cases)) h.before in
       cond-false (crowds types state c) _ _ (few_there (length state.cells + new_ids types c) few)
       ∙ from_first cases (n + 1) j (record { count = h.count; is = h.is; many = h.many; before = rest })
       ∙ ap (λ (i : ℕ). Err i) (omega arith)
 
   -- the answer of a search that has found one, and of one that has not
-  pub found_many : {A : Type 0} (cases : List Case) (child n : ℕ) (r : Result A SplitFault) → r ≡ Err (TooManyIds child) → first_crowd (crowds types state) cases 0 ≡ Err child → (r ≡ Err (TooManyIds n)) ↔ IsFirstTooMany (case_counts types state cases) n
+  pub found_many : {A : Type 0} (cases : List Case) (child n : ℕ) (r : Result A SplitFault) → r ≡ Err (TooManyIds child)
+      → first_crowd (crowds types state) cases 0 ≡ Err child → (r ≡ Err (TooManyIds n)) ↔ IsFirstTooMany (case_counts types state cases) n
   found_many cases child n r is found = (
     λ h.
         let p = to_first cases 0 child found in
@@ -164,5 +190,7 @@ module _ (types : WorldTypes) (state : AbstractState) where
         is ∙ ap (λ (i : ℕ). Err (TooManyIds i)) (omega (arith, same)),
   )
 
-  pub none_many : (cases : List Case) (passed n : ℕ) (fault : Type 0) → (fault → ⊥) → first_crowd (crowds types state) cases 0 ≡ Ok passed → fault ↔ IsFirstTooMany (case_counts types state cases) n
-  none_many cases passed n fault never passes = (λ h. absurd (never h), λ h. absurd (ok_no_err passed (0 + n) (sym passes ∙ from_first cases 0 n h)))
+  pub none_many : (cases : List Case) (passed n : ℕ) (fault : Type 0) → (fault → ⊥)
+      → first_crowd (crowds types state) cases 0 ≡ Ok passed → fault ↔ IsFirstTooMany (case_counts types state cases) n
+  none_many cases passed n fault never passes =
+      (λ h. absurd (never h), λ h. absurd (ok_no_err passed (0 + n) (sym passes ∙ from_first cases 0 n h)))

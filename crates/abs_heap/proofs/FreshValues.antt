@@ -49,8 +49,10 @@ record IsOld (state : AbstractState) (m now : Meaning) (id : ℕ) (c : Cell) : T
   is : cell_at state id ≡ Some c
   same : now id ≡ m id
 
-module _ (types : WorldTypes) (state child : AbstractState) (machine : MachineState) (m : Meaning) (id : ℕ) (cell : Cell) (value : Value) (good : IsWellFormed state) (h : Fits types state machine m)
-    (none : is_reference cell ≡ false) (d : Describes types machine.heap m cell value) (free : cell_at state id ≡ None) (g : IsWithCell state id cell child) where
+module _ (types : WorldTypes) (state child : AbstractState) (machine : MachineState) (m : Meaning) (id : ℕ) (cell : Cell)
+    (value : Value) (good : IsWellFormed state) (h : Fits types state machine m)
+    (none : is_reference cell ≡ false) (d : Describes types machine.heap m cell value) (free : cell_at state id ≡ None)
+    (g : IsWithCell state id cell child) where
   abbrev now : Meaning
   now = with_values ((id, value) ∷ []) m
 
@@ -58,13 +60,15 @@ module _ (types : WorldTypes) (state child : AbstractState) (machine : MachineSt
   all = with_cells ((id, cell) ∷ []) state
 
   agrees : Agrees state m now
-  agrees = kept_others state m (id ∷ []) (value ∷ []) (All-cons (λ i. cell_at state i ≡ None) id [] free (All-nil (λ i. cell_at state i ≡ None)))
+  agrees = kept_others state m (id ∷ []) (value ∷ [])
+      (All-cons (λ i. cell_at state i ≡ None) id [] free (All-nil (λ i. cell_at state i ≡ None)))
 
   cells_now : (i : ℕ) (c : Cell) → all i ≡ Some c → Describes types machine.heap now c (now i)
   cells_now i c e = elim (replaced_cases state id cell i c e) [
     | inl s ↦
         subst (λ (x : Cell). Describes types machine.heap now x (now i)) (sym s.1)
-        (describes_carried types machine.heap machine.heap m now cell value (now i) (λ r object k. k) (valued_here (id, value) [] m i (sym s.0))
+        (describes_carried types machine.heap machine.heap m now cell value (now i) (λ r object k. k)
+        (valued_here (id, value) [] m i (sym s.0))
         (λ n x f. absurd (none-some x (ap (λ (xs : List ℕ). slice_get xs n) (sym (names_none cell none)) ∙ f))) d)
     | inr s ↦ cell_carried types state machine.heap machine.heap m now good agrees (λ r object k. k) i c s.1 (h.cells i c s.1)
   ]
@@ -86,19 +90,23 @@ module _ (types : WorldTypes) (state child : AbstractState) (machine : MachineSt
     aliases = λ a b o c k e f n ta tb.
         let p = named a o c e ta in
         let q = named b o k f tb in
-        inl (h.aliases a b o (record { cell = c; is = p.is; sort_is = refl }) (record { cell = k; is = q.is; sort_is = refl }) n (ap target (sym p.same) ∙ ta) (ap target (sym q.same) ∙ tb));
+        inl (h.aliases a b o (record { cell = c; is = p.is; sort_is = refl }) (record { cell = k; is = q.is; sort_is = refl }) n
+        (ap target (sym p.same) ∙ ta) (ap target (sym q.same) ∙ tb));
     apart = λ a b o c k e f s t n ta tb.
         let p = named a o c e ta in
         let q = named b o k f tb in
-        known_apart types state machine m good h a b o (record { cell = c; is = p.is; sort_is = s }) (record { cell = k; is = q.is; sort_is = t }) n (ap target (sym p.same) ∙ ta) (ap target (sym q.same) ∙ tb);
+        known_apart types state machine m good h a b o (record { cell = c; is = p.is; sort_is = s })
+        (record { cell = k; is = q.is; sort_is = t }) n (ap target (sym p.same) ∙ ta) (ap target (sym q.same) ∙ tb);
     meeting = λ a b o c k e f s t n ra rb.
         let p = was a c e (hazy_reference c s) in
         let q = was b k f (hazy_reference k t) in
-        inl (h.meeting a b o (record { cell = c; is = p.is; sort_is = s }) (record { cell = k; is = q.is; sort_is = t }) n (subst (λ (v : Value). Region machine.heap v o) p.same ra) (subst (λ (v : Value). Region machine.heap v o) q.same rb));
+        inl (h.meeting a b o (record { cell = c; is = p.is; sort_is = s }) (record { cell = k; is = q.is; sort_is = t }) n
+        (subst (λ (v : Value). Region machine.heap v o) p.same ra) (subst (λ (v : Value). Region machine.heap v o) q.same rb));
     inside = λ a b o c k e f s t ta rb.
         let p = was a c e (known_reference c s) in
         let q = was b k f (hazy_reference k t) in
-        inl (h.inside a b o (record { cell = c; is = p.is; sort_is = s }) (record { cell = k; is = q.is; sort_is = t }) (ap target (sym p.same) ∙ ta) (subst (λ (v : Value). Region machine.heap v o) q.same rb));
+        inl (h.inside a b o (record { cell = c; is = p.is; sort_is = s }) (record { cell = k; is = q.is; sort_is = t })
+        (ap target (sym p.same) ∙ ta) (subst (λ (v : Value). Region machine.heap v o) q.same rb));
     shapes = λ i c s e f.
         let p = was i c e (shaped_reference c s f) in
         subst (λ (v : Value). HasShape s machine.heap v) (sym p.same) (h.shapes i c s p.is f);
@@ -118,4 +126,5 @@ module _ (types : WorldTypes) (state child : AbstractState) (machine : MachineSt
   }
 
 pub values_go_on : ValuesGoOn
-values_go_on types state child machine m id cell value good h none d free g = value_goes types state child machine m id cell value good h none d free g
+values_go_on types state child machine m id cell value good h none d free g = value_goes types state child machine m id cell value
+    good h none d free g

@@ -3,6 +3,7 @@ mod After
 pub mod Carried
 pub mod Carrying
 mod Choosing
+mod ArrayCases
 mod Classes
 mod FieldCells
 mod FieldPairs
@@ -28,4 +29,5 @@ pub mod SameTerms
 pub mod Telling
 mod Untold
 mod WriteChildren
+pub mod ChangedCells
 pub mod Written

@@ -42,17 +42,24 @@ use Rattle.abs_heap.proofs.Telling.{tells, told_compatible, reference_no_int, ar
 -- ---- what an object holds
 
 -- the region of an item lies in the array's
-module _ (heap : Heap) (holder value : Value) (o n : ℕ) (object : Object) (names : target holder ≡ Some o) (stands : slice_get heap.objects o ≡ Some object) (got : slice_get (values_of object) n ≡ Some value) where
+module _ (heap : Heap) (holder value : Value) (o n : ℕ) (object : Object) (names : target holder ≡ Some o)
+    (stands : slice_get heap.objects o ≡ Some object) (got : slice_get (values_of object) n ≡ Some value) where
   pub held_step : (a : ℕ) → target value ≡ Some a → heap_steps heap o n ≡ Some a
   held_step a t =
       ap (λ (x : Option Object). option_and_then target (option_and_then (λ (ob : Object). slice_get (values_of ob) n) x)) stands
       ∙ ap (option_and_then target) got ∙ t
 
-  pub held_path : (a b : ℕ) (p : List ℕ) → target value ≡ Some a → follow (heap_steps heap) p a ≡ Some b → follow (heap_steps heap) (n ∷ p) o ≡ Some b
+  pub held_path : (a b : ℕ) (p : List ℕ) → target value ≡ Some a → follow (heap_steps heap) p a ≡ Some b
+      → follow (heap_steps heap) (n ∷ p) o ≡ Some b
   held_path a b p t e = ap (option_and_then (follow (heap_steps heap) p)) (held_step a t) ∙ e
 
   pub held_region : (b : ℕ) → Region heap value b → Region heap holder b
-  held_region b r = record { start = o; names = names; reaches = record { path = n ∷ r.reaches.path; leads = held_path r.start b r.reaches.path r.names r.reaches.leads } }
+  held_region b r = record {
+    start = o;
+    names = names;
+    reaches = record
+        { path = n ∷ r.reaches.path; leads = held_path r.start b r.reaches.path r.names r.reaches.leads };
+  }
 
   abbrev tail_of : List ℕ → List ℕ
   tail_of [] = []
@@ -84,9 +91,12 @@ known_or_hazy (cells.Nums kind len) r = inl refl
 known_or_hazy (cells.Refs element len shape) r = inr refl
 known_or_hazy (cells.Unk bound nullable shape) r = inr refl
 
-module _ (types : WorldTypes) (state child : AbstractState) (machine : MachineState) (m : Meaning) (k item o n : ℕ) (element own : Ty) (len : ℕ) (shape : Shape) (items : List Value) (value : Value)
-    (laws : AreLawful types) (good : IsWellFormed state) (sound : AreSoundReferences types state) (typed : IsTypedHeap types machine.heap) (closed : IsClosedState machine state m) (h : Fits types state machine m)
-    (at : cell_at state k ≡ Some (cells.Refs element len shape)) (names : target (m k) ≡ Some o) (stands : slice_get machine.heap.objects o ≡ Some (objects.Refs own items)) (got : slice_get items n ≡ Some value)
+module _ (types : WorldTypes) (state child : AbstractState) (machine : MachineState) (m : Meaning) (k item o n : ℕ)
+    (element own : Ty) (len : ℕ) (shape : Shape) (items : List Value) (value : Value)
+    (laws : AreLawful types) (good : IsWellFormed state) (sound : AreSoundReferences types state)
+    (typed : IsTypedHeap types machine.heap) (closed : IsClosedState machine state m) (h : Fits types state machine m)
+    (at : cell_at state k ≡ Some (cells.Refs element len shape)) (names : target (m k) ≡ Some o)
+    (stands : slice_get machine.heap.objects o ≡ Some (objects.Refs own items)) (got : slice_get items n ≡ Some value)
     (is : IsItemChild types.sub state k element shape item child) where
   abbrev heap : Heap
   heap = machine.heap
@@ -112,9 +122,11 @@ module _ (types : WorldTypes) (state child : AbstractState) (machine : MachineSt
 
   sort_of : (i : ℕ) (c : Cell) → with_cells ((item, thing) ∷ []) state i ≡ Some c → Sort i c
   sort_of i c e = elim (cases_eq item i) [
-    | inl f ↦ new f (some_is (sym (ap (λ (x : Option Cell). first_cell x (cell_at state i)) (cell_here (item, thing) [] i f)) ∙ e)) (valued_here (item, value) [] m i f)
+    | inl f ↦ new f (some_is (sym (ap (λ (x : Option Cell). first_cell x (cell_at state i)) (cell_here (item, thing) [] i f)) ∙ e))
+        (valued_here (item, value) [] m i f)
     | inr f ↦
-        let there : cell_at state i ≡ Some c = sym (ap (λ (x : Option Cell). first_cell x (cell_at state i)) (cell_later (item, thing) [] i f)) ∙ e in
+        let there : cell_at state i ≡ Some c = sym
+        (ap (λ (x : Option Cell). first_cell x (cell_at state i)) (cell_later (item, thing) [] i f)) ∙ e in
         old there (agrees i (record { cell = c; is = there; sort_is = refl })) f
   ]
 
@@ -129,7 +141,8 @@ module _ (types : WorldTypes) (state child : AbstractState) (machine : MachineSt
   own_below =
       let d = h.cells k (cells.Refs element len shape) at in
       let place : d.place ≡ o = some_is (sym (ap target d.names) ∙ names) in
-      let same : objects.Refs d.holds.item d.holds.items ≡ objects.Refs own items = some_is (ap Some (sym d.holds.is) ∙ sym d.stands ∙ ap (slice_get heap.objects) place ∙ stands) in
+      let same : objects.Refs d.holds.item d.holds.items ≡ objects.Refs own items = some_is (ap Some (sym d.holds.is) ∙ sym d.stands
+      ∙ ap (slice_get heap.objects) place ∙ stands) in
       subst (λ (t : Ty). IsTrue (types.sub t element)) (ap item_type same) d.holds.below
     where
       item_type : Object → Ty
@@ -140,16 +153,20 @@ module _ (types : WorldTypes) (state child : AbstractState) (machine : MachineSt
   described : (v : Value) → HasType types heap v own → Describes types heap now thing v
   described (values.Int i) t = absurd t
   described values.Null t = inl (refl, refl)
-  described (values.Ref r) t = inr (record { place = r; object = t.0; names = refl; stands = t.1.0; holds = laws.transitive (type_of t.0) own element t.1.1 own_below })
+  described (values.Ref r) t = inr
+      (record { place = r; object = t.0; names = refl; stands = t.1.0; holds = laws.transitive (type_of t.0) own element t.1.1 own_below })
 
   item_described : Describes types heap now thing value
-  item_described = described value (all_at (λ (v : Value). HasType types heap v own) items n value (array_typed types heap o own items typed stands).1.1.1 got)
+  item_described = described value
+      (all_at (λ (v : Value). HasType types heap v own) items n value (array_typed types heap o own items typed stands).1.1.1 got)
 
   -- what shares with an item
-  shares_item : (a b : ℕ) (c : Cell) → cell_at state a ≡ Some c → (a ≡ k → ⊥) → is_reference c ≡ true → target (m a) ≡ Some b → Region heap (m k) b → Share state k a
+  shares_item : (a b : ℕ) (c : Cell) → cell_at state a ≡ Some c → (a ≡ k → ⊥) → is_reference c ≡ true → target (m a) ≡ Some b
+      → Region heap (m k) b → Share state k a
   shares_item a b c e apart r t region = elim (known_or_hazy c r) [
     | inl p ↦ has_swapped a k state.share ∙ h.inside a k b (record { cell = c; is = e; sort_is = p }) hazy_k t region
-    | inr p ↦ h.meeting k a b hazy_k (record { cell = c; is = e; sort_is = p }) (λ s. apart (sym s)) region (record { start = b; names = t; reaches = record { path = []; leads = refl } })
+    | inr p ↦ h.meeting k a b hazy_k (record { cell = c; is = e; sort_is = p }) (λ s. apart (sym s)) region
+        (record { start = b; names = t; reaches = record { path = []; leads = refl } })
   ]
 
   in_child : (i : ℕ) (c : Cell) → with_cells ((item, thing) ∷ []) state i ≡ Some c → cell_in child.cells i ≡ Some c
@@ -161,7 +178,8 @@ module _ (types : WorldTypes) (state child : AbstractState) (machine : MachineSt
   sound_thing : IsSoundCell types state thing
   sound_thing = (sound k (cells.Refs element len shape) at refl).1.0
 
-  one_with : (a b : ℕ) (c : Cell) → cell_at state a ≡ Some c → (item ≡ a → ⊥) → target (m a) ≡ Some b → target value ≡ Some b → MayBeOne types.sub (JoinsItem state k item shape) child.cells item a
+  one_with : (a b : ℕ) (c : Cell) → cell_at state a ≡ Some c → (item ≡ a → ⊥) → target (m a) ≡ Some b → target value ≡ Some b
+      → MayBeOne types.sub (JoinsItem state k item shape) child.cells item a
   one_with a b c e apart ta tv =
       let d = h.cells a c e in
       let r = names_reference types machine m c (m a) b d ta in
@@ -173,26 +191,47 @@ module _ (types : WorldTypes) (state child : AbstractState) (machine : MachineSt
         right = c;
         right_is = in_child a c (ap (λ (x : Option Cell). first_cell x (cell_at state a)) (cell_later (item, thing) [] a apart) ∙ e);
         compatible = told_compatible types laws thing c (object_of c (m a) b d ta).0
-            (tells types state heap now laws typed thing value b (object_of c (m a) b d ta).0 sound_thing item_described tv (object_of c (m a) b d ta).1)
-            (tells types state heap m laws typed c (m a) b (object_of c (m a) b d ta).0 (sound a c e (reference_no_int c r)) d ta (object_of c (m a) b d ta).1);
+            (tells types state heap now laws typed thing value b (object_of c (m a) b d ta).0 sound_thing item_described tv
+            (object_of c (m a) b d ta).1)
+            (tells types state heap m laws typed c (m a) b (object_of c (m a) b d ta).0 (sound a c e (reference_no_int c r)) d ta
+            (object_of c (m a) b d ta).1);
       }
     where
-      why : (a b : ℕ) (c : Cell) → cell_at state a ≡ Some c → is_reference c ≡ true → target (m a) ≡ Some b → target value ≡ Some b → Region heap (m k) b → Share state k a ⊎ ((shape ≡ Any) × (a ≡ k))
+      why : (a b : ℕ) (c : Cell) → cell_at state a ≡ Some c → is_reference c ≡ true → target (m a) ≡ Some b → target value ≡ Some b
+          → Region heap (m k) b → Share state k a ⊎ ((shape ≡ Any) × (a ≡ k))
       why a b c e r ta tv region = elim (cases_eq a k) [
         | inl s ↦
             let there : target value ≡ Some o = tv ∙ sym ta ∙ ap (λ (x : ℕ). target (m x)) s ∙ names in
-            inr (held_itself heap (m k) value o n (objects.Refs own items) names stands got shape (h.shapes k (cells.Refs element len shape) shape at refl) there, s)
+            inr (
+              held_itself heap (m k) value o n (objects.Refs own items) names stands got shape
+                  (h.shapes k (cells.Refs element len shape) shape at refl) there,
+              s,
+            )
         | inr s ↦ inl (shares_item a b c e s r ta region)
       ]
 
-      object_of : (c : Cell) (v : Value) (b : ℕ) → Describes types heap m c v → target v ≡ Some b → (object : Object) × (slice_get heap.objects b ≡ Some object)
+      object_of : (c : Cell) (v : Value) (b : ℕ) → Describes types heap m c v → target v ≡ Some b
+          → (object : Object) × (slice_get heap.objects b ≡ Some object)
       object_of (cells.Int interval) v b d t = absurd (none-some b (ap target (sym d.1.0) ∙ t))
       object_of cells.Null v b d t = absurd (none-some b (ap target (sym d) ∙ t))
-      object_of (cells.Obj class ids) v b d t = (d.object, ap (slice_get heap.objects) (sym (some_is (sym (ap target d.names) ∙ t))) ∙ d.stands)
-      object_of (cells.Nums kind l) v b d t = (d.object, ap (slice_get heap.objects) (sym (some_is (sym (ap target d.names) ∙ t))) ∙ d.stands)
-      object_of (cells.Refs e l s) v b d t = (d.object, ap (slice_get heap.objects) (sym (some_is (sym (ap target d.names) ∙ t))) ∙ d.stands)
+      object_of (cells.Obj class ids) v b d t = (
+        d.object,
+        ap (slice_get heap.objects) (sym (some_is (sym (ap target d.names) ∙ t)))
+            ∙ d.stands,
+      )
+      object_of (cells.Nums kind l) v b d t = (
+        d.object,
+        ap (slice_get heap.objects) (sym (some_is (sym (ap target d.names) ∙ t)))
+            ∙ d.stands,
+      )
+      object_of (cells.Refs e l s) v b d t = (
+        d.object,
+        ap (slice_get heap.objects) (sym (some_is (sym (ap target d.names) ∙ t)))
+            ∙ d.stands,
+      )
       object_of (cells.Unk e l s) v b (inl d) t = absurd (none-some b (ap target (sym d.1) ∙ t))
-      object_of (cells.Unk e l s) v b (inr d) t = (d.object, ap (slice_get heap.objects) (sym (some_is (sym (ap target d.names) ∙ t))) ∙ d.stands)
+      object_of (cells.Unk e l s) v b (inr d) t =
+          (d.object, ap (slice_get heap.objects) (sym (some_is (sym (ap target d.names) ∙ t))) ∙ d.stands)
 
   old_target : (a b : ℕ) → now a ≡ m a → target (now a) ≡ Some b → target (m a) ≡ Some b
   old_target a b s t = ap target (sym s) ∙ t
@@ -203,38 +242,61 @@ module _ (types : WorldTypes) (state child : AbstractState) (machine : MachineSt
   moved : (v w : Value) (b : ℕ) → v ≡ w → Region heap v b → Region heap w b
   moved v w b e r = subst (λ (x : Value). Region heap x b) e r
 
-  aliases_now : (a b x : ℕ) (c d : Cell) → Sort a c → Sort b d → a ≢ b → target (now a) ≡ Some x → target (now b) ≡ Some x → wants_one a b ⊎ wants_one b a
-  aliases_now a b x c d (old e s p) (old f t q) apart ta tb = inl (inl (h.aliases a b x (record { cell = c; is = e; sort_is = refl }) (record { cell = d; is = f; sort_is = refl }) apart (old_target a x s ta) (old_target b x t tb)))
-  aliases_now a b x c d (old e s p) (new f g t) apart ta tb = inr (subst (λ (i : ℕ). wants_one i a) f (inr (one_with a x c e p (old_target a x s ta) (new_target b x t tb))))
-  aliases_now a b x c d (new e g s) (old f t q) apart ta tb = inl (subst (λ (i : ℕ). wants_one i b) e (inr (one_with b x d f q (old_target b x t tb) (new_target a x s ta))))
+  aliases_now : (a b x : ℕ) (c d : Cell) → Sort a c → Sort b d → a ≢ b → target (now a) ≡ Some x → target (now b) ≡ Some x
+      → wants_one a b ⊎ wants_one b a
+  aliases_now a b x c d (old e s p) (old f t q) apart ta tb = inl
+      (inl (h.aliases a b x (record { cell = c; is = e; sort_is = refl }) (record { cell = d; is = f; sort_is = refl }) apart
+      (old_target a x s ta) (old_target b x t tb)))
+  aliases_now a b x c d (old e s p) (new f g t) apart ta tb = inr
+      (subst (λ (i : ℕ). wants_one i a) f (inr (one_with a x c e p (old_target a x s ta) (new_target b x t tb))))
+  aliases_now a b x c d (new e g s) (old f t q) apart ta tb = inl
+      (subst (λ (i : ℕ). wants_one i b) e (inr (one_with b x d f q (old_target b x t tb) (new_target a x s ta))))
   aliases_now a b x c d (new e g s) (new f i t) apart ta tb = absurd (apart (sym e ∙ f))
 
-  apart_now : (a b x : ℕ) (c d : Cell) → Sort a c → Sort b d → is_known c ≡ true → is_known d ≡ true → a ≢ b → target (now a) ≡ Some x → target (now b) ≡ Some x → ⊥
-  apart_now a b x c d (old e s p) (old f t q) u v apart ta tb = known_apart types state machine m good h a b x (record { cell = c; is = e; sort_is = u }) (record { cell = d; is = f; sort_is = v }) apart (old_target a x s ta) (old_target b x t tb)
+  apart_now : (a b x : ℕ) (c d : Cell) → Sort a c → Sort b d → is_known c ≡ true → is_known d ≡ true → a ≢ b
+      → target (now a) ≡ Some x → target (now b) ≡ Some x → ⊥
+  apart_now a b x c d (old e s p) (old f t q) u v apart ta tb = known_apart types state machine m good h a b x
+      (record { cell = c; is = e; sort_is = u }) (record { cell = d; is = f; sort_is = v }) apart (old_target a x s ta)
+      (old_target b x t tb)
   apart_now a b x c d (old e s p) (new f g t) u v apart ta tb = false≢true (ap is_known g ∙ v)
   apart_now a b x c d (new e g s) y u v apart ta tb = false≢true (ap is_known g ∙ u)
 
-  meets_item : (a x : ℕ) (c : Cell) → cell_at state a ≡ Some c → is_hazy c ≡ true → Region heap (m a) x → Region heap (m k) x → wants_share item a
+  meets_item : (a x : ℕ) (c : Cell) → cell_at state a ≡ Some c → is_hazy c ≡ true → Region heap (m a) x → Region heap (m k) x
+      → wants_share item a
   meets_item a x c e z ra rk = elim (cases_eq a k) [
     | inl s ↦ inr (inr (refl, s))
-    | inr s ↦ inr (inl (record { is_item = refl; why = inl (h.meeting k a x hazy_k (record { cell = c; is = e; sort_is = z }) (λ t. s (sym t)) rk ra) }))
+    | inr s ↦ inr (inl (record
+        { is_item = refl; why = inl (h.meeting k a x hazy_k (record { cell = c; is = e; sort_is = z }) (λ t. s (sym t)) rk ra) }))
   ]
 
-  meeting_now : (a b x : ℕ) (c d : Cell) → Sort a c → Sort b d → is_hazy c ≡ true → is_hazy d ≡ true → a ≢ b → Region heap (now a) x → Region heap (now b) x → wants_share a b ⊎ wants_share b a
-  meeting_now a b x c d (old e s p) (old f t q) u v apart ra rb = inl (inl (h.meeting a b x (record { cell = c; is = e; sort_is = u }) (record { cell = d; is = f; sort_is = v }) apart (moved (now a) (m a) x s ra) (moved (now b) (m b) x t rb)))
-  meeting_now a b x c d (old e s p) (new f g t) u v apart ra rb = inr (subst (λ (i : ℕ). wants_share i a) f (meets_item a x c e u (moved (now a) (m a) x s ra) (region_of_item x (moved (now b) value x t rb))))
-  meeting_now a b x c d (new e g s) (old f t q) u v apart ra rb = inl (subst (λ (i : ℕ). wants_share i b) e (meets_item b x d f v (moved (now b) (m b) x t rb) (region_of_item x (moved (now a) value x s ra))))
+  meeting_now : (a b x : ℕ) (c d : Cell) → Sort a c → Sort b d → is_hazy c ≡ true → is_hazy d ≡ true → a ≢ b → Region heap (now a) x
+      → Region heap (now b) x → wants_share a b ⊎ wants_share b a
+  meeting_now a b x c d (old e s p) (old f t q) u v apart ra rb = inl
+      (inl (h.meeting a b x (record { cell = c; is = e; sort_is = u }) (record { cell = d; is = f; sort_is = v }) apart
+      (moved (now a) (m a) x s ra) (moved (now b) (m b) x t rb)))
+  meeting_now a b x c d (old e s p) (new f g t) u v apart ra rb = inr
+      (subst (λ (i : ℕ). wants_share i a) f
+      (meets_item a x c e u (moved (now a) (m a) x s ra) (region_of_item x (moved (now b) value x t rb))))
+  meeting_now a b x c d (new e g s) (old f t q) u v apart ra rb = inl
+      (subst (λ (i : ℕ). wants_share i b) e
+      (meets_item b x d f v (moved (now b) (m b) x t rb) (region_of_item x (moved (now a) value x s ra))))
   meeting_now a b x c d (new e g s) (new f i t) u v apart ra rb = absurd (apart (sym e ∙ f))
 
-  inside_now : (a b x : ℕ) (c d : Cell) → Sort a c → Sort b d → is_known c ≡ true → is_hazy d ≡ true → target (now a) ≡ Some x → Region heap (now b) x → wants_share a b ⊎ wants_share b a
-  inside_now a b x c d (old e s p) (old f t q) u v ta rb = inl (inl (h.inside a b x (record { cell = c; is = e; sort_is = u }) (record { cell = d; is = f; sort_is = v }) (old_target a x s ta) (moved (now b) (m b) x t rb)))
+  inside_now : (a b x : ℕ) (c d : Cell) → Sort a c → Sort b d → is_known c ≡ true → is_hazy d ≡ true → target (now a) ≡ Some x
+      → Region heap (now b) x → wants_share a b ⊎ wants_share b a
+  inside_now a b x c d (old e s p) (old f t q) u v ta rb = inl
+      (inl (h.inside a b x (record { cell = c; is = e; sort_is = u }) (record { cell = d; is = f; sort_is = v })
+      (old_target a x s ta) (moved (now b) (m b) x t rb)))
   inside_now a b x c d (old e s p) (new f g t) u v ta rb =
-      let share = h.inside a k x (record { cell = c; is = e; sort_is = u }) hazy_k (old_target a x s ta) (region_of_item x (moved (now b) value x t rb)) in
+      let share = h.inside a k x (record { cell = c; is = e; sort_is = u }) hazy_k (old_target a x s ta)
+      (region_of_item x (moved (now b) value x t rb)) in
       inr (subst (λ (i : ℕ). wants_share i a) f (inr (inl (record { is_item = refl; why = inl (has_swapped a k state.share ∙ share) }))))
   inside_now a b x c d (new e g s) y u v ta rb = absurd (false≢true (ap is_known g ∙ u))
 
   shape_of_thing : (s : Shape) → shape_of thing ≡ Some s → HasShape s heap value
-  shape_of_thing s e = subst (λ (x : Shape). HasShape x heap value) (some_is e) (held_shape heap (m k) value o n (objects.Refs own items) names stands got shape (h.shapes k (cells.Refs element len shape) shape at refl))
+  shape_of_thing s e = subst (λ (x : Shape). HasShape x heap value) (some_is e)
+      (held_shape heap (m k) value o n (objects.Refs own items) names stands got shape
+      (h.shapes k (cells.Refs element len shape) shape at refl))
 
   shapes_now : (i : ℕ) (c : Cell) (s : Shape) → Sort i c → shape_of c ≡ Some s → HasShape s heap (now i)
   shapes_now i c s (old e t p) f = subst (λ (v : Value). HasShape s heap v) (sym t) (h.shapes i c s e f)
@@ -242,7 +304,8 @@ module _ (types : WorldTypes) (state child : AbstractState) (machine : MachineSt
 
   cells_now : (i : ℕ) (c : Cell) → Sort i c → Describes types heap now c (now i)
   cells_now i c (old e t p) = cell_carried types state heap heap m now good agrees (λ r ob f. f) i c e (h.cells i c e)
-  cells_now i c (new e g t) = subst (λ (v : Value). Describes types heap now c v) (sym t) (subst (λ (d : Cell). Describes types heap now d value) g item_described)
+  cells_now i c (new e g t) = subst (λ (v : Value). Describes types heap now c v) (sym t)
+      (subst (λ (d : Cell). Describes types heap now d value) g item_described)
 
   pub item_fits : FitsBy types state.frames state.throwing (with_cells ((item, cells.Unk element true shape) ∷ []) state)
       (λ a b. AreEqual state a b ⊎ MayBeOne types.sub (JoinsItem state k item shape) child.cells a b)
@@ -274,4 +337,6 @@ module _ (types : WorldTypes) (state child : AbstractState) (machine : MachineSt
   }
 
 pub items_go_on : ItemsGoOn
-items_go_on types state child machine m k item o n element own len shape items value laws good sound typed closed h at names stands got is = item_goes types state child machine m k item o n element own len shape items value laws good sound typed closed h at names stands got is
+items_go_on types state child machine m k item o n element own len shape items value laws good sound typed closed h at names stands
+    got is = item_goes types state child machine m k item o n element own len shape items value laws good sound typed closed h at
+    names stands got is

@@ -1,5 +1,6 @@
 -- A new object, and a new array, at the heap's end.
-use Rattle.std.proofs.Common.{◌≡◌, ◌≢◌, ℕ, zero, suc, ◌<◌, true, false, eqb, List, [], ◌∷◌, length, map, Option, Some, None, inl, inr, refl, sym, ap, subst, ◌∙◌, arith, All, pos, replicate, if◌then◌else◌, ◌==◌}
+use Rattle.std.proofs.Common.{◌≡◌, ◌≢◌, ℕ, zero, suc, ◌<◌, true, false, eqb, List, [], ◌∷◌, length, map, Option, Some, None, inl}
+use Rattle.std.proofs.Common.{inr, refl, sym, ap, subst, ◌∙◌, arith, All, pos, replicate, if◌then◌else◌, ◌==◌}
 use Rattle.std.specs.Prelude.{slice_get, zip}
 use Rattle.std.proofs.lemmas.Bool.{false≢true, eq-eqb, ne_eqb, cond-true, cond-false, cases_eq}
 use Rattle.std.proofs.lemmas.Int.{ints}
@@ -50,14 +51,17 @@ with_values (e ∷ es) m id = if e.0 == id then e.1 else with_values es m id
 pub valued_here : (e : ℕ × Value) (es : List (ℕ × Value)) (m : Meaning) (id : ℕ) → e.0 ≡ id → with_values (e ∷ es) m id ≡ e.1
 valued_here e es m id s = cond-true (eqb e.0 id) _ _ (eq-eqb e.0 id s)
 
-pub valued_later : (e : ℕ × Value) (es : List (ℕ × Value)) (m : Meaning) (id : ℕ) → (e.0 ≡ id → ⊥) → with_values (e ∷ es) m id ≡ with_values es m id
+pub valued_later : (e : ℕ × Value) (es : List (ℕ × Value)) (m : Meaning) (id : ℕ) → (e.0 ≡ id → ⊥)
+    → with_values (e ∷ es) m id ≡ with_values es m id
 valued_later e es m id n = cond-false (eqb e.0 id) _ _ (ne_eqb e.0 id n)
 
-pub kept_others : (state : AbstractState) (m : Meaning) (ids : List ℕ) (vs : List Value) → All (λ id. cell_at state id ≡ None) ids → Agrees state m (with_values (zip ids vs) m)
+pub kept_others : (state : AbstractState) (m : Meaning) (ids : List ℕ) (vs : List Value) → All (λ id. cell_at state id ≡ None) ids
+    → Agrees state m (with_values (zip ids vs) m)
 kept_others state m [] vs free = λ id h. refl
 kept_others state m (x ∷ ids) [] free = λ id h. refl
 kept_others state m (x ∷ ids) (v ∷ vs) free = λ id h.
-    valued_later (x, v) (zip ids vs) m id (λ s. none-some h.cell (sym (All-head (λ i. cell_at state i ≡ None) x ids free) ∙ ap (cell_at state) s ∙ h.is))
+    valued_later (x, v) (zip ids vs) m id
+    (λ s. none-some h.cell (sym (All-head (λ i. cell_at state i ≡ None) x ids free) ∙ ap (cell_at state) s ∙ h.is))
     ∙ kept_others state m ids vs (All-tail (λ i. cell_at state i ≡ None) x ids free) id h
 
 rising_rest : (x : ℕ) (ids : List ℕ) → AreRising (x ∷ ids) → (k y : ℕ) → slice_get ids k ≡ Some y → x < y
@@ -65,14 +69,16 @@ rising_rest x [] r k y e = absurd (none-some y e)
 rising_rest x (z ∷ ids) r zero y e = subst (λ (n : ℕ). x < n) (some_is e) r.0
 rising_rest x (z ∷ ids) r (suc k) y e = let h = rising_rest z ids r.1 k y e in omega (arith, h, r.0)
 
-pub values_are : (m : Meaning) (ids : List ℕ) (vs : List Value) → AreRising ids → length ids ≡ length vs → map (with_values (zip ids vs) m) ids ≡ vs
+pub values_are : (m : Meaning) (ids : List ℕ) (vs : List Value) → AreRising ids → length ids ≡ length vs
+    → map (with_values (zip ids vs) m) ids ≡ vs
 values_are m [] [] r l = refl
 values_are m [] (v ∷ vs) r l = absurd (omega (arith, l))
 values_are m (x ∷ ids) [] r l = absurd (omega (arith, l))
 values_are m (x ∷ ids) (v ∷ vs) r l =
     ap (λ (y : Value). y ∷ map (with_values ((x, v) ∷ zip ids vs) m) ids) (valued_here (x, v) (zip ids vs) m x refl)
     ∙ ap (λ (ys : List Value). v ∷ ys)
-    (sym (maps_agree (with_values (zip ids vs) m) (with_values ((x, v) ∷ zip ids vs) m) ids (λ k y e. valued_later (x, v) (zip ids vs) m y (λ s. let h = rising_rest x ids r k y e in omega (arith, h, s))))
+    (sym (maps_agree (with_values (zip ids vs) m) (with_values ((x, v) ∷ zip ids vs) m) ids
+    (λ k y e. valued_later (x, v) (zip ids vs) m y (λ s. let h = rising_rest x ids r k y e in omega (arith, h, s))))
     ∙ values_are m ids vs r.1 (omega (arith, l)))
 
 -- ---- zeros
@@ -90,10 +96,24 @@ record IsZero (types : WorldTypes) (heap : Heap) (n : Meaning) (c : Cell) (v : V
   nothing : target v ≡ None
 
 zero_is : (types : WorldTypes) (heap : Heap) (n : Meaning) (s : Slot) → IsZero types heap n (zero_cell s) (initial_value s)
-zero_is types heap n (slots.Num kind) = record { described = zero_described types heap n (slots.Num kind); unknown = refl; clear = refl; shapeless = refl; nothing = refl }
-zero_is types heap n (slots.Ref t) = record { described = zero_described types heap n (slots.Ref t); unknown = refl; clear = refl; shapeless = refl; nothing = refl }
+zero_is types heap n (slots.Num kind) = record {
+  described = zero_described types heap n (slots.Num kind);
+  unknown = refl;
+  clear =
+      refl;
+  shapeless = refl;
+  nothing = refl;
+}
+zero_is types heap n (slots.Ref t) = record {
+  described = zero_described types heap n (slots.Ref t);
+  unknown = refl;
+  clear = refl;
+  shapeless = refl;
+  nothing = refl;
+}
 
-zero_of_id : (types : WorldTypes) (heap : Heap) (n m : Meaning) (ids : List ℕ) (ss : List Slot) (i : ℕ) (c : Cell) → cell_in (zip ids (map zero_cell ss)) i ≡ Some c → IsZero types heap n c (with_values (zip ids (map initial_value ss)) m i)
+zero_of_id : (types : WorldTypes) (heap : Heap) (n m : Meaning) (ids : List ℕ) (ss : List Slot) (i : ℕ) (c : Cell)
+    → cell_in (zip ids (map zero_cell ss)) i ≡ Some c → IsZero types heap n c (with_values (zip ids (map initial_value ss)) m i)
 zero_of_id types heap n m [] ss i c e = absurd (none-some c e)
 zero_of_id types heap n m (x ∷ ids) [] i c e = absurd (none-some c e)
 zero_of_id types heap n m (x ∷ ids) (s ∷ ss) i c e = elim (cases_eq x i) [
@@ -108,8 +128,10 @@ zero_of_id types heap n m (x ∷ ids) (s ∷ ss) i c e = elim (cases_eq x i) [
 
 -- ---- a new thing
 
-module _ (types : WorldTypes) (state : AbstractState) (machine : MachineState) (m : Meaning) (good : IsWellFormed state) (closed : IsClosedState machine state m) (h : Fits types state machine m)
-    (id : ℕ) (thing : Cell) (object : Object) (ids : List ℕ) (ss : List Slot) (fresh : AreFresh state (id ∷ ids)) (count : length ids ≡ length ss)
+module _ (types : WorldTypes) (state : AbstractState) (machine : MachineState) (m : Meaning) (good : IsWellFormed state)
+    (closed : IsClosedState machine state m) (h : Fits types state machine m)
+    (id : ℕ) (thing : Cell) (object : Object) (ids : List ℕ) (ss : List Slot) (fresh : AreFresh state (id ∷ ids))
+    (count : length ids ≡ length ss)
     (empty : (j : ℕ) (y : Value) → slice_get (values_of object) j ≡ Some y → target y ≡ None) where
   abbrev place : ℕ
   place = length machine.heap.objects
@@ -134,20 +156,27 @@ module _ (types : WorldTypes) (state : AbstractState) (machine : MachineState) (
 
   sort_of : (i : ℕ) (c : Cell) → cell i ≡ Some c → Sort i c
   sort_of i c e = elim (cases_eq id i) [
-    | inl f ↦ new f (some_is (sym (ap (λ (o : Option Cell). first_cell o (cell_at state i)) (cell_here (id, thing) (zip ids (map zero_cell ss)) i f)) ∙ e)) (valued_here (id, values.Ref place) (zip ids (map initial_value ss)) m i f)
-    | inr f ↦ later f (cell_in (zip ids (map zero_cell ss)) i) refl (sym (ap (λ (o : Option Cell). first_cell o (cell_at state i)) (cell_later (id, thing) (zip ids (map zero_cell ss)) i f)) ∙ e)
+    | inl f ↦ new f (some_is
+        (sym (ap (λ (o : Option Cell). first_cell o (cell_at state i)) (cell_here (id, thing) (zip ids (map zero_cell ss)) i f))
+        ∙ e)) (valued_here (id, values.Ref place) (zip ids (map initial_value ss)) m i f)
+    | inr f ↦ later f (cell_in (zip ids (map zero_cell ss)) i) refl
+        (sym (ap (λ (o : Option Cell). first_cell o (cell_at state i)) (cell_later (id, thing) (zip ids (map zero_cell ss)) i f)) ∙ e)
   ]
     where
-      later : (id ≡ i → ⊥) → (o : Option Cell) → cell_in (zip ids (map zero_cell ss)) i ≡ o → first_cell (cell_in (zip ids (map zero_cell ss)) i) (cell_at state i) ≡ Some c → Sort i c
+      later : (id ≡ i → ⊥) → (o : Option Cell) → cell_in (zip ids (map zero_cell ss)) i ≡ o
+          → first_cell (cell_in (zip ids (map zero_cell ss)) i) (cell_at state i) ≡ Some c → Sort i c
       later f None g k =
           let at : cell_at state i ≡ Some c = ap (λ (o : Option Cell). first_cell o (cell_at state i)) (sym g) ∙ k in
           old at (now_agrees i (record { cell = c; is = at; sort_is = refl }))
       later f (Some d) g k =
           let is : d ≡ c = some_is (ap (λ (o : Option Cell). first_cell o (cell_at state i)) (sym g) ∙ k) in
-          none (subst (λ (v : Value). IsZero types after now c v) (sym (valued_later (id, values.Ref place) (zip ids (map initial_value ss)) m i f)) (zero_of_id types after now m ids ss i c (g ∙ ap Some is)))
+          none (subst (λ (v : Value). IsZero types after now c v)
+          (sym (valued_later (id, values.Ref place) (zip ids (map initial_value ss)) m i f))
+          (zero_of_id types after now m ids ss i c (g ∙ ap Some is)))
 
   -- ids of the state name objects of the old heap; the new one's region is the new object
-  low_target : (i o : ℕ) (c : Cell) → cell_at state i ≡ Some c → now i ≡ m i → target (now i) ≡ Some o → (o < place) × (target (m i) ≡ Some o)
+  low_target : (i o : ℕ) (c : Cell) → cell_at state i ≡ Some c → now i ≡ m i → target (now i) ≡ Some o
+      → (o < place) × (target (m i) ≡ Some o)
   low_target i o c e s t = let k = ap target (sym s) ∙ t in (closed.ids i (record { cell = c; is = e; sort_is = refl }) o k, k)
 
   new_target : (i o : ℕ) → now i ≡ values.Ref place → target (now i) ≡ Some o → o ≡ place
@@ -169,7 +198,8 @@ module _ (types : WorldTypes) (state : AbstractState) (machine : MachineState) (
       let start : place ≡ r.start = some_is (sym (ap target s) ∙ r.names) in
       (no_path r.reaches.path o (ap (follow (heap_steps after) r.reaches.path) start ∙ r.reaches.leads)).1
 
-  old_region : (i o : ℕ) (c : Cell) → cell_at state i ≡ Some c → now i ≡ m i → Region after (now i) o → (o < place) × Region machine.heap (m i) o
+  old_region : (i o : ℕ) (c : Cell) → cell_at state i ≡ Some c → now i ≡ m i → Region after (now i) o
+      → (o < place) × Region machine.heap (m i) o
   old_region i o c e s r =
       let k : Region after (m i) o = subst (λ (v : Value). Region after v o) s r in
       let inside : IsInHeap place (m i) = closed.ids i (record { cell = c; is = e; sort_is = refl }) in
@@ -183,54 +213,76 @@ module _ (types : WorldTypes) (state : AbstractState) (machine : MachineState) (
   any_state : (i : ℕ) (c : Cell) → cell_at state i ≡ Some c → HasCell (λ _. true) state i
   any_state i c e = record { cell = c; is = e; sort_is = refl }
 
-  module _ (described : Describes types after now thing (values.Ref (length machine.heap.objects))) (shaped : (s : Shape) → shape_of thing ≡ Some s → HasShape s after (values.Ref (length machine.heap.objects))) where
+  module _ (described : Describes types after now thing (values.Ref (length machine.heap.objects))) (shaped : (s : Shape)
+      → shape_of thing ≡ Some s → HasShape s after (values.Ref (length machine.heap.objects))) where
     cells_now : (i : ℕ) (c : Cell) → Sort i c → Describes types after now c (now i)
-    cells_now i c (old e s) = cell_carried types state machine.heap after m now good now_agrees (stays machine.heap object closed.heap) i c e (h.cells i c e)
-    cells_now i c (new f g s) = subst (λ (v : Value). Describes types after now c v) (sym s) (subst (λ (d : Cell). Describes types after now d (values.Ref place)) g described)
+    cells_now i c (old e s) = cell_carried types state machine.heap after m now good now_agrees
+        (stays machine.heap object closed.heap) i c e (h.cells i c e)
+    cells_now i c (new f g s) = subst (λ (v : Value). Describes types after now c v) (sym s)
+        (subst (λ (d : Cell). Describes types after now d (values.Ref place)) g described)
     cells_now i c (none z) = z.described
 
-    aliases_now : (a b o : ℕ) (c d : Cell) → Sort a c → Sort b d → a ≢ b → target (now a) ≡ Some o → target (now b) ≡ Some o → AreEqual state a b
-    aliases_now a b o c d (old e s) (old f t) n ta tb = h.aliases a b o (any_state a c e) (any_state b d f) n (low_target a o c e s ta).1 (low_target b o d f t tb).1
-    aliases_now a b o c d (old e s) (new f g t) n ta tb = absurd (let l = (low_target a o c e s ta).0 in let k = new_target b o t tb in omega (arith, l, k))
+    aliases_now : (a b o : ℕ) (c d : Cell) → Sort a c → Sort b d → a ≢ b → target (now a) ≡ Some o → target (now b) ≡ Some o
+        → AreEqual state a b
+    aliases_now a b o c d (old e s) (old f t) n ta tb = h.aliases a b o (any_state a c e) (any_state b d f) n
+        (low_target a o c e s ta).1 (low_target b o d f t tb).1
+    aliases_now a b o c d (old e s) (new f g t) n ta tb = absurd
+        (let l = (low_target a o c e s ta).0 in let k = new_target b o t tb in omega (arith, l, k))
     aliases_now a b o c d (old e s) (none z) n ta tb = absurd (none-some o (sym z.nothing ∙ tb))
-    aliases_now a b o c d (new e g s) (old f t) n ta tb = absurd (let l = (low_target b o d f t tb).0 in let k = new_target a o s ta in omega (arith, l, k))
+    aliases_now a b o c d (new e g s) (old f t) n ta tb = absurd
+        (let l = (low_target b o d f t tb).0 in let k = new_target a o s ta in omega (arith, l, k))
     aliases_now a b o c d (new e g s) (new f k t) n ta tb = absurd (n (sym e ∙ f))
     aliases_now a b o c d (new e g s) (none z) n ta tb = absurd (none-some o (sym z.nothing ∙ tb))
     aliases_now a b o c d (none z) y n ta tb = absurd (none-some o (sym z.nothing ∙ ta))
 
-    apart_now : (a b o : ℕ) (c d : Cell) → Sort a c → Sort b d → is_known c ≡ true → is_known d ≡ true → a ≢ b → target (now a) ≡ Some o → target (now b) ≡ Some o → ⊥
-    apart_now a b o c d (old e s) (old f t) k l n ta tb = known_apart types state machine m good h a b o (record { cell = c; is = e; sort_is = k }) (record { cell = d; is = f; sort_is = l }) n (low_target a o c e s ta).1 (low_target b o d f t tb).1
-    apart_now a b o c d (old e s) (new f g t) k l n ta tb = let p = (low_target a o c e s ta).0 in let q = new_target b o t tb in omega (arith, p, q)
+    apart_now : (a b o : ℕ) (c d : Cell) → Sort a c → Sort b d → is_known c ≡ true → is_known d ≡ true → a ≢ b
+        → target (now a) ≡ Some o → target (now b) ≡ Some o → ⊥
+    apart_now a b o c d (old e s) (old f t) k l n ta tb = known_apart types state machine m good h a b o
+        (record { cell = c; is = e; sort_is = k }) (record { cell = d; is = f; sort_is = l }) n (low_target a o c e s ta).1
+        (low_target b o d f t tb).1
+    apart_now a b o c d (old e s) (new f g t) k l n ta tb = let p = (low_target a o c e s ta).0 in let q = new_target b o t tb in
+        omega (arith, p, q)
     apart_now a b o c d (old e s) (none z) k l n ta tb = none-some o (sym z.nothing ∙ tb)
-    apart_now a b o c d (new e g s) (old f t) k l n ta tb = let p = (low_target b o d f t tb).0 in let q = new_target a o s ta in omega (arith, p, q)
+    apart_now a b o c d (new e g s) (old f t) k l n ta tb = let p = (low_target b o d f t tb).0 in let q = new_target a o s ta in
+        omega (arith, p, q)
     apart_now a b o c d (new e g s) (new f i t) k l n ta tb = n (sym e ∙ f)
     apart_now a b o c d (new e g s) (none z) k l n ta tb = none-some o (sym z.nothing ∙ tb)
     apart_now a b o c d (none z) y k l n ta tb = none-some o (sym z.nothing ∙ ta)
 
-    meeting_now : (a b o : ℕ) (c d : Cell) → Sort a c → Sort b d → is_hazy c ≡ true → is_hazy d ≡ true → a ≢ b → Region after (now a) o → Region after (now b) o → Share state a b
-    meeting_now a b o c d (old e s) (old f t) k l n ra rb = h.meeting a b o (record { cell = c; is = e; sort_is = k }) (record { cell = d; is = f; sort_is = l }) n (old_region a o c e s ra).1 (old_region b o d f t rb).1
-    meeting_now a b o c d (old e s) (new f g t) k l n ra rb = absurd (let p = (old_region a o c e s ra).0 in let q = new_region b o t rb in omega (arith, p, q))
+    meeting_now : (a b o : ℕ) (c d : Cell) → Sort a c → Sort b d → is_hazy c ≡ true → is_hazy d ≡ true → a ≢ b
+        → Region after (now a) o → Region after (now b) o → Share state a b
+    meeting_now a b o c d (old e s) (old f t) k l n ra rb = h.meeting a b o (record { cell = c; is = e; sort_is = k })
+        (record { cell = d; is = f; sort_is = l }) n (old_region a o c e s ra).1 (old_region b o d f t rb).1
+    meeting_now a b o c d (old e s) (new f g t) k l n ra rb = absurd
+        (let p = (old_region a o c e s ra).0 in let q = new_region b o t rb in omega (arith, p, q))
     meeting_now a b o c d (old e s) (none z) k l n ra rb = absurd (false≢true (sym z.clear ∙ l))
-    meeting_now a b o c d (new e g s) (old f t) k l n ra rb = absurd (let p = (old_region b o d f t rb).0 in let q = new_region a o s ra in omega (arith, p, q))
+    meeting_now a b o c d (new e g s) (old f t) k l n ra rb = absurd
+        (let p = (old_region b o d f t rb).0 in let q = new_region a o s ra in omega (arith, p, q))
     meeting_now a b o c d (new e g s) (new f i t) k l n ra rb = absurd (n (sym e ∙ f))
     meeting_now a b o c d (new e g s) (none z) k l n ra rb = absurd (false≢true (sym z.clear ∙ l))
     meeting_now a b o c d (none z) y k l n ra rb = absurd (false≢true (sym z.clear ∙ k))
 
-    inside_now : (a b o : ℕ) (c d : Cell) → Sort a c → Sort b d → is_known c ≡ true → is_hazy d ≡ true → target (now a) ≡ Some o → Region after (now b) o → Share state a b
-    inside_now a b o c d (old e s) (old f t) k l ta rb = h.inside a b o (record { cell = c; is = e; sort_is = k }) (record { cell = d; is = f; sort_is = l }) (low_target a o c e s ta).1 (old_region b o d f t rb).1
-    inside_now a b o c d (old e s) (new f g t) k l ta rb = absurd (let p = (low_target a o c e s ta).0 in let q = new_region b o t rb in omega (arith, p, q))
+    inside_now : (a b o : ℕ) (c d : Cell) → Sort a c → Sort b d → is_known c ≡ true → is_hazy d ≡ true → target (now a) ≡ Some o
+        → Region after (now b) o → Share state a b
+    inside_now a b o c d (old e s) (old f t) k l ta rb = h.inside a b o (record { cell = c; is = e; sort_is = k })
+        (record { cell = d; is = f; sort_is = l }) (low_target a o c e s ta).1 (old_region b o d f t rb).1
+    inside_now a b o c d (old e s) (new f g t) k l ta rb = absurd
+        (let p = (low_target a o c e s ta).0 in let q = new_region b o t rb in omega (arith, p, q))
     inside_now a b o c d (old e s) (none z) k l ta rb = absurd (false≢true (sym z.clear ∙ l))
-    inside_now a b o c d (new e g s) (old f t) k l ta rb = absurd (let p = (old_region b o d f t rb).0 in let q = new_target a o s ta in omega (arith, p, q))
+    inside_now a b o c d (new e g s) (old f t) k l ta rb = absurd
+        (let p = (old_region b o d f t rb).0 in let q = new_target a o s ta in omega (arith, p, q))
     inside_now a b o c d (new e g s) (new f i t) k l ta rb = absurd (false≢true (sym (hazy_not_known d l) ∙ ap is_known (sym i ∙ g) ∙ k))
     inside_now a b o c d (new e g s) (none z) k l ta rb = absurd (false≢true (sym z.clear ∙ l))
     inside_now a b o c d (none z) y k l ta rb = absurd (false≢true (sym z.unknown ∙ k))
 
     shapes_now : (i : ℕ) (c : Cell) (shape : Shape) → Sort i c → shape_of c ≡ Some shape → HasShape shape after (now i)
-    shapes_now i c shape (old e s) f = subst (λ (v : Value). HasShape shape after v) (sym s) (shape_stays machine.heap object closed.heap (m i) shape (closed.ids i (any_state i c e)) (h.shapes i c shape e f))
+    shapes_now i c shape (old e s) f = subst (λ (v : Value). HasShape shape after v) (sym s)
+        (shape_stays machine.heap object closed.heap (m i) shape (closed.ids i (any_state i c e)) (h.shapes i c shape e f))
     shapes_now i c shape (new e g s) f = subst (λ (v : Value). HasShape shape after v) (sym s) (shaped shape (ap shape_of g ∙ f))
     shapes_now i c shape (none z) f = absurd (none-some shape (sym z.shapeless ∙ f))
 
-    fits_now : FitsBy types state.frames state.throwing (with_cells ((id, thing) ∷ zip ids (map zero_cell ss)) state) (AreEqual state) (Share state) (with_heap machine (heap_with machine.heap object)) now
+    fits_now : FitsBy types state.frames state.throwing (with_cells ((id, thing) ∷ zip ids (map zero_cell ss)) state)
+        (AreEqual state) (Share state) (with_heap machine (heap_with machine.heap object)) now
     fits_now = record {
       positions = positions_carried state m now (with_statics machine.statics machine.frames) good now_agrees h.positions;
       mode = mode_carried state m now machine.mode good now_agrees h.mode;
@@ -242,17 +294,22 @@ module _ (types : WorldTypes) (state : AbstractState) (machine : MachineState) (
       shapes = λ i c shape e f. shapes_now i c shape (sort_of i c e) f;
     }
 
-    pub goes_now : (child : AbstractState) → IsGiven state.frames state.throwing (with_cells ((id, thing) ∷ zip ids (map zero_cell ss)) state) (AreEqual state) (Share state) child
-        → GoesWith types state machine m child (with_heap machine (heap_with machine.heap object)) id (values.Ref (length machine.heap.objects))
+    pub goes_now : (child : AbstractState)
+        → IsGiven state.frames state.throwing (with_cells ((id, thing) ∷ zip ids (map zero_cell ss)) state) (AreEqual state)
+        (Share state) child
+        → GoesWith types state machine m child (with_heap machine (heap_with machine.heap object)) id
+        (values.Ref (length machine.heap.objects))
     goes_now child g = record {
       meaning_after = now;
-      fits = fits_given types state.frames state.throwing (with_cells ((id, thing) ∷ zip ids (map zero_cell ss)) state) (AreEqual state) (Share state) (with_heap machine (heap_with machine.heap object)) now fits_now child g;
+      fits = fits_given types state.frames state.throwing (with_cells ((id, thing) ∷ zip ids (map zero_cell ss)) state)
+          (AreEqual state) (Share state) (with_heap machine (heap_with machine.heap object)) now fits_now child g;
       value_is = valued_here (id, values.Ref place) (zip ids (map initial_value ss)) m id refl;
       others = λ i k. now_agrees i k;
       edge = record {
         ints = λ i k l. now_agrees i (some_cell state i k);
         rows = All-nil (HoldsBetween m now);
-        sizes = λ i k s. size_kept machine.heap after (m i) (now i) (now_agrees i (some_cell state i k)) (λ t is. term_back machine.heap object closed.heap (m i) t (closed.ids i (some_cell state i k)) is);
+        sizes = λ i k s. size_kept machine.heap after (m i) (now i) (now_agrees i (some_cell state i k))
+            (λ t is. term_back machine.heap object closed.heap (m i) t (closed.ids i (some_cell state i k)) is);
       };
     }
 
@@ -280,11 +337,16 @@ objects_go_on types state child machine m class id good closed h low made is =
     (λ s e. absurd (none-some s e))
     child is.is
   where
-    fields_are : (is : IsObjectChild types state class id child) → map (with_values ((id, values.Ref (length machine.heap.objects)) ∷ zip is.ids (map initial_value (types.fields class))) m) is.ids ≡ map initial_value (types.fields class)
+    fields_are : (is : IsObjectChild types state class id child)
+        → map (with_values ((id, values.Ref (length machine.heap.objects)) ∷ zip is.ids (map initial_value (types.fields class))) m)
+        is.ids ≡ map initial_value (types.fields class)
     fields_are is =
-        sym (maps_agree (with_values (zip is.ids (map initial_value (types.fields class))) m) (with_values ((id, values.Ref (length machine.heap.objects)) ∷ zip is.ids (map initial_value (types.fields class))) m) is.ids
-        (λ k y e. valued_later (id, values.Ref (length machine.heap.objects)) (zip is.ids (map initial_value (types.fields class))) m y (λ s. let l = rising_rest id is.ids is.fresh.rise k y e in omega (arith, l, s))))
-        ∙ values_are m is.ids (map initial_value (types.fields class)) (rest_rises id is.ids is.fresh.rise) (is.count ∙ sym (length_mapped initial_value (types.fields class)))
+        sym (maps_agree (with_values (zip is.ids (map initial_value (types.fields class))) m)
+        (with_values ((id, values.Ref (length machine.heap.objects)) ∷ zip is.ids (map initial_value (types.fields class))) m) is.ids
+        (λ k y e. valued_later (id, values.Ref (length machine.heap.objects)) (zip is.ids (map initial_value (types.fields class)))
+        m y (λ s. let l = rising_rest id is.ids is.fresh.rise k y e in omega (arith, l, s))))
+        ∙ values_are m is.ids (map initial_value (types.fields class)) (rest_rises id is.ids is.fresh.rise)
+        (is.count ∙ sym (length_mapped initial_value (types.fields class)))
       where
         rest_rises : (x : ℕ) (xs : List ℕ) → AreRising (x ∷ xs) → AreRising xs
         rest_rises x xs r = r.1
@@ -312,14 +374,17 @@ arrays_go_on types state child machine m (slots.Num kind) len id count laws good
       holds = record {
         items = replicate count (pos 0);
         is = refl;
-        length_is = now_agrees types state machine m good closed h id (cells.Nums kind len) object [] [] is.fresh refl (λ j y e. absurd (none-some y e)) len (some_cell state len int) ∙ is_count ∙ ap (λ (k : ℕ). values.Int (pos k)) (sym (replicated_length (pos 0) count));
+        length_is = now_agrees types state machine m good closed h id (cells.Nums kind len) object [] [] is.fresh refl
+            (λ j y e. absurd (none-some y e)) len (some_cell state len int) ∙ is_count
+            ∙ ap (λ (k : ℕ). values.Int (pos k)) (sym (replicated_length (pos 0) count));
       };
     })
     (λ s e. absurd (none-some s e))
     child is.is
 arrays_go_on types state child machine m (slots.Ref t) len id count laws good closed h slot int is_count is =
     let object = objects.Refs t (replicate count values.Null) in
-    let empty : (j : ℕ) (y : Value) → slice_get (replicate count values.Null) j ≡ Some y → target y ≡ None = λ j y e. ap target (replicated values.Null count j y e) in
+    let empty : (j : ℕ) (y : Value) → slice_get (replicate count values.Null) j ≡ Some y → target y ≡ None = λ j y e. ap target
+    (replicated values.Null count j y e) in
     goes_now types state machine m good closed h id (cells.Refs (types.erase t) len Tree) object [] [] is.fresh refl empty
     (record {
       place = length machine.heap.objects;
@@ -331,8 +396,11 @@ arrays_go_on types state child machine m (slots.Ref t) len id count laws good cl
         items = replicate count values.Null;
         is = refl;
         below = laws.erase_up t slot.0;
-        length_is = now_agrees types state machine m good closed h id (cells.Refs (types.erase t) len Tree) object [] [] is.fresh refl empty len (some_cell state len int) ∙ is_count ∙ ap (λ (k : ℕ). values.Int (pos k)) (sym (replicated_length values.Null count));
+        length_is = now_agrees types state machine m good closed h id (cells.Refs (types.erase t) len Tree) object [] [] is.fresh
+            refl empty len (some_cell state len int) ∙ is_count
+            ∙ ap (λ (k : ℕ). values.Int (pos k)) (sym (replicated_length values.Null count));
       };
     })
-    (λ s e. subst (λ (x : Shape). HasShape x (heap_with machine.heap object) (values.Ref (length machine.heap.objects))) (some_is e) (tree_of_new types state machine m good closed h id (cells.Refs (types.erase t) len Tree) object [] [] is.fresh refl empty))
+    (λ s e. subst (λ (x : Shape). HasShape x (heap_with machine.heap object) (values.Ref (length machine.heap.objects))) (some_is e)
+    (tree_of_new types state machine m good closed h id (cells.Refs (types.erase t) len Tree) object [] [] is.fresh refl empty))
     child is.is

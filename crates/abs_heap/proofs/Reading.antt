@@ -20,21 +20,26 @@ use Rattle.abs_heap.specs.Building.{Gains, IsOver, IsThis, IsGivenItem, may_be_o
 use Rattle.abs_heap.proofs.PairGains.{gain_both, gain_as, gains_on}
 use Rattle.abs_heap.proofs.Giving.{image_unnamed, pairs_given, over_state, state_of, frames_unnamed, given_unnamed}
 
-pub one_cells : (sub : Ty → Ty → Bool) (x y : Option Cell) → may_be_one sub x y ≡ true → (c : Cell) × ((x ≡ Some c) × ((d : Cell) × ((y ≡ Some d) × (are_compatible sub c d ≡ true))))
+pub one_cells : (sub : Ty → Ty → Bool) (x y : Option Cell) → may_be_one sub x y ≡ true
+    → (c : Cell) × ((x ≡ Some c) × ((d : Cell) × ((y ≡ Some d) × (are_compatible sub c d ≡ true))))
 one_cells sub None y e = absurd (false≢true e)
 one_cells sub (Some c) None e = absurd (false≢true e)
 one_cells sub (Some c) (Some d) e = (c, (refl, (d, (refl, e))))
 
-pub cells_one : (sub : Ty → Ty → Bool) (x y : Option Cell) (c d : Cell) → x ≡ Some c → y ≡ Some d → are_compatible sub c d ≡ true → may_be_one sub x y ≡ true
+pub cells_one : (sub : Ty → Ty → Bool) (x y : Option Cell) (c d : Cell) → x ≡ Some c → y ≡ Some d → are_compatible sub c d ≡ true
+    → may_be_one sub x y ≡ true
 cells_one sub x y c d e f h = ap (λ (o : Option Cell). may_be_one sub o y) e ∙ ap (may_be_one sub (Some c)) f ∙ h
 
-module _ (sub : Ty → Ty → Bool) (state : AbstractState) (k item : ℕ) (element : Ty) (shape : Shape) (start some whole list all : List (ℕ × Cell)) (others : List ℕ) (old_eq old_share eq0 eq1 sh0 sh1 sh2 : List (ℕ × ℕ))
-    (empty : start ≡ []) (put : IsOver start ((item, cells.Unk element true shape) ∷ []) some) (over : IsOver some state.cells whole) (made : all ≡ whole) (listed : list ≡ all)
+module _ (sub : Ty → Ty → Bool) (state : AbstractState) (k item : ℕ) (element : Ty) (shape : Shape)
+    (start some whole list all : List (ℕ × Cell)) (others : List ℕ) (old_eq old_share eq0 eq1 sh0 sh1 sh2 : List (ℕ × ℕ))
+    (empty : start ≡ []) (put : IsOver start ((item, cells.Unk element true shape) ∷ []) some)
+    (over : IsOver some state.cells whole) (made : all ≡ whole) (listed : list ≡ all)
     (eq_is : old_eq ≡ state.eq) (share_is : old_share ≡ state.share)
     (named_eq : Gains list (IsImage (name_in []) (λ x y. has x y old_eq ≡ true)) [] eq0)
     (named_share : Gains list (IsImage (name_in []) (λ x y. has x y old_share ≡ true)) [] sh0)
     (others_are : (n : ℕ) → (has_id others n ≡ true) ↔ (Share state k n ⊎ ((shape ≡ Any) × (n ≡ k))))
-    (more_eq : Gains list (λ c d. (c ≡ item) × ((has_id others d ≡ true) × (may_be_one sub (cell_in list item) (cell_in list d) ≡ true))) eq0 eq1)
+    (more_eq : Gains list
+    (λ c d. (c ≡ item) × ((has_id others d ≡ true) × (may_be_one sub (cell_in list item) (cell_in list d) ≡ true))) eq0 eq1)
     (more_share : Gains list (λ c d. (c ≡ item) × (has_id others d ≡ true)) sh0 sh1)
     (last : Gains list (IsThis item k) sh1 sh2) where
   abbrev one : ℕ → ℕ → Type 0
@@ -53,7 +58,8 @@ module _ (sub : Ty → Ty → Bool) (state : AbstractState) (k item : ℕ) (elem
   joins a b e h = record { is_item = e; why = (others_are b).0 h }
 
   eqs : Gains all one [] eq1
-  eqs = gain_as all (λ a b. IsImage (name_in []) (λ x y. has x y old_eq ≡ true) a b ⊎ ((a ≡ item) × ((has_id others b ≡ true) × (may_be_one sub (cell_in all item) (cell_in all b) ≡ true)))) one [] eq1
+  eqs = gain_as all (λ a b. IsImage (name_in []) (λ x y. has x y old_eq ≡ true) a b
+      ⊎ ((a ≡ item) × ((has_id others b ≡ true) × (may_be_one sub (cell_in all item) (cell_in all b) ≡ true)))) one [] eq1
       (λ a b j w. elim w [
         | inl i ↦ inl (inl (was old_eq state.eq a b eq_is i))
         | inr v ↦
@@ -69,14 +75,24 @@ module _ (sub : Ty → Ty → Bool) (state : AbstractState) (k item : ℕ) (elem
       ])
       (λ a b j w. elim w [
         | inl h ↦ inl (inl (is_image old_eq state.eq a b eq_is h))
-        | inr v ↦ inl (inr (v.joins.is_item, ((others_are b).1 v.joins.why, cells_one sub (cell_in all item) (cell_in all b) v.left v.right (ap (cell_in all) (sym v.joins.is_item) ∙ v.left_is) v.right_is v.compatible)))
+        | inr v ↦ inl (inr (
+          v.joins.is_item,
+          (
+            (others_are b).1 v.joins.why,
+            cells_one sub (cell_in all item) (cell_in all b) v.left
+                v.right (ap (cell_in all) (sym v.joins.is_item) ∙ v.left_is) v.right_is v.compatible,
+          ),
+        ))
       ])
-      (gain_both all (IsImage (name_in []) (λ x y. has x y old_eq ≡ true)) (λ c d. (c ≡ item) × ((has_id others d ≡ true) × (may_be_one sub (cell_in all item) (cell_in all d) ≡ true))) [] eq0 eq1
+      (gain_both all (IsImage (name_in []) (λ x y. has x y old_eq ≡ true))
+      (λ c d. (c ≡ item) × ((has_id others d ≡ true) × (may_be_one sub (cell_in all item) (cell_in all d) ≡ true))) [] eq0 eq1
       (gains_on list all (λ _. IsImage (name_in []) (λ x y. has x y old_eq ≡ true)) [] eq0 listed named_eq)
-      (gains_on list all (λ xs c d. (c ≡ item) × ((has_id others d ≡ true) × (may_be_one sub (cell_in xs item) (cell_in xs d) ≡ true))) eq0 eq1 listed more_eq))
+      (gains_on list all (λ xs c d. (c ≡ item)
+      × ((has_id others d ≡ true) × (may_be_one sub (cell_in xs item) (cell_in xs d) ≡ true))) eq0 eq1 listed more_eq))
 
   shared : Gains all shares [] sh2
-  shared = gain_as all (λ a b. (IsImage (name_in []) (λ x y. has x y old_share ≡ true) a b ⊎ ((a ≡ item) × (has_id others b ≡ true))) ⊎ IsThis item k a b) shares [] sh2
+  shared = gain_as all (λ a b. (IsImage (name_in []) (λ x y. has x y old_share ≡ true) a b
+      ⊎ ((a ≡ item) × (has_id others b ≡ true))) ⊎ IsThis item k a b) shares [] sh2
       (λ a b j w. elim w [
         | inl v ↦ elim v [
           | inl i ↦ inl (inl (was old_share state.share a b share_is i))
@@ -91,13 +107,15 @@ module _ (sub : Ty → Ty → Bool) (state : AbstractState) (k item : ℕ) (elem
           | inr t ↦ inl (inr t)
         ]
       ])
-      (gain_both all (λ a b. IsImage (name_in []) (λ x y. has x y old_share ≡ true) a b ⊎ ((a ≡ item) × (has_id others b ≡ true))) (IsThis item k) [] sh1 sh2
+      (gain_both all (λ a b. IsImage (name_in []) (λ x y. has x y old_share ≡ true) a b ⊎ ((a ≡ item) × (has_id others b ≡ true)))
+      (IsThis item k) [] sh1 sh2
       (gain_both all (IsImage (name_in []) (λ x y. has x y old_share ≡ true)) (λ c d. (c ≡ item) × (has_id others d ≡ true)) [] sh0 sh1
       (gains_on list all (λ _. IsImage (name_in []) (λ x y. has x y old_share ≡ true)) [] sh0 listed named_share)
       (gains_on list all (λ _ c d. (c ≡ item) × (has_id others d ≡ true)) sh0 sh1 listed more_share))
       (gains_on list all (λ _. IsThis item k) sh1 sh2 listed last))
 
-  item_here : IsGivenItem sub state k element shape item (state_of (map (frame_named (name_in [])) state.frames) (option_map (name_in []) state.throwing) all eq1 sh2)
+  item_here : IsGivenItem sub state k element shape item
+      (state_of (map (frame_named (name_in [])) state.frames) (option_map (name_in []) state.throwing) all eq1 sh2)
   item_here = record {
     frames_are = frames_unnamed state.frames;
     throwing_is = given_unnamed state.throwing;
@@ -107,5 +125,7 @@ module _ (sub : Ty → Ty → Bool) (state : AbstractState) (k item : ℕ) (elem
     share = λ a b. pairs_given all shares sh2 shared a b;
   }
 
-  pub item_given : (child : AbstractState) → child ≡ state_of (map (frame_named (name_in [])) state.frames) (option_map (name_in []) state.throwing) all eq1 sh2 → IsGivenItem sub state k element shape item child
+  pub item_given : (child : AbstractState)
+      → child ≡ state_of (map (frame_named (name_in [])) state.frames) (option_map (name_in []) state.throwing) all eq1 sh2
+      → IsGivenItem sub state k element shape item child
   item_given child e = subst (λ (c : AbstractState). IsGivenItem sub state k element shape item c) (sym e) item_here

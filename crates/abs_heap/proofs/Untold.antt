@@ -7,7 +7,8 @@ use Rattle.jvm_values.specs.Subtyping.{SubtypeLaws}
 use Rattle.abs_cells.specs.Cells.{are_compatible_types}
 use Rattle.abs_heap.specs.Building.{IsUntold}
 
-module _ (sub : Ty → Ty → Bool) (erase : Ty → Ty) (classes : ℕ) (fields : ℕ → List Slot) (can_be_made : ℕ → Bool) (laws : SubtypeLaws sub erase classes fields can_be_made) where
+module _ (sub : Ty → Ty → Bool) (erase : Ty → Ty) (classes : ℕ) (fields : ℕ → List Slot) (can_be_made : ℕ → Bool)
+    (laws : SubtypeLaws sub erase classes fields can_be_made) where
   not_below : (a b : Ty) → 255 < a.dims → sub a b ≡ false
   not_below a b l = elim (cases_Bool (sub a b)) [ inl e ↦ absurd (let h = (laws.of_world a b e).0.0 in omega (arith, h, l)) | inr e ↦ e ]
 

@@ -28,7 +28,8 @@ use Rattle.abs_heap.proofs.PairGains.{gain_both, gain_as, gains_on}
 use Rattle.abs_heap.proofs.Giving.{pairs_given, state_of}
 
 -- what known cells lead to has cells
-known_there : (state : AbstractState) → IsWellFormed state → (path : List ℕ) (x z : ℕ) → HasCell (λ _. true) state x → follow (cell_steps state) path x ≡ Some z → HasCell (λ _. true) state z
+known_there : (state : AbstractState) → IsWellFormed state → (path : List ℕ) (x z : ℕ) → HasCell (λ _. true) state x
+    → follow (cell_steps state) path x ≡ Some z → HasCell (λ _. true) state z
 known_there state good [] x z h e = subst (λ (i : ℕ). HasCell (λ _. true) state i) (some_is e) h
 known_there state good (i ∷ path) x z h e =
     let q = then_some (follow (cell_steps state) path) (cell_steps state x i) z e in
@@ -43,13 +44,19 @@ known_there state good (i ∷ path) x z h e =
     named_too (cells.Refs element len shape) i y f = absurd (none-some y f)
     named_too (cells.Unk bound nullable shape) i y f = absurd (none-some y f)
 
-pub no_cycle_is : (state : AbstractState) (k w : ℕ) (inside : Bool) → IsFiniteId state w → (inside ≡ true) ↔ MayBeIn state k w → (not inside ≡ true) ↔ MakesNoCycle state k w
+pub no_cycle_is : (state : AbstractState) (k w : ℕ) (inside : Bool) → IsFiniteId state w → (inside ≡ true) ↔ MayBeIn state k w
+    → (not inside ≡ true) ↔ MakesNoCycle state k w
 no_cycle_is state k w true finite is = (λ t. absurd (false≢true t), λ h. absurd (h.apart (is.0 refl)))
 no_cycle_is state k w false finite is = (λ t. record { finite = finite; apart = λ m. false≢true (is.1 m) }, λ h. refl)
 
-module _ (state : AbstractState) (write : Write) (ns names : List (ℕ × ℕ)) (null no_cycle : Bool) (start made list all more ids_from met_from : List (ℕ × Cell)) (set marks known beside ids met : List ℕ) (old_eq old_share from_pairs eq sh0 sh1 : List (ℕ × ℕ))
-    (good : IsWellFormed state) (value : HasCell (λ _. true) state write.value) (null_is : (null ≡ true) ↔ IsNullId state write.value) (set_is : (n : ℕ) → (has_id set n ≡ true) ↔ IsAffected state write.object n)
-    (empty : start ≡ []) (more_is : more ≡ state.cells) (put : IsOver start (map (cell_after names (shape_after null no_cycle) write) more) made) (all_is : all ≡ made) (listed : list ≡ all)
+module _ (state : AbstractState) (write : Write) (ns names : List (ℕ × ℕ)) (null no_cycle : Bool)
+    (start made list all more ids_from met_from : List (ℕ × Cell)) (set marks known beside ids met : List ℕ)
+    (old_eq old_share from_pairs eq sh0 sh1 : List (ℕ × ℕ))
+    (good : IsWellFormed state) (value : HasCell (λ _. true) state write.value)
+    (null_is : (null ≡ true) ↔ IsNullId state write.value) (set_is : (n : ℕ) → (has_id set n ≡ true) ↔ IsAffected state write.object n)
+    (empty : start ≡ []) (more_is : more ≡ state.cells)
+    (put : IsOver start (map (cell_after names (shape_after null no_cycle) write) more) made) (all_is : all ≡ made)
+    (listed : list ≡ all)
     (eq_is : old_eq ≡ state.eq) (share_is : old_share ≡ state.share)
     (named : ns ≡ names)
     (eqs_named : Gains list (IsImage (name_in ns) (λ x y. has x y old_eq ≡ true)) [] eq)
@@ -66,7 +73,8 @@ module _ (state : AbstractState) (write : Write) (ns names : List (ℕ × ℕ)) 
   named_eq = subst (λ (xs : List (ℕ × ℕ)). Gains list (IsImage (name_in xs) (λ x y. has x y old_eq ≡ true)) [] eq) named eqs_named
 
   named_share : Gains list (IsImage (name_in names) (λ x y. has x y old_share ≡ true)) [] sh0
-  named_share = subst (λ (xs : List (ℕ × ℕ)). Gains list (IsImage (name_in xs) (λ x y. has x y old_share ≡ true)) [] sh0) named shares_named
+  named_share = subst (λ (xs : List (ℕ × ℕ)). Gains list (IsImage (name_in xs) (λ x y. has x y old_share ≡ true)) [] sh0) named
+      shares_named
 
   known_here : (id : ℕ) → (has_id known id ≡ true) ↔ KnownFrom state write.value id
   known_here id = subst (λ (xs : List ℕ). (has_id xs id ≡ true) ↔ KnownFrom state write.value id) (sym marks_are) (known_is id)
@@ -86,12 +94,14 @@ module _ (state : AbstractState) (write : Write) (ns names : List (ℕ × ℕ)) 
 
   -- the ids of both sets
   id_from : (a : ℕ) → has_id ids a ≡ true → (x : ℕ) × (IsAffected state write.object x × (name_in names x ≡ a))
-  id_from a h = let q = any_named names set set a ids_from (sym (ids_here a) ∙ h) in (q.0, ((set_is q.0).0 (either (has_id set q.0) q.1.0), sym q.1.1))
+  id_from a h = let q = any_named names set set a ids_from (sym (ids_here a) ∙ h) in
+      (q.0, ((set_is q.0).0 (either (has_id set q.0) q.1.0), sym q.1.1))
 
   id_to : (x a : ℕ) → IsAffected state write.object x → name_in names x ≡ a → has_id ids a ≡ true
   id_to x a h e =
       let t = affected_there state write.object x h in
-      ids_here a ∙ named_any names set set a x t.cell ids_from (ap (λ (cs : List (ℕ × Cell)). cell_in cs x) ids_from_is ∙ t.is) (or_left (has_id set x) (has_id set x) ((set_is x).1 h)) (sym e)
+      ids_here a ∙ named_any names set set a x t.cell ids_from (ap (λ (cs : List (ℕ × Cell)). cell_in cs x) ids_from_is ∙ t.is)
+      (or_left (has_id set x) (has_id set x) ((set_is x).1 h)) (sym e)
 
   met_of : (z : ℕ) → (has_id known z || has_id beside z) ≡ true → IsMet state write.value z
   met_of z h = elim (or_cases (has_id known z) (has_id beside z) h) [
@@ -116,29 +126,41 @@ module _ (state : AbstractState) (write : Write) (ns names : List (ℕ × ℕ)) 
   met_in : (z : ℕ) → IsMet state write.value z → (has_id known z || has_id beside z) ≡ true
   met_in z h = elim h.meets [
     | inl e ↦ or_left (has_id known z) (has_id beside z) ((known_here z).1 (subst (KnownFrom state write.value) (sym e) h.known))
-    | inr s ↦ or_right (has_id known z) (has_id beside z) ((beside_here z).1 (record { from = h.from; is_in = (known_here h.from).1 h.known; paired = s }))
+    | inr s ↦ or_right (has_id known z) (has_id beside z)
+        ((beside_here z).1 (record { from = h.from; is_in = (known_here h.from).1 h.known; paired = s }))
   ]
 
   met_to : (z b : ℕ) → IsMet state write.value z → name_in names z ≡ b → has_id met b ≡ true
   met_to z b h e =
       let t = met_there z h in
-      met_here b ∙ named_any names known beside b z t.cell met_from (ap (λ (cs : List (ℕ × Cell)). cell_in cs z) met_from_is ∙ t.is) (met_in z h) (sym e)
+      met_here b ∙ named_any names known beside b z t.cell met_from (ap (λ (cs : List (ℕ × Cell)). cell_in cs z) met_from_is ∙ t.is)
+      (met_in z h) (sym e)
 
   -- the pairs
   shared : Gains all wants [] sh1
-  shared = gain_as all (λ a b. IsImage (name_in names) (λ x y. has x y old_share ≡ true) a b ⊎ ((null ≡ false) × ((has_id ids a ≡ true) × (has_id met b ≡ true)))) wants [] sh1
+  shared = gain_as all (λ a b. IsImage (name_in names) (λ x y. has x y old_share ≡ true) a b
+      ⊎ ((null ≡ false) × ((has_id ids a ≡ true) × (has_id met b ≡ true)))) wants [] sh1
       (λ a b j w. elim w [
         | inl i ↦ inl (inl (subst (λ (ps : List (ℕ × ℕ)). IsImage (name_in names) (λ x y. has x y ps ≡ true) a b) share_is i))
         | inr v ↦
             let x = id_from a v.1.0 in
             let z = met_from_set b v.1.1 in
-            inl (inr (record { x = x.0; z = z.0; affected = x.1.0; met = z.1.0; written = λ n. false≢true (sym v.0 ∙ null_is.1 n); left = x.1.1; right = z.1.1 }))
+            inl (inr (record {
+              x = x.0;
+              z = z.0;
+              affected = x.1.0;
+              met = z.1.0;
+              written = λ n. false≢true (sym v.0 ∙ null_is.1 n);
+              left = x.1.1;
+              right = z.1.1;
+            }))
       ])
       (λ a b j w. elim w [
         | inl i ↦ inl (inl (subst (λ (ps : List (ℕ × ℕ)). IsImage (name_in names) (λ x y. has x y ps ≡ true) a b) (sym share_is) i))
         | inr g ↦ inl (inr (not_null g.written, (id_to g.x a g.affected g.left, met_to g.z b g.met g.right)))
       ])
-      (gain_both all (IsImage (name_in names) (λ x y. has x y old_share ≡ true)) (λ c d. (null ≡ false) × ((has_id ids c ≡ true) × (has_id met d ≡ true))) [] sh0 sh1
+      (gain_both all (IsImage (name_in names) (λ x y. has x y old_share ≡ true))
+      (λ c d. (null ≡ false) × ((has_id ids c ≡ true) × (has_id met d ≡ true))) [] sh0 sh1
       (gains_on list all (λ _. IsImage (name_in names) (λ x y. has x y old_share ≡ true)) [] sh0 listed named_share)
       (gains_on list all (λ _ c d. (null ≡ false) × ((has_id ids c ≡ true) × (has_id met d ≡ true))) sh0 sh1 listed gained))
     where
@@ -146,14 +168,16 @@ module _ (state : AbstractState) (write : Write) (ns names : List (ℕ × ℕ)) 
       not_null n = elim (cases_Bool null) [ inl t ↦ absurd (n (null_is.0 t)) | inr f ↦ f ]
 
   equals : Gains all (IsImage (name_in names) (AreEqual state)) [] eq
-  equals = subst (λ (ps : List (ℕ × ℕ)). Gains all (IsImage (name_in names) (λ x y. has x y ps ≡ true)) [] eq) eq_is (gains_on list all (λ _. IsImage (name_in names) (λ x y. has x y old_eq ≡ true)) [] eq listed named_eq)
+  equals = subst (λ (ps : List (ℕ × ℕ)). Gains all (IsImage (name_in names) (λ x y. has x y ps ≡ true)) [] eq) eq_is
+      (gains_on list all (λ _. IsImage (name_in names) (λ x y. has x y old_eq ≡ true)) [] eq listed named_eq)
 
   over : IsOver [] (map (cell_after names (shape_after null no_cycle) write) state.cells) all
   over = subst (λ (xs : List (ℕ × Cell)). IsOver [] (map (cell_after names (shape_after null no_cycle) write) state.cells) xs) (sym all_is)
       (subst (λ (xs : List (ℕ × Cell)). IsOver [] (map (cell_after names (shape_after null no_cycle) write) xs) made) more_is
       (subst (λ (xs : List (ℕ × Cell)). IsOver xs (map (cell_after names (shape_after null no_cycle) write) more) made) empty put))
 
-  written_here : IsWritten state write names null no_cycle (state_of (map (frame_named (name_in names)) state.frames) (option_map (name_in names) state.throwing) all eq sh1)
+  written_here : IsWritten state write names null no_cycle
+      (state_of (map (frame_named (name_in names)) state.frames) (option_map (name_in names) state.throwing) all eq sh1)
   written_here = record {
     frames_are = refl;
     throwing_is = refl;
@@ -163,11 +187,17 @@ module _ (state : AbstractState) (write : Write) (ns names : List (ℕ × ℕ)) 
     share = λ a b. pairs_given all wants sh1 shared a b;
   }
 
-  pub child_written : (child : AbstractState) → child ≡ state_of (map (frame_named (name_in ns)) state.frames) (option_map (name_in ns) state.throwing) all eq sh1 → IsWritten state write names null no_cycle child
-  child_written child e = subst (IsWritten state write names null no_cycle) (sym (e ∙ ap (λ (xs : List (ℕ × ℕ)). state_of (map (frame_named (name_in xs)) state.frames) (option_map (name_in xs) state.throwing) all eq sh1) named)) written_here
+  pub child_written : (child : AbstractState)
+      → child ≡ state_of (map (frame_named (name_in ns)) state.frames) (option_map (name_in ns) state.throwing) all eq sh1
+      → IsWritten state write names null no_cycle child
+  child_written child e = subst (IsWritten state write names null no_cycle)
+      (sym (e ∙ ap (λ (xs : List (ℕ × ℕ)). state_of (map (frame_named (name_in xs)) state.frames)
+      (option_map (name_in xs) state.throwing) all eq sh1) named)) written_here
 
-pub write_child : (state : AbstractState) (write : Write) (names : List (ℕ × ℕ)) (null no_cycle : Bool) (set : List ℕ) (child : AbstractState)
-    → ((n : ℕ) → (has_id set n ≡ true) ↔ IsAffected state write.object n) → AreNamesOf state set names → (null ≡ true) ↔ IsNullId state write.value → (no_cycle ≡ true) ↔ MakesNoCycle state write.object write.value
+pub write_child : (state : AbstractState) (write : Write) (names : List (ℕ × ℕ)) (null no_cycle : Bool) (set : List ℕ)
+    (child : AbstractState)
+    → ((n : ℕ) → (has_id set n ≡ true) ↔ IsAffected state write.object n) → AreNamesOf state set names
+    → (null ≡ true) ↔ IsNullId state write.value → (no_cycle ≡ true) ↔ MakesNoCycle state write.object write.value
     → IsWritten state write names null no_cycle child → IsWriteChild state write child
 write_child state write names null no_cycle set child set_is named null_is no_cycle_is is = record {
   names = names;

@@ -1,36 +1,35 @@
 -- A write of a reference into an object: what it does to the regions of ids.
-use Rattle.std.proofs.Common.{◌≡◌, ◌≢◌, ℕ, zero, suc, ◌<◌, Bool, true, false, cond, eqb, not, if◌then◌else◌, ◌==◌, List, [], ◌∷◌, ◌++◌, length, map, get_or, Option, Some, None, ◌⊎◌, inl, inr, refl, sym, ap, subst, ◌∙◌, arith, All, eq-eqb, ne_eqb, pos}
+use Rattle.std.proofs.Common.{◌≡◌, ◌≢◌, ℕ, zero, suc, ◌<◌, Bool, true, false, eqb, not, List, [], ◌∷◌}
+use Rattle.std.proofs.Common.{◌++◌, length, map, get_or, Option, Some, None, ◌⊎◌, inl, inr, refl, sym, ap, subst, ◌∙◌, All}
+use Rattle.std.proofs.Common.{eq-eqb, ne_eqb}
 use Rattle.std.specs.Prelude.{slice_get, slice_set}
 use Rattle.std.specs.List.{flat_map}
-use Rattle.std.specs.Option.{option_map, option_and_then}
+use Rattle.std.specs.Option.{option_map}
 use Rattle.std.proofs.lemmas.Bool.{false≢true, cases_Bool, eqb-true, or_cases, cond-true, cond-false, cases_eq}
 use Rattle.std.proofs.lemmas.List.Elements.{All-nil, All-head, All-tail}
 use Rattle.std.proofs.lemmas.Option.{none-some}
 use Rattle.list_views.proofs.Quantified.{every_back, every_front}
-use Rattle.list_views.proofs.Items.{length_set, get_set}
 use Rattle.list_views.proofs.Options.{then_some}
 use Rattle.jvm_values.specs.declared.heap.Value.{Value}
 use Rattle.jvm_values.specs.declared.heap.Value.TheVariants as values
-use Rattle.jvm_values.specs.declared.heap.Object.{Object}
 use Rattle.jvm_values.specs.declared.heap.Object.TheVariants as objects
 use Rattle.jvm_values.specs.declared.heap.Heap.{Heap}
 use Rattle.jvm_values.specs.declared.types.Ty.{Ty}
 use Rattle.jvm_values.specs.declared.shape.Shape.{Shape}
 use Rattle.jvm_values.specs.declared.shape.Shape.TheVariants.{Tree, Dag, Any}
-use Rattle.jvm_values.specs.Paths.{follow}
 use Rattle.jvm_values.specs.States.{MachineState}
 use Rattle.jvm_values.specs.Heaps.{target, Region, HasShape}
-use Rattle.jvm_values.specs.TypedHeaps.{WorldTypes, type_of}
+use Rattle.jvm_values.specs.TypedHeaps.{WorldTypes}
 use Rattle.jvm_values.specs.Writes.{IsWritten, with_value, IsKept}
 use Rattle.jvm_values.proofs.AfterWrites.{keeps, gains, no_cycle, null_keeps}
 use Rattle.jvm_values.proofs.Options.{some_is}
-use Rattle.jvm_values.proofs.Lists.{get_set_other}
 use Rattle.abs_cells.specs.declared.cells.Cell.{Cell}
 use Rattle.abs_cells.specs.declared.cells.Cell.TheVariants as cells
 use Rattle.abs_cells.specs.AbstractStates.{AbstractState}
-use Rattle.abs_cells.specs.Cells.{is_known, is_hazy, is_int, is_reference, ids_in, ids_of, shape_of, cell_in, cell_at, HasCell, AreEqual, Share}
-use Rattle.abs_cells.specs.Closures.{cell_steps, KnownFrom}
-use Rattle.abs_cells.specs.Sound.{IsWellFormed, AreIdsRising, ids_used, ids_of_frame, given_ids}
+use Rattle.abs_cells.specs.Cells.{is_known, is_hazy, is_int, is_reference, ids_in, shape_of, cell_in, cell_at, HasCell}
+use Rattle.abs_cells.specs.Cells.{AreEqual, Share}
+use Rattle.abs_cells.specs.Closures.{KnownFrom}
+use Rattle.abs_cells.specs.Sound.{IsWellFormed, ids_used, ids_of_frame, given_ids}
 use Rattle.abs_cells.specs.Fits.{Meaning, Describes, Fits, with_statics, IsClosedState}
 use Rattle.abs_cells.proofs.Fitting.{known_apart}
 use Rattle.abs_cells.proofs.PairLaws.{has_swapped}
@@ -40,233 +39,22 @@ use Rattle.abs_reach.proofs.Walks.{named_has_cell, counted_is_known, some_cell, 
 use Rattle.abs_cells.specs.Patterns.{Pattern, IsSized, pattern_within, pattern_of_cell}
 use Rattle.term_graph.specs.Edges.{HoldsBetween, is_size_variable, HasSameSize}
 use Rattle.abs_heap.specs.Names.{name_in, frame_named, cell_named, IsImage}
-use Rattle.abs_heap.specs.Writing.{Write, IsAffected, IsMet, IsNullId, MakesNoCycle, shape_after, with_shape, with_field, is_renamed, reshaped, cell_after, GainsPair, IsWriteChild, is_array_of_references}
+use Rattle.abs_heap.specs.Writing.{Write, IsAffected, IsMet, IsNullId, MakesNoCycle, shape_after, with_shape, with_field}
+use Rattle.abs_heap.specs.Writing.{is_renamed, reshaped, cell_after, GainsPair, IsWriteChild, is_array_of_references}
 use Rattle.abs_heap.specs.Laws.{plain_link, IsWriteOf, Goes, with_heap, WritesGoOn}
-use Rattle.abs_heap.proofs.Placing.{cell_here, cell_later, absent}
 use Rattle.abs_heap.proofs.Fitted.{FitsBy, fits_given}
 use Rattle.abs_heap.proofs.SameTerms.{size_kept}
-use Rattle.abs_heap.proofs.Renamed.{named_here, named_later, unnamed_stays, old_in, back_again, renamed_is, is_renamed_of, maps_move, frames_move, thrown_moves, mapped_set, set_member, tree_is_dag}
+use Rattle.abs_heap.proofs.Renamed.{named_here, named_later, unnamed_stays, old_in, back_again, renamed_is, is_renamed_of}
+use Rattle.abs_heap.proofs.Renamed.{maps_move, frames_move, thrown_moves, mapped_set, set_member, tree_is_dag}
+use Rattle.abs_heap.proofs.ChangedCells.{Was, was_in, known_shaped, inner, either, known_after, hazy_after, shape_is_after}
+use Rattle.abs_heap.proofs.ChangedCells.{shape_changed, only_itself, object_after, known_no_array, shaped_describes, ids_shaped}
+use Rattle.abs_heap.proofs.ChangedCells.{described_after}
 
--- ---- cells after the write
-
--- an id of the child is the new name of one of the state
-record Was (state : AbstractState) (names : List (ℕ × ℕ)) (change : Shape → Shape) (write : Write) (id : ℕ) (c : Cell) : Type 0 where
-  x : ℕ
-  old : Cell
-  old_is : cell_at state x ≡ Some old
-  named : name_in names x ≡ id
-  now : (cell_after names change write (x, old)).1 ≡ c
-
-was_in : (state : AbstractState) (names : List (ℕ × ℕ)) (change : Shape → Shape) (write : Write) (low : ℕ) (list : List (ℕ × Cell)) → AreIdsRising low list → ((x : ℕ) (c : Cell) → cell_in list x ≡ Some c → cell_at state x ≡ Some c) → (id : ℕ) (c : Cell) → cell_in (map (cell_after names change write) list) id ≡ Some c → Was state names change write id c
-was_in state names change write low [] r there id c e = absurd (none-some c e)
-was_in state names change write low (d ∷ list) r there id c e = elim (cases_eq (name_in names d.0) id) [
-  | inl s ↦ record {
-    x = d.0;
-    old = d.1;
-    old_is = there d.0 d.1 (cell_here d list d.0 refl);
-    named = s;
-    now = some_is (sym (cell_here (cell_after names change write d) (map (cell_after names change write) list) id s) ∙ e);
-  }
-  | inr s ↦ was_in state names change write (suc d.0) list r.1.1
-      (λ x y f. there x y (cell_later d list x (λ t. not_first d.0 x y list r.1.1 t f) ∙ f)) id c
-      (sym (cell_later (cell_after names change write d) (map (cell_after names change write) list) id s) ∙ e)
-]
-  where
-    not_first : (n x : ℕ) (y : Cell) (list : List (ℕ × Cell)) → AreIdsRising (suc n) list → n ≡ x → cell_in list x ≡ Some y → ⊥
-    not_first n x y list q t f = none-some y (sym (absent (suc n) list x q (omega (arith, t))) ∙ f)
-
-known_shaped : (change : Shape → Shape) (c : Cell) → is_known (with_shape change c) ≡ is_known c
-known_shaped change (cells.Int interval) = refl
-known_shaped change cells.Null = refl
-known_shaped change (cells.Obj class ids) = refl
-known_shaped change (cells.Nums kind len) = refl
-known_shaped change (cells.Refs element len shape) = refl
-known_shaped change (cells.Unk bound nullable shape) = refl
-
-hazy_shaped : (change : Shape → Shape) (c : Cell) → is_hazy (with_shape change c) ≡ is_hazy c
-hazy_shaped change (cells.Int interval) = refl
-hazy_shaped change cells.Null = refl
-hazy_shaped change (cells.Obj class ids) = refl
-hazy_shaped change (cells.Nums kind len) = refl
-hazy_shaped change (cells.Refs element len shape) = refl
-hazy_shaped change (cells.Unk bound nullable shape) = refl
-
-known_fielded : (field : Option ℕ) (w : ℕ) (c : Cell) → is_known (with_field field w c) ≡ is_known c
-known_fielded None w c = refl
-known_fielded (Some f) w (cells.Int interval) = refl
-known_fielded (Some f) w cells.Null = refl
-known_fielded (Some f) w (cells.Obj class ids) = refl
-known_fielded (Some f) w (cells.Nums kind len) = refl
-known_fielded (Some f) w (cells.Refs element len shape) = refl
-known_fielded (Some f) w (cells.Unk bound nullable shape) = refl
-
-hazy_fielded : (field : Option ℕ) (w : ℕ) (c : Cell) → is_hazy (with_field field w c) ≡ is_hazy c
-hazy_fielded None w c = refl
-hazy_fielded (Some f) w (cells.Int interval) = refl
-hazy_fielded (Some f) w cells.Null = refl
-hazy_fielded (Some f) w (cells.Obj class ids) = refl
-hazy_fielded (Some f) w (cells.Nums kind len) = refl
-hazy_fielded (Some f) w (cells.Refs element len shape) = refl
-hazy_fielded (Some f) w (cells.Unk bound nullable shape) = refl
-
-shape_fielded : (field : Option ℕ) (w : ℕ) (c : Cell) → shape_of (with_field field w c) ≡ shape_of c
-shape_fielded None w c = refl
-shape_fielded (Some f) w (cells.Int interval) = refl
-shape_fielded (Some f) w cells.Null = refl
-shape_fielded (Some f) w (cells.Obj class ids) = refl
-shape_fielded (Some f) w (cells.Nums kind len) = refl
-shape_fielded (Some f) w (cells.Refs element len shape) = refl
-shape_fielded (Some f) w (cells.Unk bound nullable shape) = refl
-
-pub known_named : (f : ℕ → ℕ) (c : Cell) → is_known (cell_named f c) ≡ is_known c
-known_named f (cells.Int interval) = refl
-known_named f cells.Null = refl
-known_named f (cells.Obj class ids) = refl
-known_named f (cells.Nums kind len) = refl
-known_named f (cells.Refs element len shape) = refl
-known_named f (cells.Unk bound nullable shape) = refl
-
-pub hazy_named : (f : ℕ → ℕ) (c : Cell) → is_hazy (cell_named f c) ≡ is_hazy c
-hazy_named f (cells.Int interval) = refl
-hazy_named f cells.Null = refl
-hazy_named f (cells.Obj class ids) = refl
-hazy_named f (cells.Nums kind len) = refl
-hazy_named f (cells.Refs element len shape) = refl
-hazy_named f (cells.Unk bound nullable shape) = refl
-
-pub shape_named : (f : ℕ → ℕ) (c : Cell) → shape_of (cell_named f c) ≡ shape_of c
-shape_named f (cells.Int interval) = refl
-shape_named f cells.Null = refl
-shape_named f (cells.Obj class ids) = refl
-shape_named f (cells.Nums kind len) = refl
-shape_named f (cells.Refs element len shape) = refl
-shape_named f (cells.Unk bound nullable shape) = refl
-
--- what the cell of an id is after the write, before its ids are under their names
-abbrev inner : List (ℕ × ℕ) → (Shape → Shape) → Write → ℕ → Cell → Cell
-inner names change write x c = if x == write.object then with_field write.field write.value (reshaped names change (x, c)) else reshaped names change (x, c)
-
-pub either : {A : Type 0} (P : A → Type 0) (b : Bool) (p q : A) → P p → P q → P (cond b p q)
-either P true p q a c = a
-either P false p q a c = c
-
--- a change of shape and a field leave what sort a cell is
-known_after : (names : List (ℕ × ℕ)) (change : Shape → Shape) (write : Write) (x : ℕ) (c : Cell) → is_known (cell_after names change write (x, c)).1 ≡ is_known c
-known_after names change write x c =
-    let shaped : is_known (reshaped names change (x, c)) ≡ is_known c = either (λ (d : Cell). is_known d ≡ is_known c) (is_renamed names x) (with_shape change c) c (known_shaped change c) refl in
-    known_named (name_in names) (inner names change write x c)
-    ∙ either (λ (d : Cell). is_known d ≡ is_known c) (x == write.object) (with_field write.field write.value (reshaped names change (x, c))) (reshaped names change (x, c)) (known_fielded write.field write.value (reshaped names change (x, c)) ∙ shaped) shaped
-
-hazy_after : (names : List (ℕ × ℕ)) (change : Shape → Shape) (write : Write) (x : ℕ) (c : Cell) → is_hazy (cell_after names change write (x, c)).1 ≡ is_hazy c
-hazy_after names change write x c =
-    let shaped : is_hazy (reshaped names change (x, c)) ≡ is_hazy c = either (λ (d : Cell). is_hazy d ≡ is_hazy c) (is_renamed names x) (with_shape change c) c (hazy_shaped change c) refl in
-    hazy_named (name_in names) (inner names change write x c)
-    ∙ either (λ (d : Cell). is_hazy d ≡ is_hazy c) (x == write.object) (with_field write.field write.value (reshaped names change (x, c))) (reshaped names change (x, c)) (hazy_fielded write.field write.value (reshaped names change (x, c)) ∙ shaped) shaped
-
-shape_is_after : (names : List (ℕ × ℕ)) (change : Shape → Shape) (write : Write) (x : ℕ) (c : Cell) → shape_of (cell_after names change write (x, c)).1 ≡ shape_of (reshaped names change (x, c))
-shape_is_after names change write x c =
-    shape_named (name_in names) (inner names change write x c)
-    ∙ either (λ (d : Cell). shape_of d ≡ shape_of (reshaped names change (x, c))) (x == write.object) (with_field write.field write.value (reshaped names change (x, c))) (reshaped names change (x, c)) (shape_fielded write.field write.value (reshaped names change (x, c))) refl
-
-shape_changed : (change : Shape → Shape) (c : Cell) (s : Shape) → shape_of (with_shape change c) ≡ Some s → (t : Shape) × ((shape_of c ≡ Some t) × (s ≡ change t))
-shape_changed change (cells.Int interval) s e = absurd (none-some s e)
-shape_changed change cells.Null s e = absurd (none-some s e)
-shape_changed change (cells.Obj class ids) s e = absurd (none-some s e)
-shape_changed change (cells.Nums kind len) s e = absurd (none-some s e)
-shape_changed change (cells.Refs element len shape) s e = (shape, (refl, sym (some_is e)))
-shape_changed change (cells.Unk bound nullable shape) s e = (shape, (refl, sym (some_is e)))
-
--- a hazy id has no known steps
-no_steps : (c : Cell) → is_hazy c ≡ true → (i : ℕ) → slice_get (ids_of c) i ≡ None
-no_steps (cells.Int interval) e i = refl
-no_steps cells.Null e i = refl
-no_steps (cells.Obj class ids) e i = absurd (false≢true e)
-no_steps (cells.Nums kind len) e i = absurd (false≢true e)
-no_steps (cells.Refs element len shape) e i = refl
-no_steps (cells.Unk bound nullable shape) e i = refl
-
-only_itself : (state : AbstractState) (y q : ℕ) → HasCell is_hazy state y → KnownFrom state y q → q ≡ y
-only_itself state y q h r = go r.path r.leads
-  where
-    go : (p : List ℕ) → follow (cell_steps state) p y ≡ Some q → q ≡ y
-    go [] e = sym (some_is e)
-    go (i ∷ p) e =
-        let s = then_some (follow (cell_steps state) p) (cell_steps state y i) q e in
-        let none : cell_steps state y i ≡ None = ap (option_and_then (λ (cell : Cell). slice_get (ids_of cell) i)) h.is ∙ no_steps h.cell h.sort_is i in
-        absurd (none-some s.0 (sym none ∙ s.1.0))
-
--- an object of the new heap
-pub object_after : (heap after : Heap) (o place : ℕ) (value : Value) (w : IsWritten heap o place value after) (r : ℕ) (ob : Object) → slice_get heap.objects r ≡ Some ob
-    → ((r ≡ o → ⊥) × (slice_get after.objects r ≡ Some ob)) ⊎ ((r ≡ o) × ((ob ≡ w.object) × (slice_get after.objects r ≡ Some (with_value place value ob))))
-object_after heap after o place value w r ob e = elim (cases_eq r o) [
-  | inl s ↦
-      let same : ob ≡ w.object = some_is (sym e ∙ ap (slice_get heap.objects) s ∙ w.stands) in
-      inr (s, (same, ap (λ (xs : List Object). slice_get xs r) w.objects ∙ ap (λ (i : ℕ). slice_get (slice_set heap.objects o (with_value place value w.object)) i) s ∙ get_set heap.objects o (with_value place value w.object) w.object w.stands ∙ ap (λ (x : Object). Some (with_value place value x)) (sym same)))
-  | inr n ↦ inl (n, ap (λ (xs : List Object). slice_get xs r) w.objects ∙ get_set_other heap.objects o r (with_value place value w.object) n ∙ e)
-]
-
-pub type_after : (place : ℕ) (value : Value) (ob : Object) → type_of (with_value place value ob) ≡ type_of ob
-type_after place value (objects.Instance class fields) = refl
-type_after place value (objects.Nums kind items) = refl
-type_after place value (objects.Refs element items) = refl
-
--- a known cell and an array of references describe two objects
-known_no_array : (types : WorldTypes) (heap : Heap) (m : Meaning) (c : Cell) (v u : Value) (o : ℕ) (element : Ty) (len : ℕ) (shape : Shape) → is_known c ≡ true → Describes types heap m c v → Describes types heap m (cells.Refs element len shape) u → target v ≡ Some o → target u ≡ Some o → ⊥
-known_no_array types heap m (cells.Int interval) v u o element len shape k d e t s = false≢true k
-known_no_array types heap m cells.Null v u o element len shape k d e t s = false≢true k
-known_no_array types heap m (cells.Obj class ids) v u o element len shape k d e t s = never (some_is (ap Some (sym d.holds) ∙ sym d.stands ∙ ap (slice_get heap.objects) (some_is (sym (ap target d.names) ∙ t ∙ sym s ∙ ap target e.names)) ∙ e.stands ∙ ap Some e.holds.is))
-  where
-    never : {fields : List Value} {item : Ty} {items : List Value} → objects.Instance class fields ≡ objects.Refs item items → ⊥
-    never f = cc
-known_no_array types heap m (cells.Nums kind l) v u o element len shape k d e t s = never (some_is (ap Some (sym d.holds.is) ∙ sym d.stands ∙ ap (slice_get heap.objects) (some_is (sym (ap target d.names) ∙ t ∙ sym s ∙ ap target e.names)) ∙ e.stands ∙ ap Some e.holds.is))
-  where
-    never : {item : Ty} {items : List Value} → objects.Nums kind d.holds.items ≡ objects.Refs item items → ⊥
-    never f = cc
-known_no_array types heap m (cells.Refs e1 l s1) v u o element len shape k d e t s = false≢true k
-known_no_array types heap m (cells.Unk b l s1) v u o element len shape k d e t s = false≢true k
-
-shaped_describes : (types : WorldTypes) (heap : Heap) (m : Meaning) (change : Shape → Shape) (c : Cell) (v : Value) → Describes types heap m c v → Describes types heap m (with_shape change c) v
-shaped_describes types heap m change (cells.Int interval) v d = d
-shaped_describes types heap m change cells.Null v d = d
-shaped_describes types heap m change (cells.Obj class ids) v d = d
-shaped_describes types heap m change (cells.Nums kind len) v d = d
-shaped_describes types heap m change (cells.Refs element len shape) v d = d
-shaped_describes types heap m change (cells.Unk bound nullable shape) v d = d
-
-ids_shaped : (change : Shape → Shape) (c : Cell) → ids_in (with_shape change c) ≡ ids_in c
-ids_shaped change (cells.Int interval) = refl
-ids_shaped change cells.Null = refl
-ids_shaped change (cells.Obj class ids) = refl
-ids_shaped change (cells.Nums kind len) = refl
-ids_shaped change (cells.Refs element len shape) = refl
-ids_shaped change (cells.Unk bound nullable shape) = refl
-
-module _ (types : WorldTypes) (heap after : Heap) (o place : ℕ) (value : Value) (w : IsWritten heap o place value after) (m n : Meaning) (f : ℕ → ℕ) where
-  -- a cell whose object is known exactly, and another one than the written one
-  described_after : (c : Cell) (v : Value) → Describes types heap m c v → (is_known c ≡ true → target v ≡ Some o → ⊥) → ((i id : ℕ) → slice_get (ids_in c) i ≡ Some id → n (f id) ≡ m id) → Describes types after n (cell_named f c) v
-  described_after (cells.Int interval) v d other moves = d
-  described_after cells.Null v d other moves = d
-  described_after (cells.Obj class ids) v d other moves = elim (object_after heap after o place value w d.place d.object d.stands) [
-    | inl e ↦ record { place = d.place; object = d.object; names = d.names; stands = e.1; holds = d.holds ∙ ap (objects.Instance class) (sym (maps_move m n f ids moves)) }
-    | inr e ↦ absurd (other refl (ap target d.names ∙ ap Some e.0))
-  ]
-  described_after (cells.Nums kind len) v d other moves = elim (object_after heap after o place value w d.place d.object d.stands) [
-    | inl e ↦ record { place = d.place; object = d.object; names = d.names; stands = e.1; holds = record { items = d.holds.items; is = d.holds.is; length_is = moves 0 len refl ∙ d.holds.length_is } }
-    | inr e ↦ record { place = d.place; object = with_value place value d.object; names = d.names; stands = e.1.1; holds = record { items = d.holds.items; is = ap (with_value place value) d.holds.is; length_is = moves 0 len refl ∙ d.holds.length_is } }
-  ]
-  described_after (cells.Refs element len shape) v d other moves = elim (object_after heap after o place value w d.place d.object d.stands) [
-    | inl e ↦ record { place = d.place; object = d.object; names = d.names; stands = e.1; holds = record { item = d.holds.item; items = d.holds.items; is = d.holds.is; below = d.holds.below; length_is = moves 0 len refl ∙ d.holds.length_is } }
-    | inr e ↦ record { place = d.place; object = with_value place value d.object; names = d.names; stands = e.1.1; holds = record { item = d.holds.item; items = slice_set d.holds.items place value; is = ap (with_value place value) d.holds.is; below = d.holds.below; length_is = moves 0 len refl ∙ d.holds.length_is ∙ ap (λ (l : ℕ). values.Int (pos l)) (sym (length_set d.holds.items place value)) } }
-  ]
-  described_after (cells.Unk bound nullable shape) v (inl d) other moves = inl d
-  described_after (cells.Unk bound nullable shape) v (inr d) other moves = elim (object_after heap after o place value w d.place d.object d.stands) [
-    | inl e ↦ inr (record { place = d.place; object = d.object; names = d.names; stands = e.1; holds = d.holds })
-    | inr e ↦ inr (record { place = d.place; object = with_value place value d.object; names = d.names; stands = e.1.1; holds = subst (λ (t : Ty). types.sub t bound ≡ true) (sym (type_after place value d.object)) d.holds })
-  ]
-
-module _ (types : WorldTypes) (state child : AbstractState) (machine : MachineState) (m : Meaning) (write : Write) (cell : Cell) (o place : ℕ) (heap : Heap)
+module _ (types : WorldTypes) (state child : AbstractState) (machine : MachineState) (m : Meaning) (write : Write) (cell : Cell)
+    (o place : ℕ) (heap : Heap)
     (good : IsWellFormed state) (closed : IsClosedState machine state m) (h : Fits types state machine m)
-    (v : HasCell (λ c. not (is_int c)) state write.value) (at : cell_at state write.object ≡ Some cell) (wr : IsWriteOf state write place cell) (to : target (m write.object) ≡ Some o)
+    (v : HasCell (λ c. not (is_int c)) state write.value) (at : cell_at state write.object ≡ Some cell)
+    (wr : IsWriteOf state write place cell) (to : target (m write.object) ≡ Some o)
     (w : IsWritten machine.heap o place (m write.value) heap) (is : IsWriteChild state write child) where
   abbrev k : ℕ
   k = write.object
@@ -319,7 +107,8 @@ module _ (types : WorldTypes) (state child : AbstractState) (machine : MachineSt
     where
       go : (q : Option ℕ) → write.field ≡ q → IsInstance ⊎ (IsArray × (write.field ≡ None))
       go None e = let a = wr.array_is e in inr (record { element = a.0; len = a.1; shape = a.2; is_array = a.3 }, e)
-      go (Some x) e = let a = wr.field_is x e in inl (record { class = a.1.0; ids = a.1.1; is_instance = a.1.2.0; field = x; field_is = e; place_is = a.0; inside = a.1.2.1 })
+      go (Some x) e = let a = wr.field_is x e in inl
+          (record { class = a.1.0; ids = a.1.1; is_instance = a.1.2.0; field = x; field_is = e; place_is = a.0; inside = a.1.2.1 })
 
   known_k : IsInstance → HasCell is_known state k
   known_k i = record { cell = cell; is = at; sort_is = ap is_known i.is_instance }
@@ -330,8 +119,12 @@ module _ (types : WorldTypes) (state child : AbstractState) (machine : MachineSt
   array_k : (x : ℕ) → x ≡ k → IsArray → HasCell is_array_of_references state x
   array_k x e a = record { cell = cell; is = ap (cell_at state) e ∙ at; sort_is = ap is_array_of_references a.is_array }
 
-  array_describes : IsArray → (element : Ty) × ((len : ℕ) × ((shape : Shape) × Describes types machine.heap m (cells.Refs element len shape) (m k)))
-  array_describes a = (a.element, (a.len, (a.shape, subst (λ (c : Cell). Describes types machine.heap m c (m k)) a.is_array (h.cells k cell at))))
+  array_describes : IsArray
+      → (element : Ty) × ((len : ℕ) × ((shape : Shape) × Describes types machine.heap m (cells.Refs element len shape) (m k)))
+  array_describes a = (
+    a.element,
+    (a.len, (a.shape, subst (λ (c : Cell). Describes types machine.heap m c (m k)) a.is_array (h.cells k cell at))),
+  )
 
   -- a hazy id in whose region the object lies is affected
   affected_if : (x : ℕ) → HasCell is_hazy state x → Region machine.heap (m x) o → IsAffected state k x
@@ -347,7 +140,8 @@ module _ (types : WorldTypes) (state child : AbstractState) (machine : MachineSt
   known_other : (x : ℕ) → HasCell is_known state x → (x ≡ k → ⊥) → target (m x) ≡ Some o → ⊥
   known_other x z e t = elim sort_of_k [
     | inl i ↦ known_apart types state machine m good h x k o z (known_k i) e t to
-    | inr a ↦ let d = array_describes a.0 in known_no_array types machine.heap m z.cell (m x) (m k) o d.0 d.1.0 d.1.1.0 z.sort_is (h.cells x z.cell z.is) d.1.1.1 t to
+    | inr a ↦ let d = array_describes a.0 in known_no_array types machine.heap m z.cell (m x) (m k) o d.0 d.1.0 d.1.1.0 z.sort_is
+        (h.cells x z.cell z.is) d.1.1.1 t to
   ]
 
   lacks : (x : ℕ) → HasCell is_hazy state x → is_renamed is.names x ≡ false → Region machine.heap (m x) o → ⊥
@@ -356,7 +150,8 @@ module _ (types : WorldTypes) (state child : AbstractState) (machine : MachineSt
   kept : (x : ℕ) → HasCell is_hazy state x → is_renamed is.names x ≡ false → IsKept machine.heap heap (m x)
   kept x z e = keeps machine.heap heap o place (m write.value) w (m x) (lacks x z e)
 
-  gained : (x p : ℕ) → Region heap (m x) p → Region machine.heap (m x) p ⊎ (Region machine.heap (m x) o × Region machine.heap (m write.value) p)
+  gained : (x p : ℕ) → Region heap (m x) p
+      → Region machine.heap (m x) p ⊎ (Region machine.heap (m x) o × Region machine.heap (m write.value) p)
   gained x p r = (gains machine.heap heap o place (m write.value) w (m x)).others p r
 
   null_value : IsNullId state write.value → m write.value ≡ values.Null
@@ -365,7 +160,8 @@ module _ (types : WorldTypes) (state child : AbstractState) (machine : MachineSt
   not_null : (p : ℕ) → Region machine.heap (m write.value) p → IsNullId state write.value → ⊥
   not_null p r e = none-some r.start (sym (ap target (null_value e)) ∙ r.names)
 
-  met_hazy : (y p : ℕ) → HasCell is_hazy state y → Region machine.heap (m y) p → Region machine.heap (m write.value) p → IsMet state write.value y
+  met_hazy : (y p : ℕ) → HasCell is_hazy state y → Region machine.heap (m y) p → Region machine.heap (m write.value) p
+      → IsMet state write.value y
   met_hazy y p z ry rw_ =
       let mm = may_meet types state machine m good h write.value y p value_there (some_cell state y z) rw_ ry in
       let only : mm.q ≡ y = only_itself state y mm.q z mm.from_y in
@@ -378,13 +174,15 @@ module _ (types : WorldTypes) (state child : AbstractState) (machine : MachineSt
         ];
       }
 
-  met_known : (y p : ℕ) → HasCell is_known state y → target (m y) ≡ Some p → Region machine.heap (m write.value) p → IsMet state write.value y
+  met_known : (y p : ℕ) → HasCell is_known state y → target (m y) ≡ Some p → Region machine.heap (m write.value) p
+      → IsMet state write.value y
   met_known y p z t r = elim (may_be_in types state machine m good h y write.value p z value_there t r).there [
     | inl known ↦ record { from = y; known = known; meets = inl refl }
     | inr s ↦ record { from = s.q; known = s.from_x; meets = inr (has_swapped y s.q state.share ∙ s.share) }
   ]
 
-  gains_pair : (x y p : ℕ) → IsAffected state k x → IsMet state write.value y → Region machine.heap (m write.value) p → GainsPair state is.names write (name_in is.names x) (name_in is.names y)
+  gains_pair : (x y p : ℕ) → IsAffected state k x → IsMet state write.value y → Region machine.heap (m write.value) p
+      → GainsPair state is.names write (name_in is.names x) (name_in is.names y)
   gains_pair x y p a met r = record { x = x; z = y; affected = a; met = met; written = not_null p r; left = refl; right = refl }
 
   image : (pairs : ℕ → ℕ → Type 0) (x y : ℕ) → pairs x y → IsImage (name_in is.names) pairs (name_in is.names x) (name_in is.names y)
@@ -401,58 +199,87 @@ module _ (types : WorldTypes) (state child : AbstractState) (machine : MachineSt
       counts a = hazy_is_reference state k (hazy_k a)
 
       by_way : IsArray → Way state machine.heap m write.value r.reaches.path o → ⊥
-      by_way a (inl b) = let d = array_describes a in known_no_array types machine.heap m b.known.cell (m b.y) (m k) o d.0 d.1.0 d.1.1.0 b.known.sort_is (h.cells b.y b.known.cell b.known.is) d.1.1.1 b.names to
+      by_way a (inl b) = let d = array_describes a in known_no_array types machine.heap m b.known.cell (m b.y) (m k) o d.0 d.1.0
+          d.1.1.0 b.known.sort_is (h.cells b.y b.known.cell b.known.is) d.1.1.1 b.names to
       by_way a (inr b) =
-          let from : KnownFrom state write.value b.q = record { path = b.front; leads = counted_is_known state b.front write.value b.q b.leads } in
-          let region : Region machine.heap (m b.q) o = record { start = b.c; names = b.names; reaches = record { path = b.back; leads = b.rest } } in
+          let from : KnownFrom state write.value b.q = record
+          { path = b.front; leads = counted_is_known state b.front write.value b.q b.leads } in
+          let region : Region machine.heap (m b.q) o = record
+          { start = b.c; names = b.names; reaches = record { path = b.back; leads = b.rest } } in
           elim (cases_eq b.q k) [
             | inl e ↦ none.apart (record { counts = counts a; there = inl (subst (λ (i : ℕ). KnownFrom state write.value i) e from) })
-            | inr e ↦ none.apart (record { counts = counts a; there = inr (record { q = b.q; from_x = from; hazy = b.hazy; share = h.meeting k b.q o (hazy_k a) b.hazy (λ s. e (sym s)) in_k region }) })
+            | inr e ↦ none.apart (record {
+              counts = counts a;
+              there = inr
+                  (record {
+                    q = b.q;
+                    from_x = from;
+                    hazy = b.hazy;
+                    share = h.meeting k b.q o (hazy_k a) b.hazy (λ s. e (sym s))
+                        in_k region;
+                  });
+            })
           ]
 
-  shape_now : (x : ℕ) (nul nc : Bool) → nul ≡ is.null → nc ≡ is.no_cycle → (t : Shape) → HasShape t machine.heap (m x) → HasShape (shape_after nul nc t) heap (m x)
+  shape_now : (x : ℕ) (nul nc : Bool) → nul ≡ is.null → nc ≡ is.no_cycle → (t : Shape) → HasShape t machine.heap (m x)
+      → HasShape (shape_after nul nc t) heap (m x)
   shape_now x nul nc e c Any s = tt
-  shape_now x true nc e c Tree s = null_keeps machine.heap heap o place (m write.value) w (ap target (null_value (is.null_is.0 (sym e)))) Tree (m x) s
-  shape_now x true nc e c Dag s = null_keeps machine.heap heap o place (m write.value) w (ap target (null_value (is.null_is.0 (sym e)))) Dag (m x) s
+  shape_now x true nc e c Tree s = null_keeps machine.heap heap o place (m write.value) w
+      (ap target (null_value (is.null_is.0 (sym e)))) Tree (m x) s
+  shape_now x true nc e c Dag s = null_keeps machine.heap heap o place (m write.value) w
+      (ap target (null_value (is.null_is.0 (sym e)))) Dag (m x) s
   shape_now x false true e c Tree s =
       let none = is.no_cycle_is.0 (sym c) in
-      no_cycle machine.heap heap o place (m write.value) w (value_lacks none) (finite types state machine m good h write.value value_there none.finite) (m x) (tree_is_dag machine.heap (m x) s)
+      no_cycle machine.heap heap o place (m write.value) w (value_lacks none)
+      (finite types state machine m good h write.value value_there none.finite) (m x) (tree_is_dag machine.heap (m x) s)
   shape_now x false true e c Dag s =
       let none = is.no_cycle_is.0 (sym c) in
-      no_cycle machine.heap heap o place (m write.value) w (value_lacks none) (finite types state machine m good h write.value value_there none.finite) (m x) s
+      no_cycle machine.heap heap o place (m write.value) w (value_lacks none)
+      (finite types state machine m good h write.value value_there none.finite) (m x) s
   shape_now x false false e c Tree s = tt
   shape_now x false false e c Dag s = tt
 
   abbrev change : Shape → Shape
   change = shape_after is.null is.no_cycle
 
-  shaped_at : (x : ℕ) (c : Cell) (s : Shape) → cell_at state x ≡ Some c → is_hazy c ≡ true → shape_of (reshaped is.names (shape_after is.null is.no_cycle) (x, c)) ≡ Some s → HasShape s heap (m x)
+  shaped_at : (x : ℕ) (c : Cell) (s : Shape) → cell_at state x ≡ Some c → is_hazy c ≡ true
+      → shape_of (reshaped is.names (shape_after is.null is.no_cycle) (x, c)) ≡ Some s → HasShape s heap (m x)
   shaped_at x c s e z g = elim (cases_Bool (is_renamed is.names x)) [
     | inl r ↦
-        let t = shape_changed (shape_after is.null is.no_cycle) c s (ap shape_of (sym (cond-true (is_renamed is.names x) (with_shape (shape_after is.null is.no_cycle) c) c r)) ∙ g) in
+        let t = shape_changed (shape_after is.null is.no_cycle) c s
+        (ap shape_of (sym (cond-true (is_renamed is.names x) (with_shape (shape_after is.null is.no_cycle) c) c r)) ∙ g) in
         subst (λ (y : Shape). HasShape y heap (m x)) (sym t.1.1) (shape_now x is.null is.no_cycle refl refl t.0 (h.shapes x c t.0 e t.1.0))
     | inr r ↦
-        let g2 : shape_of c ≡ Some s = ap shape_of (sym (cond-false (is_renamed is.names x) (with_shape (shape_after is.null is.no_cycle) c) c r)) ∙ g in
+        let g2 : shape_of c ≡ Some s = ap shape_of
+        (sym (cond-false (is_renamed is.names x) (with_shape (shape_after is.null is.no_cycle) c) c r)) ∙ g in
         ((kept x (record { cell = c; is = e; sort_is = z }) r).shape s).1 (h.shapes x c s e g2)
   ]
 
   -- ---- cells
   ids_reshaped : (x : ℕ) (c : Cell) → ids_in (reshaped is.names (shape_after is.null is.no_cycle) (x, c)) ≡ ids_in c
-  ids_reshaped x c = either (λ (d : Cell). ids_in d ≡ ids_in c) (is_renamed is.names x) (with_shape (shape_after is.null is.no_cycle) c) c (ids_shaped (shape_after is.null is.no_cycle) c) refl
+  ids_reshaped x c = either (λ (d : Cell). ids_in d ≡ ids_in c) (is_renamed is.names x)
+      (with_shape (shape_after is.null is.no_cycle) c) c (ids_shaped (shape_after is.null is.no_cycle) c) refl
 
   known_reshaped : (x : ℕ) (c : Cell) → is_known (reshaped is.names (shape_after is.null is.no_cycle) (x, c)) ≡ is_known c
-  known_reshaped x c = either (λ (d : Cell). is_known d ≡ is_known c) (is_renamed is.names x) (with_shape (shape_after is.null is.no_cycle) c) c (known_shaped (shape_after is.null is.no_cycle) c) refl
+  known_reshaped x c = either (λ (d : Cell). is_known d ≡ is_known c) (is_renamed is.names x)
+      (with_shape (shape_after is.null is.no_cycle) c) c (known_shaped (shape_after is.null is.no_cycle) c) refl
 
-  reshaped_describes : (x : ℕ) (c : Cell) → cell_at state x ≡ Some c → Describes types machine.heap m (reshaped is.names (shape_after is.null is.no_cycle) (x, c)) (m x)
-  reshaped_describes x c e = either (λ (d : Cell). Describes types machine.heap m d (m x)) (is_renamed is.names x) (with_shape (shape_after is.null is.no_cycle) c) c (shaped_describes types machine.heap m (shape_after is.null is.no_cycle) c (m x) (h.cells x c e)) (h.cells x c e)
+  reshaped_describes : (x : ℕ) (c : Cell) → cell_at state x ≡ Some c
+      → Describes types machine.heap m (reshaped is.names (shape_after is.null is.no_cycle) (x, c)) (m x)
+  reshaped_describes x c e = either (λ (d : Cell). Describes types machine.heap m d (m x)) (is_renamed is.names x)
+      (with_shape (shape_after is.null is.no_cycle) c) c
+      (shaped_describes types machine.heap m (shape_after is.null is.no_cycle) c (m x) (h.cells x c e)) (h.cells x c e)
 
-  same_cell_after : (x : ℕ) (c : Cell) → cell_at state x ≡ Some c → (is_known c ≡ true → target (m x) ≡ Some o → ⊥) → Describes types heap n (cell_named (name_in is.names) (reshaped is.names (shape_after is.null is.no_cycle) (x, c))) (m x)
+  same_cell_after : (x : ℕ) (c : Cell) → cell_at state x ≡ Some c → (is_known c ≡ true → target (m x) ≡ Some o → ⊥)
+      → Describes types heap n (cell_named (name_in is.names) (reshaped is.names (shape_after is.null is.no_cycle) (x, c))) (m x)
   same_cell_after x c e other =
-      described_after types machine.heap heap o place (m write.value) w m n (name_in is.names) (reshaped is.names (shape_after is.null is.no_cycle) (x, c)) (m x) (reshaped_describes x c e)
+      described_after types machine.heap heap o place (m write.value) w m n (name_in is.names)
+      (reshaped is.names (shape_after is.null is.no_cycle) (x, c)) (m x) (reshaped_describes x c e)
       (λ z t. other (sym (known_reshaped x c) ∙ z) t)
       (λ i id g. moves id (named_has_cell state good x i id c e (ap (λ (ids : List ℕ). slice_get ids i) (sym (ids_reshaped x c)) ∙ g)))
 
-  instance_after : (i : IsInstance) → Describes types heap n (cell_named (name_in is.names) (cells.Obj i.class (slice_set i.ids i.field write.value))) (m k)
+  instance_after : (i : IsInstance)
+      → Describes types heap n (cell_named (name_in is.names) (cells.Obj i.class (slice_set i.ids i.field write.value))) (m k)
   instance_after i =
       let d = subst (λ (c : Cell). Describes types machine.heap m c (m k)) i.is_instance (h.cells k cell at) in
       let there : d.place ≡ o = some_is (sym (ap target d.names) ∙ to) in
@@ -466,7 +293,8 @@ module _ (types : WorldTypes) (state child : AbstractState) (machine : MachineSt
           holds = ap (with_value place (m write.value)) d.holds
               ∙ ap (λ (p : ℕ). objects.Instance i.class (slice_set (map m i.ids) p (m write.value))) i.place_is
               ∙ ap (objects.Instance i.class) (sym (mapped_set m i.ids i.field write.value))
-              ∙ ap (objects.Instance i.class) (sym (maps_move m n (name_in is.names) (slice_set i.ids i.field write.value) (λ j id g. moves id (member j id g))));
+              ∙ ap (objects.Instance i.class)
+              (sym (maps_move m n (name_in is.names) (slice_set i.ids i.field write.value) (λ j id g. moves id (member j id g))));
         }
       ]
     where
@@ -476,30 +304,44 @@ module _ (types : WorldTypes) (state child : AbstractState) (machine : MachineSt
         | inr e ↦ subst (λ (x : ℕ). HasCell (λ _. true) state x) (sym e) value_there
       ]
 
-  cell_now : (x : ℕ) (c : Cell) → cell_at state x ≡ Some c → Describes types heap n (cell_after is.names (shape_after is.null is.no_cycle) write (x, c)).1 (m x)
+  cell_now : (x : ℕ) (c : Cell) → cell_at state x ≡ Some c
+      → Describes types heap n (cell_after is.names (shape_after is.null is.no_cycle) write (x, c)).1 (m x)
   cell_now x c e = elim (cases_eq x k) [
-    | inr other ↦ subst (λ (d : Cell). Describes types heap n (cell_named (name_in is.names) d) (m x)) (sym (cond-false (eqb x k) _ (reshaped is.names (shape_after is.null is.no_cycle) (x, c)) (ne_eqb x k other)))
+    | inr other ↦ subst (λ (d : Cell). Describes types heap n (cell_named (name_in is.names) d) (m x))
+        (sym (cond-false (eqb x k) _ (reshaped is.names (shape_after is.null is.no_cycle) (x, c)) (ne_eqb x k other)))
         (same_cell_after x c e (λ z t. known_other x (record { cell = c; is = e; sort_is = z }) other t))
     | inl same ↦
         let is_cell : c ≡ cell = some_is (sym e ∙ ap (cell_at state) same ∙ at) in
         elim sort_of_k [
           | inl i ↦
-              let shaped : reshaped is.names (shape_after is.null is.no_cycle) (x, c) ≡ cells.Obj i.class i.ids = ap (λ (d : Cell). reshaped is.names (shape_after is.null is.no_cycle) (x, d)) (is_cell ∙ i.is_instance) ∙ either (λ (d : Cell). d ≡ cells.Obj i.class i.ids) (is_renamed is.names x) (cells.Obj i.class i.ids) (cells.Obj i.class i.ids) refl refl in
-              let inside : inner is.names (shape_after is.null is.no_cycle) write x c ≡ cells.Obj i.class (slice_set i.ids i.field write.value) =
-              cond-true (eqb x k) (with_field write.field write.value (reshaped is.names (shape_after is.null is.no_cycle) (x, c))) _ (eq-eqb x k same)
+              let shaped : reshaped is.names (shape_after is.null is.no_cycle) (x, c) ≡ cells.Obj i.class i.ids = ap
+              (λ (d : Cell). reshaped is.names (shape_after is.null is.no_cycle) (x, d)) (is_cell ∙ i.is_instance)
+              ∙ either (λ (d : Cell). d ≡ cells.Obj i.class i.ids) (is_renamed is.names x) (cells.Obj i.class i.ids)
+              (cells.Obj i.class i.ids) refl refl in
+              let inside : inner is.names (shape_after is.null is.no_cycle) write x c ≡ cells.Obj i.class
+              (slice_set i.ids i.field write.value) =
+              cond-true (eqb x k) (with_field write.field write.value (reshaped is.names (shape_after is.null is.no_cycle) (x, c)))
+              _ (eq-eqb x k same)
               ∙ ap (λ (q : Option ℕ). with_field q write.value (reshaped is.names (shape_after is.null is.no_cycle) (x, c))) i.field_is
               ∙ ap (with_field (Some i.field) write.value) shaped in
-              subst (λ (d : Cell). Describes types heap n (cell_named (name_in is.names) d) (m x)) (sym inside) (subst (λ (y : ℕ). Describes types heap n (cell_named (name_in is.names) (cells.Obj i.class (slice_set i.ids i.field write.value))) (m y)) (sym same) (instance_after i))
+              subst (λ (d : Cell). Describes types heap n (cell_named (name_in is.names) d) (m x)) (sym inside)
+              (subst (λ (y : ℕ). Describes types heap n
+              (cell_named (name_in is.names) (cells.Obj i.class (slice_set i.ids i.field write.value))) (m y)) (sym same)
+              (instance_after i))
           | inr a ↦
-              let inside : inner is.names (shape_after is.null is.no_cycle) write x c ≡ reshaped is.names (shape_after is.null is.no_cycle) (x, c) =
-              cond-true (eqb x k) (with_field write.field write.value (reshaped is.names (shape_after is.null is.no_cycle) (x, c))) _ (eq-eqb x k same)
+              let inside : inner is.names (shape_after is.null is.no_cycle) write x c ≡ reshaped is.names
+              (shape_after is.null is.no_cycle) (x, c) =
+              cond-true (eqb x k) (with_field write.field write.value (reshaped is.names (shape_after is.null is.no_cycle) (x, c)))
+              _ (eq-eqb x k same)
               ∙ ap (λ (q : Option ℕ). with_field q write.value (reshaped is.names (shape_after is.null is.no_cycle) (x, c))) a.1 in
-              subst (λ (d : Cell). Describes types heap n (cell_named (name_in is.names) d) (m x)) (sym inside) (same_cell_after x c e (λ z t. false≢true (ap is_known (sym (is_cell ∙ a.0.is_array)) ∙ z)))
+              subst (λ (d : Cell). Describes types heap n (cell_named (name_in is.names) d) (m x)) (sym inside)
+              (same_cell_after x c e (λ z t. false≢true (ap is_known (sym (is_cell ∙ a.0.is_array)) ∙ z)))
         ]
   ]
 
   -- ---- the whole
-  was : (id : ℕ) (c : Cell) → cell_in (map (cell_after is.names (shape_after is.null is.no_cycle) write) state.cells) id ≡ Some c → Was state is.names (shape_after is.null is.no_cycle) write id c
+  was : (id : ℕ) (c : Cell) → cell_in (map (cell_after is.names (shape_after is.null is.no_cycle) write) state.cells) id ≡ Some c
+      → Was state is.names (shape_after is.null is.no_cycle) write id c
   was id c e = was_in state is.names (shape_after is.null is.no_cycle) write 0 state.cells good.rising (λ x d g. g) id c e
 
   value_of_new : (id x : ℕ) → HasCell (λ _. true) state x → name_in is.names x ≡ id → m (old_in is.names id) ≡ m x
@@ -508,7 +350,8 @@ module _ (types : WorldTypes) (state child : AbstractState) (machine : MachineSt
   abbrev wants_share : ℕ → ℕ → Type 0
   wants_share a b = IsImage (name_in is.names) (Share state) a b ⊎ GainsPair state is.names write a b
 
-  meets : (x y p : ℕ) → HasCell is_hazy state x → HasCell is_hazy state y → x ≢ y → Region heap (m x) p → Region heap (m y) p → wants_share (name_in is.names x) (name_in is.names y) ⊎ wants_share (name_in is.names y) (name_in is.names x)
+  meets : (x y p : ℕ) → HasCell is_hazy state x → HasCell is_hazy state y → x ≢ y → Region heap (m x) p → Region heap (m y) p
+      → wants_share (name_in is.names x) (name_in is.names y) ⊎ wants_share (name_in is.names y) (name_in is.names x)
   meets x y p zx zy d rx ry = elim (gained x p rx) [
     | inl ox ↦ elim (gained y p ry) [
       | inl oy ↦ inl (inl (image (Share state) x y (h.meeting x y p zx zy d ox oy)))
@@ -520,7 +363,8 @@ module _ (types : WorldTypes) (state child : AbstractState) (machine : MachineSt
     ]
   ]
 
-  lies : (x y p : ℕ) → HasCell is_known state x → HasCell is_hazy state y → target (m x) ≡ Some p → Region heap (m y) p → wants_share (name_in is.names x) (name_in is.names y) ⊎ wants_share (name_in is.names y) (name_in is.names x)
+  lies : (x y p : ℕ) → HasCell is_known state x → HasCell is_hazy state y → target (m x) ≡ Some p → Region heap (m y) p
+      → wants_share (name_in is.names x) (name_in is.names y) ⊎ wants_share (name_in is.names y) (name_in is.names x)
   lies x y p zx zy t ry = elim (gained y p ry) [
     | inl oy ↦ inl (inl (image (Share state) x y (h.inside x y p zx zy t oy)))
     | inr gy ↦ inr (inr (gains_pair y x p (affected_if y zy gy.0) (met_known x p zx t gy.1) gy.1))
@@ -529,61 +373,92 @@ module _ (types : WorldTypes) (state child : AbstractState) (machine : MachineSt
   there : (id : ℕ) (c : Cell) (a : Was state is.names (shape_after is.null is.no_cycle) write id c) → HasCell (λ _. true) state a.x
   there id c a = record { cell = a.old; is = a.old_is; sort_is = refl }
 
-  known_there : (id : ℕ) (c : Cell) (a : Was state is.names (shape_after is.null is.no_cycle) write id c) → is_known c ≡ true → HasCell is_known state a.x
-  known_there id c a z = record { cell = a.old; is = a.old_is; sort_is = sym (known_after is.names (shape_after is.null is.no_cycle) write a.x a.old) ∙ ap is_known a.now ∙ z }
+  known_there : (id : ℕ) (c : Cell) (a : Was state is.names (shape_after is.null is.no_cycle) write id c) → is_known c ≡ true
+      → HasCell is_known state a.x
+  known_there id c a z = record {
+    cell = a.old;
+    is = a.old_is;
+    sort_is = sym (known_after is.names (shape_after is.null is.no_cycle) write a.x a.old)
+        ∙ ap is_known a.now ∙ z;
+  }
 
-  hazy_there : (id : ℕ) (c : Cell) (a : Was state is.names (shape_after is.null is.no_cycle) write id c) → is_hazy c ≡ true → HasCell is_hazy state a.x
-  hazy_there id c a z = record { cell = a.old; is = a.old_is; sort_is = sym (hazy_after is.names (shape_after is.null is.no_cycle) write a.x a.old) ∙ ap is_hazy a.now ∙ z }
+  hazy_there : (id : ℕ) (c : Cell) (a : Was state is.names (shape_after is.null is.no_cycle) write id c) → is_hazy c ≡ true
+      → HasCell is_hazy state a.x
+  hazy_there id c a z = record {
+    cell = a.old;
+    is = a.old_is;
+    sort_is = sym (hazy_after is.names (shape_after is.null is.no_cycle) write a.x a.old)
+        ∙ ap is_hazy a.now ∙ z;
+  }
 
-  apart_there : (i j : ℕ) (c d : Cell) (a : Was state is.names (shape_after is.null is.no_cycle) write i c) (b : Was state is.names (shape_after is.null is.no_cycle) write j d) → i ≢ j → a.x ≢ b.x
+  apart_there : (i j : ℕ) (c d : Cell) (a : Was state is.names (shape_after is.null is.no_cycle) write i c)
+      (b : Was state is.names (shape_after is.null is.no_cycle) write j d) → i ≢ j → a.x ≢ b.x
   apart_there i j c d a b differ e = differ (sym a.named ∙ ap (name_in is.names) e ∙ b.named)
 
-  target_there : (i p : ℕ) (c : Cell) (a : Was state is.names (shape_after is.null is.no_cycle) write i c) → target (m (old_in is.names i)) ≡ Some p → target (m a.x) ≡ Some p
+  target_there : (i p : ℕ) (c : Cell) (a : Was state is.names (shape_after is.null is.no_cycle) write i c)
+      → target (m (old_in is.names i)) ≡ Some p → target (m a.x) ≡ Some p
   target_there i p c a t = ap target (sym (value_of_new i a.x (there i c a) a.named)) ∙ t
 
-  region_there : (i p : ℕ) (c : Cell) (a : Was state is.names (shape_after is.null is.no_cycle) write i c) → Region heap (m (old_in is.names i)) p → Region heap (m a.x) p
+  region_there : (i p : ℕ) (c : Cell) (a : Was state is.names (shape_after is.null is.no_cycle) write i c)
+      → Region heap (m (old_in is.names i)) p → Region heap (m a.x) p
   region_there i p c a r = subst (λ (u : Value). Region heap u p) (value_of_new i a.x (there i c a) a.named) r
 
-  renamed_wish : (i j : ℕ) (c d : Cell) (a : Was state is.names (shape_after is.null is.no_cycle) write i c) (b : Was state is.names (shape_after is.null is.no_cycle) write j d)
-      → wants_share (name_in is.names a.x) (name_in is.names b.x) ⊎ wants_share (name_in is.names b.x) (name_in is.names a.x) → wants_share i j ⊎ wants_share j i
-  renamed_wish i j c d a b s = subst (λ (y : ℕ). wants_share i y ⊎ wants_share y i) b.named (subst (λ (x : ℕ). wants_share x (name_in is.names b.x) ⊎ wants_share (name_in is.names b.x) x) a.named s)
+  renamed_wish : (i j : ℕ) (c d : Cell) (a : Was state is.names (shape_after is.null is.no_cycle) write i c)
+      (b : Was state is.names (shape_after is.null is.no_cycle) write j d)
+      → wants_share (name_in is.names a.x) (name_in is.names b.x) ⊎ wants_share (name_in is.names b.x) (name_in is.names a.x)
+      → wants_share i j ⊎ wants_share j i
+  renamed_wish i j c d a b s = subst (λ (y : ℕ). wants_share i y ⊎ wants_share y i) b.named
+      (subst (λ (x : ℕ). wants_share x (name_in is.names b.x) ⊎ wants_share (name_in is.names b.x) x) a.named s)
 
   all_move : All (λ id. m (old_in is.names (name_in is.names id)) ≡ m id) (ids_used state)
   all_move i d l = moves (get_or (ids_used state) i d) (good.used i d l)
 
-  written_fits : FitsBy types (map (frame_named (name_in is.names)) state.frames) (option_map (name_in is.names) state.throwing) (cell_in (map (cell_after is.names (shape_after is.null is.no_cycle) write) state.cells))
-      (IsImage (name_in is.names) (AreEqual state)) (λ a b. IsImage (name_in is.names) (Share state) a b ⊎ GainsPair state is.names write a b) (with_heap machine heap) (λ i. m (old_in is.names i))
+  written_fits : FitsBy types (map (frame_named (name_in is.names)) state.frames) (option_map (name_in is.names) state.throwing)
+      (cell_in (map (cell_after is.names (shape_after is.null is.no_cycle) write) state.cells))
+      (IsImage (name_in is.names) (AreEqual state)) (λ a b. IsImage (name_in is.names) (Share state) a b
+      ⊎ GainsPair state is.names write a b) (with_heap machine heap) (λ i. m (old_in is.names i))
   written_fits = record {
     positions = frames_move m (λ i. m (old_in is.names i)) (name_in is.names) state.frames (with_statics machine.statics machine.frames)
-        (every_front (λ id. m (old_in is.names (name_in is.names id)) ≡ m id) (flat_map ids_of_frame state.frames) (given_ids (state.throwing ∷ []) ++ flat_map (λ c. ids_in c.1) state.cells) all_move) h.positions;
+        (every_front (λ id. m (old_in is.names (name_in is.names id)) ≡ m id) (flat_map ids_of_frame state.frames)
+        (given_ids (state.throwing ∷ []) ++ flat_map (λ c. ids_in c.1) state.cells) all_move) h.positions;
     mode = thrown_moves m (λ i. m (old_in is.names i)) (name_in is.names) state.throwing machine.mode
-        (every_front (λ id. m (old_in is.names (name_in is.names id)) ≡ m id) (given_ids (state.throwing ∷ [])) (flat_map (λ c. ids_in c.1) state.cells)
-        (every_back (λ id. m (old_in is.names (name_in is.names id)) ≡ m id) (flat_map ids_of_frame state.frames) (given_ids (state.throwing ∷ []) ++ flat_map (λ c. ids_in c.1) state.cells) all_move)) h.mode;
+        (every_front (λ id. m (old_in is.names (name_in is.names id)) ≡ m id) (given_ids (state.throwing ∷ []))
+        (flat_map (λ c. ids_in c.1) state.cells)
+        (every_back (λ id. m (old_in is.names (name_in is.names id)) ≡ m id) (flat_map ids_of_frame state.frames)
+        (given_ids (state.throwing ∷ []) ++ flat_map (λ c. ids_in c.1) state.cells) all_move)) h.mode;
     cells = λ id c e.
         let a = was id c e in
-        subst (λ (u : Value). Describes types heap n c u) (sym (value_of_new id a.x (there id c a) a.named)) (subst (λ (d : Cell). Describes types heap n d (m a.x)) a.now (cell_now a.x a.old a.old_is));
+        subst (λ (u : Value). Describes types heap n c u) (sym (value_of_new id a.x (there id c a) a.named))
+        (subst (λ (d : Cell). Describes types heap n d (m a.x)) a.now (cell_now a.x a.old a.old_is));
     aliases = λ i j p c d e g differ ti tj.
         let a = was i c e in
         let b = was j d g in
-        inl (subst (λ (y : ℕ). IsImage (name_in is.names) (AreEqual state) i y) b.named (subst (λ (x : ℕ). IsImage (name_in is.names) (AreEqual state) x (name_in is.names b.x)) a.named
-        (image (AreEqual state) a.x b.x (h.aliases a.x b.x p (there i c a) (there j d b) (apart_there i j c d a b differ) (target_there i p c a ti) (target_there j p d b tj)))));
+        inl (subst (λ (y : ℕ). IsImage (name_in is.names) (AreEqual state) i y) b.named
+        (subst (λ (x : ℕ). IsImage (name_in is.names) (AreEqual state) x (name_in is.names b.x)) a.named
+        (image (AreEqual state) a.x b.x (h.aliases a.x b.x p (there i c a) (there j d b) (apart_there i j c d a b differ)
+        (target_there i p c a ti) (target_there j p d b tj)))));
     apart = λ i j p c d e g zi zj differ ti tj.
         let a = was i c e in
         let b = was j d g in
-        known_apart types state machine m good h a.x b.x p (known_there i c a zi) (known_there j d b zj) (apart_there i j c d a b differ) (target_there i p c a ti) (target_there j p d b tj);
+        known_apart types state machine m good h a.x b.x p (known_there i c a zi) (known_there j d b zj)
+        (apart_there i j c d a b differ) (target_there i p c a ti) (target_there j p d b tj);
     meeting = λ i j p c d e g zi zj differ ri rj.
         let a = was i c e in
         let b = was j d g in
-        renamed_wish i j c d a b (meets a.x b.x p (hazy_there i c a zi) (hazy_there j d b zj) (apart_there i j c d a b differ) (region_there i p c a ri) (region_there j p d b rj));
+        renamed_wish i j c d a b (meets a.x b.x p (hazy_there i c a zi) (hazy_there j d b zj) (apart_there i j c d a b differ)
+        (region_there i p c a ri) (region_there j p d b rj));
     inside = λ i j p c d e g zi zj ti rj.
         let a = was i c e in
         let b = was j d g in
-        renamed_wish i j c d a b (lies a.x b.x p (known_there i c a zi) (hazy_there j d b zj) (target_there i p c a ti) (region_there j p d b rj));
+        renamed_wish i j c d a b (lies a.x b.x p (known_there i c a zi) (hazy_there j d b zj) (target_there i p c a ti)
+        (region_there j p d b rj));
     shapes = λ i c s e g.
         let a = was i c e in
         let z : is_hazy c ≡ true = hazy_of c s g in
         subst (λ (u : Value). HasShape s heap u) (sym (value_of_new i a.x (there i c a) a.named))
-        (shaped_at a.x a.old s a.old_is (sym (hazy_after is.names (shape_after is.null is.no_cycle) write a.x a.old) ∙ ap is_hazy a.now ∙ z) (sym (shape_is_after is.names (shape_after is.null is.no_cycle) write a.x a.old) ∙ ap shape_of a.now ∙ g));
+        (shaped_at a.x a.old s a.old_is (sym (hazy_after is.names (shape_after is.null is.no_cycle) write a.x a.old)
+        ∙ ap is_hazy a.now ∙ z) (sym (shape_is_after is.names (shape_after is.null is.no_cycle) write a.x a.old)
+        ∙ ap shape_of a.now ∙ g));
   }
     where
       hazy_of : (c : Cell) (s : Shape) → shape_of c ≡ Some s → is_hazy c ≡ true
@@ -627,23 +502,29 @@ module _ (types : WorldTypes) (state child : AbstractState) (machine : MachineSt
     | inr e ↦ value_of_new id id (record { cell = i.cell; is = i.is; sort_is = refl }) (unnamed_stays is.names id e)
   ]
 
-  new_free : (ns : List (ℕ × ℕ)) → All (λ id. cell_at state id ≡ None) (map (λ e. e.1) ns) → (x : ℕ) → is_renamed ns x ≡ true → cell_at state (name_in ns x) ≡ None
+  new_free : (ns : List (ℕ × ℕ)) → All (λ id. cell_at state id ≡ None) (map (λ e. e.1) ns) → (x : ℕ) → is_renamed ns x ≡ true
+      → cell_at state (name_in ns x) ≡ None
   new_free [] a x e = absurd (false≢true e)
   new_free (p ∷ ns) a x e = elim (cases_eq p.0 x) [
     | inl s ↦ ap (cell_at state) (named_here p ns x s) ∙ All-head (λ i. cell_at state i ≡ None) p.1 (map (λ q. q.1) ns) a
-    | inr s ↦ ap (cell_at state) (named_later p ns x s) ∙ new_free ns (All-tail (λ i. cell_at state i ≡ None) p.1 (map (λ q. q.1) ns) a) x (elim (or_cases (eqb p.0 x) (is_renamed ns x) e) [ inl t ↦ absurd (s (eqb-true p.0 x t)) | inr t ↦ t ])
+    | inr s ↦ ap (cell_at state) (named_later p ns x s)
+        ∙ new_free ns (All-tail (λ i. cell_at state i ≡ None) p.1 (map (λ q. q.1) ns) a) x
+        (elim (or_cases (eqb p.0 x) (is_renamed ns x) e) [ inl t ↦ absurd (s (eqb-true p.0 x t)) | inr t ↦ t ])
   ]
 
   -- an id that both have kept its number
-  stays_there : (id : ℕ) (c : Cell) → HasCell (λ _. true) state id → Was state is.names (shape_after is.null is.no_cycle) write id c → is_renamed is.names id ≡ false
+  stays_there : (id : ℕ) (c : Cell) → HasCell (λ _. true) state id → Was state is.names (shape_after is.null is.no_cycle) write id c
+      → is_renamed is.names id ≡ false
   stays_there id c e a = elim (cases_Bool (is_renamed is.names a.x)) [
     | inl r ↦ absurd (none-some e.cell (sym (new_free is.names is.renamed.fresh.free a.x r) ∙ ap (cell_at state) a.named ∙ e.is))
     | inr r ↦ subst (λ (i : ℕ). is_renamed is.names i ≡ false) (sym (unnamed_stays is.names a.x r) ∙ a.named) r
   ]
 
-  pattern_cell : (depth id : ℕ) (pattern : Pattern) → pattern_within depth child id ≡ Some (Some pattern) → (c : Cell) × (cell_at child id ≡ Some c)
+  pattern_cell : (depth id : ℕ) (pattern : Pattern) → pattern_within depth child id ≡ Some (Some pattern)
+      → (c : Cell) × (cell_at child id ≡ Some c)
   pattern_cell zero id pattern e = absurd (none-some (Some pattern) e)
-  pattern_cell (suc depth) id pattern e = let g = then_some (pattern_of_cell (pattern_within depth child) id) (cell_at child id) (Some pattern) e in (g.0, g.1.0)
+  pattern_cell (suc depth) id pattern e = let g = then_some (pattern_of_cell (pattern_within depth child) id) (cell_at child id)
+      (Some pattern) e in (g.0, g.1.0)
 
   variable_hazy : (c : Cell) → is_size_variable c ≡ true → is_hazy c ≡ true
   variable_hazy (cells.Int interval) p = p
@@ -653,20 +534,24 @@ module _ (types : WorldTypes) (state child : AbstractState) (machine : MachineSt
   variable_hazy (cells.Refs element len shape) p = refl
   variable_hazy (cells.Unk bound nullable shape) p = refl
 
-  size_stays : (id : ℕ) → HasCell is_size_variable state id → IsSized child id → HasSameSize machine.heap (m id) heap (m (old_in is.names id))
+  size_stays : (id : ℕ) → HasCell is_size_variable state id → IsSized child id
+      → HasSameSize machine.heap (m id) heap (m (old_in is.names id))
   size_stays id z s =
       let c = pattern_cell s.is.depth id s.pattern s.is.is in
       let a = was id c.0 (sym (is.is.cells id) ∙ c.1) in
       let there : HasCell (λ _. true) state id = record { cell = z.cell; is = z.is; sort_is = refl } in
       let r = stays_there id c.0 there a in
       let hazy : HasCell is_hazy state id = record { cell = z.cell; is = z.is; sort_is = variable_hazy z.cell z.sort_is } in
-      size_kept machine.heap heap (m id) (m (old_in is.names id)) (value_of_new id id there (unnamed_stays is.names id r)) (λ t it. ((kept id hazy r).term t).0 it)
+      size_kept machine.heap heap (m id) (m (old_in is.names id)) (value_of_new id id there (unnamed_stays is.names id r))
+      (λ t it. ((kept id hazy r).term t).0 it)
 
   pub written_goes : Goes types state machine m (plain_link true None) child (with_heap machine heap)
   written_goes = record {
     meaning_after = λ i. m (old_in is.names i);
-    fits = fits_given types (map (frame_named (name_in is.names)) state.frames) (option_map (name_in is.names) state.throwing) (cell_in (map (cell_after is.names (shape_after is.null is.no_cycle) write) state.cells))
-        (IsImage (name_in is.names) (AreEqual state)) (λ a b. IsImage (name_in is.names) (Share state) a b ⊎ GainsPair state is.names write a b) (with_heap machine heap) (λ i. m (old_in is.names i)) written_fits child is.is;
+    fits = fits_given types (map (frame_named (name_in is.names)) state.frames) (option_map (name_in is.names) state.throwing)
+        (cell_in (map (cell_after is.names (shape_after is.null is.no_cycle) write) state.cells))
+        (IsImage (name_in is.names) (AreEqual state)) (λ a b. IsImage (name_in is.names) (Share state) a b
+        ⊎ GainsPair state is.names write a b) (with_heap machine heap) (λ i. m (old_in is.names i)) written_fits child is.is;
     edge = record {
       ints = λ id i j. int_stays id i;
       rows = All-nil (HoldsBetween m (λ i. m (old_in is.names i)));
@@ -675,4 +560,5 @@ module _ (types : WorldTypes) (state child : AbstractState) (machine : MachineSt
   }
 
 pub writes_go_on : WritesGoOn
-writes_go_on types state child machine m write cell o place heap good closed h v at wr to w is = written_goes types state child machine m write cell o place heap good closed h v at wr to w is
+writes_go_on types state child machine m write cell o place heap good closed h v at wr to w is = written_goes types state child
+    machine m write cell o place heap good closed h v at wr to w is

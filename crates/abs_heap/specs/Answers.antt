@@ -33,7 +33,8 @@ pub record AreNullChildren (state : AbstractState) (x : ℕ) (children : List Gr
 
 -- the child in which an item of the array `k` is read
 abbrev pub IsLoaded : (Ty → Ty → Bool) → AbstractState → ℕ → ℕ → AbstractState → Type 0
-IsLoaded sub state k item child = (element : Ty) (len : ℕ) (shape : Shape) → cell_at state k ≡ Some (cells.Refs element len shape) → IsItemChild sub state k element shape item child
+IsLoaded sub state k item child = (element : Ty) (len : ℕ) (shape : Shape) → cell_at state k ≡ Some (cells.Refs element len shape)
+    → IsItemChild sub state k element shape item child
 
 -- the child in which two ids are one, with its link
 pub record IsMergedAnswer (sub : Ty → Ty → Bool) (state : AbstractState) (x y : ℕ) (child : GraphChild) : Type 0 where

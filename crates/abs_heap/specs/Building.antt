@@ -1,6 +1,7 @@
 -- How a child is made: what cells put among others give, and what pairs put among others do. The calls' own clauses are over
 -- the other files alone.
-use Rattle.std.specs.Prelude.{◌≡◌, ◌↔◌, ◌⊎◌, ℕ, suc, ◌<◌, nat_lt, Bool, true, false, if◌then◌else◌, List, [], ◌∷◌, Option, Some, None, slice_get}
+use Rattle.std.specs.Prelude.{◌≡◌, ◌↔◌, ◌⊎◌, ℕ, suc, ◌<◌, nat_lt, Bool, true, false, if◌then◌else◌, List, [], ◌∷◌, Option, Some}
+use Rattle.std.specs.Prelude.{None, slice_get}
 use Rattle.abs_cells.specs.declared.cells.Cell.{Cell}
 use Rattle.jvm_values.specs.declared.types.Ty.{Ty}
 use Rattle.jvm_values.specs.declared.shape.Shape.{Shape}
@@ -51,7 +52,8 @@ may_be_one sub (Some cell) (Some other) = are_compatible sub cell other
 
 -- the child of an item, without that its id is the least
 abbrev pub IsGivenItem : (Ty → Ty → Bool) → AbstractState → ℕ → Ty → Shape → ℕ → AbstractState → Type 0
-IsGivenItem sub state k element shape item child = IsGiven state.frames state.throwing (with_cells ((item, cells.Unk element true shape) ∷ []) state)
+IsGivenItem sub state k element shape item child = IsGiven state.frames state.throwing
+    (with_cells ((item, cells.Unk element true shape) ∷ []) state)
     (λ a b. AreEqual state a b ⊎ MayBeOne sub (JoinsItem state k item shape) child.cells a b)
     (λ a b. Share state a b ⊎ (JoinsItem state k item shape a b ⊎ ((a ≡ item) × (b ≡ k))))
     child

@@ -11,7 +11,8 @@ abbrev pub IsPair : (ℕ → ℕ → Type 0) → List (ℕ × Cell) → ℕ → 
 IsPair wanted cells a b = (a ≢ b) × ((may_join cells a b ≡ true) × (wanted a b ⊎ wanted b a))
 
 -- a state has these frames, this thrown id, these cells, and of the wanted pairs all that may stand
-pub record IsGiven (frames : List AbstractFrame) (throwing : Option ℕ) (cell : ℕ → Option Cell) (equal : ℕ → ℕ → Type 0) (sharing : ℕ → ℕ → Type 0) (child : AbstractState) : Type 0 where
+pub record IsGiven (frames : List AbstractFrame) (throwing : Option ℕ) (cell : ℕ → Option Cell) (equal : ℕ → ℕ → Type 0)
+    (sharing : ℕ → ℕ → Type 0) (child : AbstractState) : Type 0 where
   pub frames_are : child.frames ≡ frames
   pub throwing_is : child.throwing ≡ throwing
   pub rising : AreIdsRising 0 child.cells

@@ -1,5 +1,6 @@
 -- What the calls promise: whatever fits a state fits one of its children, by an edge.
-use Rattle.std.specs.Prelude.{◌≡◌, ◌≢◌, ◌⊎◌, ℕ, ◌<◌, Bool, true, false, not, IsTrue, List, [], ◌∷◌, ◌++◌, length, map, Option, Some, None, slice_get, slice_set, pos, replicate}
+use Rattle.std.specs.Prelude.{◌≡◌, ◌≢◌, ◌⊎◌, ℕ, ◌<◌, Bool, true, false, not, IsTrue, List, [], ◌∷◌, ◌++◌, length, map, Option, Some}
+use Rattle.std.specs.Prelude.{None, slice_get, slice_set, pos, replicate}
 use Rattle.jvm_values.specs.declared.types.Ty.{Ty}
 use Rattle.jvm_values.specs.declared.types.Slot.{Slot}
 use Rattle.jvm_values.specs.declared.types.Slot.TheVariants as slots
@@ -33,7 +34,8 @@ abbrev pub plain_link : Bool → Option (ℕ × ℕ) → Link
 plain_link step merged = record { rows = []; merged = merged; step = step }
 
 -- a child fits a state of the machine by some map, and the edge to it holds
-pub record Goes (types : WorldTypes) (state : AbstractState) (machine : MachineState) (meaning : Meaning) (link : Link) (child : AbstractState) (machine_after : MachineState) : Type 0 where
+pub record Goes (types : WorldTypes) (state : AbstractState) (machine : MachineState) (meaning : Meaning) (link : Link)
+    (child : AbstractState) (machine_after : MachineState) : Type 0 where
   pub meaning_after : Meaning
   pub fits : Fits types child machine_after meaning_after
   pub edge : Edge state machine meaning link child machine_after meaning_after
@@ -41,20 +43,24 @@ pub record Goes (types : WorldTypes) (state : AbstractState) (machine : MachineS
 -- null, or not
 abbrev pub NullSplits : Type 0
 NullSplits =
-    (types : WorldTypes) (state first second : AbstractState) (machine : MachineState) (meaning : Meaning) (x : ℕ) (bound : Ty) (shape : Shape)
+    (types : WorldTypes) (state first second : AbstractState) (machine : MachineState) (meaning : Meaning) (x : ℕ) (bound : Ty)
+    (shape : Shape)
     → IsWellFormed state → Fits types state machine meaning → cell_at state x ≡ Some (cells.Unk bound true shape)
     → IsWithCell state x cells.Null first → IsWithCell state x (cells.Unk bound false shape) second
-    → Goes types state machine meaning (plain_link false None) first machine ⊎ Goes types state machine meaning (plain_link false None) second machine
+    → Goes types state machine meaning (plain_link false None) first machine
+    ⊎ Goes types state machine meaning (plain_link false None) second machine
 
 -- a child of a case, among the children of all of them
-pub record GoesToCase (types : WorldTypes) (state : AbstractState) (machine : MachineState) (meaning : Meaning) (children : List AbstractState) : Type 0 where
+pub record GoesToCase (types : WorldTypes) (state : AbstractState) (machine : MachineState) (meaning : Meaning)
+    (children : List AbstractState) : Type 0 where
   pub n : ℕ
   pub child : AbstractState
   pub is : slice_get children n ≡ Some child
   pub goes : Goes types state machine meaning (plain_link false None) child machine
 
 -- the same where each child has its merged pair, or none
-pub record GoesToMerged (types : WorldTypes) (state : AbstractState) (machine : MachineState) (meaning : Meaning) (children : List (Option (ℕ × ℕ) × AbstractState)) : Type 0 where
+pub record GoesToMerged (types : WorldTypes) (state : AbstractState) (machine : MachineState) (meaning : Meaning)
+    (children : List (Option (ℕ × ℕ) × AbstractState)) : Type 0 where
   pub n : ℕ
   pub merged : Option (ℕ × ℕ)
   pub child : AbstractState
@@ -64,9 +70,12 @@ pub record GoesToMerged (types : WorldTypes) (state : AbstractState) (machine : 
 -- by class. The object's own type is below the wanted one, and no known id stands for the object
 abbrev pub ClassesSplit : Type 0
 ClassesSplit =
-    (types : WorldTypes) (state : AbstractState) (children : List AbstractState) (machine : MachineState) (meaning : Meaning) (x : ℕ) (bound wanted : Ty) (shape : Shape)
-    → AreLawful types → IsSound types state → IsTypedHeap types machine.heap → IsClosedState machine state meaning → Fits types state machine meaning
-    → cell_at state x ≡ Some (cells.Unk bound false shape) → IsTrue (is_comparable types.sub bound wanted) → HasType types machine.heap (meaning x) wanted
+    (types : WorldTypes) (state : AbstractState) (children : List AbstractState) (machine : MachineState) (meaning : Meaning)
+    (x : ℕ) (bound wanted : Ty) (shape : Shape)
+    → AreLawful types → IsSound types state → IsTypedHeap types machine.heap → IsClosedState machine state meaning
+    → Fits types state machine meaning
+    → cell_at state x ≡ Some (cells.Unk bound false shape) → IsTrue (is_comparable types.sub bound wanted)
+    → HasType types machine.heap (meaning x) wanted
     → ((k : ℕ) → HasCell is_known state k → AreEqual state x k → ⊥)
     → AllZip (IsCase types state x shape) (cases_of types bound wanted) children
     → GoesToCase types state machine meaning children
@@ -74,8 +83,10 @@ ClassesSplit =
 -- one object, or two
 abbrev pub EqualSplits : Type 0
 EqualSplits =
-    (types : WorldTypes) (state : AbstractState) (children : List (Option (ℕ × ℕ) × AbstractState)) (machine : MachineState) (meaning : Meaning) (x y : ℕ)
-    → AreLawful types → IsSound types state → IsTypedHeap types machine.heap → IsClosedState machine state meaning → Fits types state machine meaning
+    (types : WorldTypes) (state : AbstractState) (children : List (Option (ℕ × ℕ) × AbstractState)) (machine : MachineState)
+    (meaning : Meaning) (x y : ℕ)
+    → AreLawful types → IsSound types state → IsTypedHeap types machine.heap → IsClosedState machine state meaning
+    → Fits types state machine meaning
     → AreEqual state x y → x ≢ y → AreEqualChildren types.sub state x y children
     → GoesToMerged types state machine meaning children
 
@@ -84,14 +95,17 @@ abbrev pub with_heap : MachineState → Heap → MachineState
 with_heap machine heap = record machine { heap = heap }
 
 pub record IsWriteOf (state : AbstractState) (write : Write) (place : ℕ) (cell : Cell) : Type 0 where
-  pub field_is : (field : ℕ) → write.field ≡ Some field → (place ≡ field) × ((class : ℕ) × (ids : List ℕ) × ((cell ≡ cells.Obj class ids) × (field < length ids)))
+  pub field_is : (field : ℕ) → write.field ≡ Some field
+      → (place ≡ field) × ((class : ℕ) × (ids : List ℕ) × ((cell ≡ cells.Obj class ids) × (field < length ids)))
   pub array_is : write.field ≡ None → (element : Ty) × (len : ℕ) × (shape : Shape) × (cell ≡ cells.Refs element len shape)
 
 abbrev pub WritesGoOn : Type 0
 WritesGoOn =
-    (types : WorldTypes) (state child : AbstractState) (machine : MachineState) (meaning : Meaning) (write : Write) (cell : Cell) (o place : ℕ) (heap : Heap)
+    (types : WorldTypes) (state child : AbstractState) (machine : MachineState) (meaning : Meaning) (write : Write) (cell : Cell)
+    (o place : ℕ) (heap : Heap)
     → IsWellFormed state → IsClosedState machine state meaning → Fits types state machine meaning
-    → HasCell (λ c. not (is_int c)) state write.value → cell_at state write.object ≡ Some cell → IsWriteOf state write place cell → target (meaning write.object) ≡ Some o
+    → HasCell (λ c. not (is_int c)) state write.value → cell_at state write.object ≡ Some cell → IsWriteOf state write place cell
+    → target (meaning write.object) ≡ Some o
     → IsWritten machine.heap o place (meaning write.value) heap
     → IsWriteChild state write child
     → Goes types state machine meaning (plain_link true None) child (with_heap machine heap)
@@ -101,7 +115,8 @@ abbrev pub AreSoundReferences : WorldTypes → AbstractState → Type 0
 AreSoundReferences types state = (id : ℕ) (cell : Cell) → cell_at state id ≡ Some cell → is_int cell ≡ false → IsSoundCell types state cell
 
 -- an item of an array of references: the child fits with its id standing for the item
-pub record GoesWith (types : WorldTypes) (state : AbstractState) (machine : MachineState) (meaning : Meaning) (child : AbstractState) (machine_after : MachineState) (id : ℕ) (value : Value) : Type 0 where
+pub record GoesWith (types : WorldTypes) (state : AbstractState) (machine : MachineState) (meaning : Meaning)
+    (child : AbstractState) (machine_after : MachineState) (id : ℕ) (value : Value) : Type 0 where
   pub meaning_after : Meaning
   pub fits : Fits types child machine_after meaning_after
   pub value_is : meaning_after id ≡ value
@@ -110,8 +125,10 @@ pub record GoesWith (types : WorldTypes) (state : AbstractState) (machine : Mach
 
 abbrev pub ItemsGoOn : Type 0
 ItemsGoOn =
-    (types : WorldTypes) (state child : AbstractState) (machine : MachineState) (meaning : Meaning) (k item o n : ℕ) (element own : Ty) (len : ℕ) (shape : Shape) (items : List Value) (value : Value)
-    → AreLawful types → IsWellFormed state → AreSoundReferences types state → IsTypedHeap types machine.heap → IsClosedState machine state meaning → Fits types state machine meaning
+    (types : WorldTypes) (state child : AbstractState) (machine : MachineState) (meaning : Meaning) (k item o n : ℕ)
+    (element own : Ty) (len : ℕ) (shape : Shape) (items : List Value) (value : Value)
+    → AreLawful types → IsWellFormed state → AreSoundReferences types state → IsTypedHeap types machine.heap
+    → IsClosedState machine state meaning → Fits types state machine meaning
     → cell_at state k ≡ Some (cells.Refs element len shape) → target (meaning k) ≡ Some o
     → slice_get machine.heap.objects o ≡ Some (objects.Refs own items) → slice_get items n ≡ Some value
     → IsItemChild types.sub state k element shape item child
@@ -127,7 +144,9 @@ ObjectsGoOn =
     → IsWellFormed state → IsClosedState machine state meaning → Fits types state machine meaning
     → class < types.classes → IsTrue (types.can_be_made class)
     → IsObjectChild types state class id child
-    → GoesWith types state machine meaning child (with_heap machine (heap_with machine.heap (objects.Instance class (map initial_value (types.fields class))))) id (values.Ref (length machine.heap.objects))
+    → GoesWith types state machine meaning child
+    (with_heap machine (heap_with machine.heap (objects.Instance class (map initial_value (types.fields class))))) id
+    (values.Ref (length machine.heap.objects))
 
 -- a new array of so many items, whose length is an id's int
 abbrev pub zeros_of : Slot → ℕ → Object
@@ -145,7 +164,8 @@ ArraysGoOn =
     → AreLawful types → IsWellFormed state → IsClosedState machine state meaning → Fits types state machine meaning
     → IsItemSlot types element → HasCell is_int state len → meaning len ≡ values.Int (pos count)
     → IsNewArrayChild types.erase state element len id child
-    → GoesWith types state machine meaning child (with_heap machine (heap_with machine.heap (zeros_of element count))) id (values.Ref (length machine.heap.objects))
+    → GoesWith types state machine meaning child (with_heap machine (heap_with machine.heap (zeros_of element count))) id
+    (values.Ref (length machine.heap.objects))
 
 -- ---- ints
 
@@ -159,7 +179,8 @@ ValuesGoOn =
     → GoesWith types state machine meaning child machine id value
 
 -- a child fits a state of the machine by the same map, and the edge to it holds
-pub record GoesAlike (types : WorldTypes) (state : AbstractState) (machine : MachineState) (meaning : Meaning) (child : AbstractState) (machine_after : MachineState) : Type 0 where
+pub record GoesAlike (types : WorldTypes) (state : AbstractState) (machine : MachineState) (meaning : Meaning)
+    (child : AbstractState) (machine_after : MachineState) : Type 0 where
   pub fits : Fits types child machine_after meaning
   pub edge : Edge state machine meaning (plain_link true None) child machine_after meaning
 
@@ -174,7 +195,8 @@ pub record HasOtherCells (state : AbstractState) (cell : ℕ → Option Cell) (c
 -- a write of an int into a field: the known instance `k` names the written id there, and nothing else changes
 abbrev pub IntWritesGoOn : Type 0
 IntWritesGoOn =
-    (types : WorldTypes) (state child : AbstractState) (machine : MachineState) (meaning : Meaning) (k class place old value o : ℕ) (ids : List ℕ) (heap : Heap)
+    (types : WorldTypes) (state child : AbstractState) (machine : MachineState) (meaning : Meaning) (k class place old value o : ℕ)
+    (ids : List ℕ) (heap : Heap)
     → IsWellFormed state → Fits types state machine meaning
     → cell_at state k ≡ Some (cells.Obj class ids) → slice_get ids place ≡ Some old → HasCell is_int state old → HasCell is_int state value
     → target (meaning k) ≡ Some o → IsWritten machine.heap o place (meaning value) heap

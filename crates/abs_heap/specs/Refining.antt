@@ -1,7 +1,8 @@
 -- Splits of a state into cases, by what an object is: each case is a child of zero steps. For heaps of trees these are the
 -- refinements of Otto, Brockschmidt, von Essen, Giesl 2010, "Automated Termination Analysis of Java Bytecode by Term
 -- Rewriting"; shapes and the pairs of ids are this project's own.
-use Rattle.std.specs.Prelude.{◌≡◌, ◌≢◌, ◌⊎◌, ℕ, ◌==◌, nat_lt, Bool, true, false, ◌&&◌, ◌||◌, if◌then◌else◌, List, [], ◌∷◌, ◌++◌, map, filter, zip, length, Option, Some, None, slice_get, pos}
+use Rattle.std.specs.Prelude.{◌≡◌, ◌≢◌, ◌⊎◌, ℕ, ◌==◌, nat_lt, Bool, true, false, ◌&&◌, ◌||◌, if◌then◌else◌, List, [], ◌∷◌, ◌++◌}
+use Rattle.std.specs.Prelude.{map, filter, zip, length, Option, Some, None, slice_get, pos}
 use Rattle.std.specs.Option.{option_map}
 use Rattle.list_views.specs.Lists.{numbers_from}
 use Rattle.jvm_values.specs.declared.types.Ty.{Ty}
@@ -26,7 +27,8 @@ use Rattle.abs_heap.specs.Names.{one_name, frame_named, cell_named, IsImage, IsP
 
 -- a state with another cell at an id; the pairs stay that still may
 abbrev pub IsWithCell : AbstractState → ℕ → Cell → AbstractState → Type 0
-IsWithCell state x cell child = IsGiven state.frames state.throwing (with_cells ((x, cell) ∷ []) state) (AreEqual state) (Share state) child
+IsWithCell state x cell child = IsGiven state.frames state.throwing (with_cells ((x, cell) ∷ []) state) (AreEqual state)
+    (Share state) child
 
 -- ---- a class, or an array
 
@@ -57,7 +59,8 @@ pub record JoinsFields (fields : List Slot) (ids : List ℕ) (state : AbstractSt
   pub why : Share state x y ⊎ (((shape ≢ Tree) × IsReferenceField fields ids y) ⊎ ((shape ≡ Any) × (y ≡ x)))
 
 -- x is an instance of a class
-pub record IsInstanceChild (types : WorldTypes) (state : AbstractState) (x : ℕ) (shape : Shape) (class : ℕ) (child : AbstractState) : Type 0 where
+pub record IsInstanceChild (types : WorldTypes) (state : AbstractState) (x : ℕ) (shape : Shape) (class : ℕ)
+    (child : AbstractState) : Type 0 where
   pub ids : List ℕ
   pub count : length ids ≡ length (types.fields class)
   pub fresh : AreFresh state ids
@@ -71,7 +74,8 @@ pub record IsInstanceChild (types : WorldTypes) (state : AbstractState) (x : ℕ
 pub record IsArrayChild (state : AbstractState) (x : ℕ) (cell : ℕ → Cell) (child : AbstractState) : Type 0 where
   pub len : ℕ
   pub fresh : AreFresh state (len ∷ [])
-  pub is : IsGiven state.frames state.throwing (with_cells ((x, cell len) ∷ (len, length_cell) ∷ []) state) (AreEqual state) (Share state) child
+  pub is : IsGiven state.frames state.throwing (with_cells ((x, cell len) ∷ (len, length_cell) ∷ []) state) (AreEqual state)
+      (Share state) child
 
 -- one case: a class, an array of numbers of a kind, or an array of references of an element type
 pub data Case : Type 0 where
@@ -86,11 +90,13 @@ IsCase types state x shape (references element) child = IsArrayChild state x (λ
 
 -- the classes below a type of which there are instances, by number
 abbrev pub instances_below : WorldTypes → Ty → List Case
-instances_below types bound = map instance (filter (λ class. types.can_be_made class && types.sub (class_type class) bound) (numbers_from 0 types.classes))
+instances_below types bound = map instance (filter (λ class. types.can_be_made class && types.sub (class_type class) bound)
+    (numbers_from 0 types.classes))
 
 -- the arrays of numbers below a type, by the kinds' order: all of them below Object
 abbrev pub numbers_below : WorldTypes → Ty → List Case
-numbers_below types bound = map numbers (filter (λ kind. types.sub (array_of_numbers kind) bound) (kinds.Boolean ∷ kinds.Char ∷ kinds.Byte ∷ kinds.Short ∷ kinds.Int ∷ []))
+numbers_below types bound = map numbers
+    (filter (λ kind. types.sub (array_of_numbers kind) bound) (kinds.Boolean ∷ kinds.Char ∷ kinds.Byte ∷ kinds.Short ∷ kinds.Int ∷ []))
 
 -- the element type above those of all arrays of references below a type: Object's arrays are the arrays of Object
 abbrev pub element_below : WorldTypes → Ty → Option Ty
@@ -163,8 +169,10 @@ merged_cell sub (cells.Int interval) goes = cells.Int interval
 merged_cell sub cells.Null goes = cells.Null
 merged_cell sub (cells.Obj class ids) goes = cells.Obj class ids
 merged_cell sub (cells.Nums kind len) goes = cells.Nums kind len
-merged_cell sub (cells.Refs element len shape) goes = cells.Refs (lower_element sub element (element_told goes)) len (better_of shape (shape_of goes))
-merged_cell sub (cells.Unk bound nullable shape) goes = cells.Unk (lower_bound sub bound (type_of_cell goes)) false (better_of shape (shape_of goes))
+merged_cell sub (cells.Refs element len shape) goes = cells.Refs (lower_element sub element (element_told goes)) len
+    (better_of shape (shape_of goes))
+merged_cell sub (cells.Unk bound nullable shape) goes = cells.Unk (lower_bound sub bound (type_of_cell goes)) false
+    (better_of shape (shape_of goes))
 
 -- the two are one: the state with the id that goes under the name of the one that stays, which has the pairs of both
 pub record IsMergedChild (sub : Ty → Ty → Bool) (state : AbstractState) (stays goes : ℕ) (child : AbstractState) : Type 0 where
@@ -173,22 +181,27 @@ pub record IsMergedChild (sub : Ty → Ty → Bool) (state : AbstractState) (sta
   pub right : Cell
   pub right_is : cell_at state goes ≡ Some right
   pub is : IsGiven (map (frame_named (one_name goes stays)) state.frames) (option_map (one_name goes stays) state.throwing)
-      (λ id. if id == goes then None else option_map (cell_named (one_name goes stays)) (cell_in ((stays, merged_cell sub left right) ∷ state.cells) id))
+      (λ id. if id == goes then None else option_map (cell_named (one_name goes stays))
+      (cell_in ((stays, merged_cell sub left right) ∷ state.cells) id))
       (λ a b. IsImage (one_name goes stays) (AreEqual state) a b)
       (λ a b. IsImage (one_name goes stays) (Share state) a b)
       child
 
 -- they are not: the pair of one object goes, and they share as before
 abbrev pub IsApartChild : AbstractState → ℕ → ℕ → AbstractState → Type 0
-IsApartChild state x y child = IsGiven state.frames state.throwing (cell_at state) (λ a b. AreEqual state a b × (IsPairOf x y a b → ⊥)) (Share state) child
+IsApartChild state x y child = IsGiven state.frames state.throwing (cell_at state)
+    (λ a b. AreEqual state a b × (IsPairOf x y a b → ⊥)) (Share state) child
 
 -- the id that goes into the one that stays, and the child; or the child in which they are two objects
-pub data IsEqualChild (sub : Ty → Ty → Bool) (state : AbstractState) (x y : ℕ) : Bool → List (Option (ℕ × ℕ) × AbstractState) → Type 0 where
-  both : (stays goes : ℕ) (merged apart : AbstractState) → IsPairOf x y stays goes → Stays state stays goes → IsMergedChild sub state stays goes merged → IsApartChild state x y apart
+pub data IsEqualChild (sub : Ty → Ty → Bool) (state : AbstractState) (x y : ℕ) : Bool → List (Option (ℕ × ℕ) × AbstractState)
+    → Type 0 where
+  both : (stays goes : ℕ) (merged apart : AbstractState) → IsPairOf x y stays goes → Stays state stays goes
+      → IsMergedChild sub state stays goes merged → IsApartChild state x y apart
       → IsEqualChild sub state x y true ((Some (goes, stays), merged) ∷ (None, apart) ∷ [])
   alone : (apart : AbstractState) → IsApartChild state x y apart → IsEqualChild sub state x y false ((None, apart) ∷ [])
 
-pub record AreEqualChildren (sub : Ty → Ty → Bool) (state : AbstractState) (x y : ℕ) (children : List (Option (ℕ × ℕ) × AbstractState)) : Type 0 where
+pub record AreEqualChildren (sub : Ty → Ty → Bool) (state : AbstractState) (x y : ℕ)
+    (children : List (Option (ℕ × ℕ) × AbstractState)) : Type 0 where
   pub left : Cell
   pub left_is : cell_at state x ≡ Some left
   pub right : Cell

@@ -1,6 +1,7 @@
 -- How the child of a write is made: which ids get new numbers, what its cells become, and which ids are met. The calls' own
 -- clauses are over the other files alone.
-use Rattle.std.specs.Prelude.{◌≡◌, ◌↔◌, ◌⊎◌, ℕ, ◌==◌, ◌&&◌, ◌||◌, Bool, true, if◌then◌else◌, List, [], ◌∷◌, map, slice_set, Contains, Option, Some, None}
+use Rattle.std.specs.Prelude.{◌≡◌, ◌↔◌, ◌⊎◌, ℕ, ◌==◌, ◌&&◌, ◌||◌, Bool, true, if◌then◌else◌, List, [], ◌∷◌, map, slice_set}
+use Rattle.std.specs.Prelude.{Contains, Option, Some, None}
 use Rattle.std.specs.Option.{option_map}
 use Rattle.jvm_values.specs.declared.shape.Shape.{Shape}
 use Rattle.abs_cells.specs.declared.cells.Cell.{Cell}
@@ -68,7 +69,8 @@ write_of object field value = record { object = object; field = field; value = v
 
 -- the child of a write, where the new numbers, and what the written value does to shapes, are given
 abbrev pub IsWritten : AbstractState → Write → List (ℕ × ℕ) → Bool → Bool → AbstractState → Type 0
-IsWritten state write names null no_cycle child = IsGiven (map (frame_named (name_in names)) state.frames) (option_map (name_in names) state.throwing)
+IsWritten state write names null no_cycle child = IsGiven (map (frame_named (name_in names)) state.frames)
+    (option_map (name_in names) state.throwing)
     (cell_in (map (cell_after names (shape_after null no_cycle) write) state.cells))
     (IsImage (name_in names) (AreEqual state))
     (λ a b. IsImage (name_in names) (Share state) a b ⊎ GainsPair state names write a b)

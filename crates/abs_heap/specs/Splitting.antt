@@ -1,5 +1,6 @@
 -- How the children of a split by class are listed, one case after another. The call's own clauses are over the other files alone.
-use Rattle.std.specs.Prelude.{◌≡◌, ◌⊎◌, ℕ, ◌+◌, ◌<◌, nat_lt, Bool, ◌&&◌, true, false, if◌then◌else◌, List, [], ◌∷◌, ◌++◌, map, filter, zip, length, Some, None, Result, Ok, Err, slice_get}
+use Rattle.std.specs.Prelude.{◌≡◌, ◌⊎◌, ℕ, ◌+◌, ◌<◌, nat_lt, Bool, ◌&&◌, true, false, if◌then◌else◌, List, [], ◌∷◌, ◌++◌, map}
+use Rattle.std.specs.Prelude.{filter, zip, length, Some, None, Result, Ok, Err, slice_get}
 use Rattle.std.specs.List.{AllZip}
 use Rattle.jvm_values.specs.declared.types.Ty.{Ty}
 use Rattle.jvm_values.specs.declared.types.Kind.{Kind}
@@ -23,7 +24,8 @@ use Rattle.abs_heap.specs.Refining.{Case, instance, numbers, IsCase, IsArrayChil
 
 -- the cases of some classes, and of arrays of some kinds
 abbrev pub instances_among : WorldTypes → Ty → List ℕ → List Case
-instances_among types bound classes = map instance (filter (λ class. types.can_be_made class && types.sub (class_type class) bound) classes)
+instances_among types bound classes = map instance (filter (λ class. types.can_be_made class && types.sub (class_type class) bound)
+    classes)
 
 abbrev pub numbers_among : WorldTypes → Ty → List Kind → List Case
 numbers_among types bound kinds = map numbers (filter (λ kind. types.sub (array_of_numbers kind) bound) kinds)
@@ -41,13 +43,15 @@ first_crowd test (case ∷ cases) passed = if test case then Err passed else fir
 abbrev pub plain_child : AbstractState → GraphChild
 plain_child state = record { state = state; link = plain_link false None }
 
-pub record AddsCases (types : WorldTypes) (state : AbstractState) (x : ℕ) (shape : Shape) (cases : List Case) (old new : List GraphChild) : Type 0 where
+pub record AddsCases (types : WorldTypes) (state : AbstractState) (x : ℕ) (shape : Shape) (cases : List Case)
+    (old new : List GraphChild) : Type 0 where
   pub states : List AbstractState
   pub are : AllZip (IsCase types state x shape) cases states
   pub is : new ≡ old ++ map plain_child states
 
 -- the child of one case
-pub record IsCaseAnswer (types : WorldTypes) (state : AbstractState) (x : ℕ) (shape : Shape) (case : Case) (child : GraphChild) : Type 0 where
+pub record IsCaseAnswer (types : WorldTypes) (state : AbstractState) (x : ℕ) (shape : Shape) (case : Case)
+    (child : GraphChild) : Type 0 where
   pub is : IsCase types state x shape case child.state
   pub link : child.link ≡ plain_link false None
 
@@ -73,4 +77,5 @@ pub record IsFieldBefore (fields : List Slot) (ids : List ℕ) (end f : ℕ) : T
 
 -- an id of one set is wanted as one object with an id of another, where their cells allow it
 abbrev pub WantsOne : (Ty → Ty → Bool) → List (ℕ × Cell) → List ℕ → List ℕ → ℕ → ℕ → Type 0
-WantsOne sub list ids others a b = (has_id ids a ≡ true) × ((has_id others b ≡ true) × (may_be_one sub (cell_in list a) (cell_in list b) ≡ true))
+WantsOne sub list ids others a b = (has_id ids a ≡ true)
+    × ((has_id others b ≡ true) × (may_be_one sub (cell_in list a) (cell_in list b) ≡ true))

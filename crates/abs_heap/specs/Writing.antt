@@ -1,5 +1,6 @@
 -- What a write of a reference into an object does to a state, and the three other calls that make ids.
-use Rattle.std.specs.Prelude.{◌≡◌, ◌⊎◌, ◌↔◌, ℕ, ◌==◌, ◌||◌, Bool, true, false, if◌then◌else◌, List, [], ◌∷◌, map, zip, length, Contains, Option, Some, None, slice_set, pos}
+use Rattle.std.specs.Prelude.{◌≡◌, ◌⊎◌, ◌↔◌, ℕ, ◌==◌, ◌||◌, Bool, true, false, if◌then◌else◌, List, [], ◌∷◌, map, zip, length}
+use Rattle.std.specs.Prelude.{Contains, Option, Some, None, slice_set, pos}
 use Rattle.std.specs.Option.{option_map}
 use Rattle.jvm_values.specs.declared.types.Ty.{Ty}
 use Rattle.jvm_values.specs.declared.types.Slot.{Slot}
@@ -97,8 +98,11 @@ reshaped names change c = if is_renamed names c.0 then with_shape change c.1 els
 
 -- the cells after it: an affected id has its new number and its new shape, and the field has the written id
 abbrev pub cell_after : List (ℕ × ℕ) → (Shape → Shape) → Write → ℕ × Cell → ℕ × Cell
-cell_after names change write c =
-    (name_in names c.0, cell_named (name_in names) (if c.0 == write.object then with_field write.field write.value (reshaped names change c) else reshaped names change c))
+cell_after names change write c = (
+  name_in names c.0,
+  cell_named (name_in names)
+      (if c.0 == write.object then with_field write.field write.value (reshaped names change c) else reshaped names change c),
+)
 
 -- an affected id shares after it with what the value's region may meet
 pub record GainsPair (state : AbstractState) (names : List (ℕ × ℕ)) (write : Write) (a b : ℕ) : Type 0 where
@@ -131,7 +135,8 @@ pub record JoinsItem (state : AbstractState) (k item : ℕ) (shape : Shape) (a b
   pub is_item : a ≡ item
   pub why : Share state k b ⊎ ((shape ≡ Any) × (b ≡ k))
 
-pub record IsItemChild (sub : Ty → Ty → Bool) (state : AbstractState) (k : ℕ) (element : Ty) (shape : Shape) (item : ℕ) (child : AbstractState) : Type 0 where
+pub record IsItemChild (sub : Ty → Ty → Bool) (state : AbstractState) (k : ℕ) (element : Ty) (shape : Shape) (item : ℕ)
+    (child : AbstractState) : Type 0 where
   pub fresh : AreFresh state (item ∷ [])
   pub is : IsGiven state.frames state.throwing (with_cells ((item, cells.Unk element true shape) ∷ []) state)
       (λ a b. AreEqual state a b ⊎ MayBeOne sub (JoinsItem state k item shape) child.cells a b)
@@ -150,7 +155,8 @@ pub record IsObjectChild (types : WorldTypes) (state : AbstractState) (class id 
   pub ids : List ℕ
   pub count : length ids ≡ length (types.fields class)
   pub fresh : AreFresh state (id ∷ ids)
-  pub is : IsGiven state.frames state.throwing (with_cells ((id, cells.Obj class ids) ∷ zip ids (map zero_cell (types.fields class))) state) (AreEqual state) (Share state) child
+  pub is : IsGiven state.frames state.throwing
+      (with_cells ((id, cells.Obj class ids) ∷ zip ids (map zero_cell (types.fields class))) state) (AreEqual state) (Share state) child
 
 -- an array that holds zeros, or null
 abbrev pub array_cell : (Ty → Ty) → Slot → ℕ → Cell
@@ -159,4 +165,5 @@ array_cell erase (slots.Ref t) len = cells.Refs (erase t) len Tree
 
 pub record IsNewArrayChild (erase : Ty → Ty) (state : AbstractState) (element : Slot) (len id : ℕ) (child : AbstractState) : Type 0 where
   pub fresh : AreFresh state (id ∷ [])
-  pub is : IsGiven state.frames state.throwing (with_cells ((id, array_cell erase element len) ∷ []) state) (AreEqual state) (Share state) child
+  pub is : IsGiven state.frames state.throwing (with_cells ((id, array_cell erase element len) ∷ []) state) (AreEqual state)
+      (Share state) child

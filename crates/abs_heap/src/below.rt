@@ -23,7 +23,8 @@ pub(crate) fn is_comparable<T: Types>(types: &T, a: Ty, b: Ty) -> bool
 
 /// The element type above those of all arrays of references below a type, if it has such arrays.
 pub(crate) fn element_below<T: Types>(types: &T, bound: Ty) -> Option<Ty>
-    ensures { result ≡ element_below (world_types (T.sub types.now) (T.erase types.now) (T.classes types.now) (T.fields types.now) (T.can_be_made types.now)) bound }
+    ensures { result ≡ element_below (world_types (T.sub types.now) (T.erase types.now) (T.classes types.now) (T.fields types.now)
+        (T.can_be_made types.now)) bound }
 {
     let object = class_type(0);
     if types.sub(object, bound) {

@@ -36,8 +36,16 @@ fn put_instance<T: Types, P: Pairs>(
     requires good { IsWellFormed state.now }
     requires x { x < 2048 }
     requires class { class < T.classes types.now }
-    requires room { list_any (crowds (world_types (T.sub types.now) (T.erase types.now) (T.classes types.now) (T.fields types.now) (T.can_be_made types.now)) state.now) (instances_among (world_types (T.sub types.now) (T.erase types.now) (T.classes types.now) (T.fields types.now) (T.can_be_made types.now)) bound (class ∷ [])) ≡ false }
-    ensures { OnOk result (AddsCases (world_types (T.sub types.now) (T.erase types.now) (T.classes types.now) (T.fields types.now) (T.can_be_made types.now)) state.now x shape (instances_among (world_types (T.sub types.now) (T.erase types.now) (T.classes types.now) (T.fields types.now) (T.can_be_made types.now)) bound (class ∷ [])) children.old children.new) }
+    requires room { list_any
+        (crowds (world_types (T.sub types.now) (T.erase types.now) (T.classes types.now) (T.fields types.now)
+        (T.can_be_made types.now)) state.now)
+        (instances_among (world_types (T.sub types.now) (T.erase types.now) (T.classes types.now) (T.fields types.now)
+        (T.can_be_made types.now)) bound (class ∷ [])) ≡ false }
+    ensures { OnOk result
+        (AddsCases (world_types (T.sub types.now) (T.erase types.now) (T.classes types.now) (T.fields types.now)
+        (T.can_be_made types.now)) state.now x shape
+        (instances_among (world_types (T.sub types.now) (T.erase types.now) (T.classes types.now) (T.fields types.now)
+        (T.can_be_made types.now)) bound (class ∷ [])) children.old children.new) }
 {
     if is_instance_below(types, bound, class) {
         children.push(instance_child(alloc, types, state, x, shape, class)?)?;
@@ -57,8 +65,16 @@ fn put_instances<T: Types, P: Pairs>(
 ) -> Result<(), AllocError>
     requires good { IsWellFormed state.now }
     requires x { x < 2048 }
-    requires room { list_any (crowds (world_types (T.sub types.now) (T.erase types.now) (T.classes types.now) (T.fields types.now) (T.can_be_made types.now)) state.now) (instances_below (world_types (T.sub types.now) (T.erase types.now) (T.classes types.now) (T.fields types.now) (T.can_be_made types.now)) bound) ≡ false }
-    ensures { OnOk result (AddsCases (world_types (T.sub types.now) (T.erase types.now) (T.classes types.now) (T.fields types.now) (T.can_be_made types.now)) state.now x shape (instances_below (world_types (T.sub types.now) (T.erase types.now) (T.classes types.now) (T.fields types.now) (T.can_be_made types.now)) bound) children.old children.new) }
+    requires room { list_any
+        (crowds (world_types (T.sub types.now) (T.erase types.now) (T.classes types.now) (T.fields types.now)
+        (T.can_be_made types.now)) state.now)
+        (instances_below (world_types (T.sub types.now) (T.erase types.now) (T.classes types.now) (T.fields types.now)
+        (T.can_be_made types.now)) bound) ≡ false }
+    ensures { OnOk result
+        (AddsCases (world_types (T.sub types.now) (T.erase types.now) (T.classes types.now) (T.fields types.now)
+        (T.can_be_made types.now)) state.now x shape
+        (instances_below (world_types (T.sub types.now) (T.erase types.now) (T.classes types.now) (T.fields types.now)
+        (T.can_be_made types.now)) bound) children.old children.new) }
 {
     let mut class = 0;
     while class < types.classes() {
@@ -81,8 +97,16 @@ fn put_numbers<T: Types, P: Pairs>(
 ) -> Result<(), AllocError>
     requires good { IsWellFormed state.now }
     requires x { x < 2048 }
-    requires room { list_any (crowds (world_types (T.sub types.now) (T.erase types.now) (T.classes types.now) (T.fields types.now) (T.can_be_made types.now)) state.now) (numbers_among (world_types (T.sub types.now) (T.erase types.now) (T.classes types.now) (T.fields types.now) (T.can_be_made types.now)) bound (kind ∷ [])) ≡ false }
-    ensures { OnOk result (AddsCases (world_types (T.sub types.now) (T.erase types.now) (T.classes types.now) (T.fields types.now) (T.can_be_made types.now)) state.now x shape (numbers_among (world_types (T.sub types.now) (T.erase types.now) (T.classes types.now) (T.fields types.now) (T.can_be_made types.now)) bound (kind ∷ [])) children.old children.new) }
+    requires room { list_any
+        (crowds (world_types (T.sub types.now) (T.erase types.now) (T.classes types.now) (T.fields types.now)
+        (T.can_be_made types.now)) state.now)
+        (numbers_among (world_types (T.sub types.now) (T.erase types.now) (T.classes types.now) (T.fields types.now)
+        (T.can_be_made types.now)) bound (kind ∷ [])) ≡ false }
+    ensures { OnOk result
+        (AddsCases (world_types (T.sub types.now) (T.erase types.now) (T.classes types.now) (T.fields types.now)
+        (T.can_be_made types.now)) state.now x shape
+        (numbers_among (world_types (T.sub types.now) (T.erase types.now) (T.classes types.now) (T.fields types.now)
+        (T.can_be_made types.now)) bound (kind ∷ [])) children.old children.new) }
 {
     if is_numbers_below(types, bound, kind) {
         children.push(numbers_child(alloc, state, x, kind)?)?;
@@ -103,8 +127,16 @@ fn put_all_numbers<T: Types, P: Pairs>(
 ) -> Result<(), AllocError>
     requires good { IsWellFormed state.now }
     requires x { x < 2048 }
-    requires room { list_any (crowds (world_types (T.sub types.now) (T.erase types.now) (T.classes types.now) (T.fields types.now) (T.can_be_made types.now)) state.now) (numbers_among (world_types (T.sub types.now) (T.erase types.now) (T.classes types.now) (T.fields types.now) (T.can_be_made types.now)) bound kinds.now) ≡ false }
-    ensures { OnOk result (AddsCases (world_types (T.sub types.now) (T.erase types.now) (T.classes types.now) (T.fields types.now) (T.can_be_made types.now)) state.now x shape (numbers_among (world_types (T.sub types.now) (T.erase types.now) (T.classes types.now) (T.fields types.now) (T.can_be_made types.now)) bound kinds.now) children.old children.new) }
+    requires room { list_any
+        (crowds (world_types (T.sub types.now) (T.erase types.now) (T.classes types.now) (T.fields types.now)
+        (T.can_be_made types.now)) state.now)
+        (numbers_among (world_types (T.sub types.now) (T.erase types.now) (T.classes types.now) (T.fields types.now)
+        (T.can_be_made types.now)) bound kinds.now) ≡ false }
+    ensures { OnOk result
+        (AddsCases (world_types (T.sub types.now) (T.erase types.now) (T.classes types.now) (T.fields types.now)
+        (T.can_be_made types.now)) state.now x shape
+        (numbers_among (world_types (T.sub types.now) (T.erase types.now) (T.classes types.now) (T.fields types.now)
+        (T.can_be_made types.now)) bound kinds.now) children.old children.new) }
 {
     for kind in kinds {
         put_numbers(alloc, types, state, x, shape, bound, *kind, children)?;
@@ -124,8 +156,16 @@ fn put_array<T: Types, P: Pairs>(
 ) -> Result<(), AllocError>
     requires good { IsWellFormed state.now }
     requires x { x < 2048 }
-    requires room { list_any (crowds (world_types (T.sub types.now) (T.erase types.now) (T.classes types.now) (T.fields types.now) (T.can_be_made types.now)) state.now) (listed (element_below (world_types (T.sub types.now) (T.erase types.now) (T.classes types.now) (T.fields types.now) (T.can_be_made types.now)) bound)) ≡ false }
-    ensures { OnOk result (AddsCases (world_types (T.sub types.now) (T.erase types.now) (T.classes types.now) (T.fields types.now) (T.can_be_made types.now)) state.now x shape (listed (element_below (world_types (T.sub types.now) (T.erase types.now) (T.classes types.now) (T.fields types.now) (T.can_be_made types.now)) bound)) children.old children.new) }
+    requires room { list_any
+        (crowds (world_types (T.sub types.now) (T.erase types.now) (T.classes types.now) (T.fields types.now)
+        (T.can_be_made types.now)) state.now)
+        (listed (element_below (world_types (T.sub types.now) (T.erase types.now) (T.classes types.now) (T.fields types.now)
+        (T.can_be_made types.now)) bound)) ≡ false }
+    ensures { OnOk result
+        (AddsCases (world_types (T.sub types.now) (T.erase types.now) (T.classes types.now) (T.fields types.now)
+        (T.can_be_made types.now)) state.now x shape
+        (listed (element_below (world_types (T.sub types.now) (T.erase types.now) (T.classes types.now) (T.fields types.now)
+        (T.can_be_made types.now)) bound)) children.old children.new) }
 {
     if let Some(element) = element_below(types, bound) {
         children.push(references_child(alloc, state, x, shape, element)?)?;
@@ -144,8 +184,16 @@ fn case_children<T: Types, P: Pairs>(
 ) -> Result<Seq<Child<P>>, AllocError>
     requires good { IsWellFormed state.now }
     requires x { x < 2048 }
-    requires room { list_any (crowds (world_types (T.sub types.now) (T.erase types.now) (T.classes types.now) (T.fields types.now) (T.can_be_made types.now)) state.now) (cases_below (world_types (T.sub types.now) (T.erase types.now) (T.classes types.now) (T.fields types.now) (T.can_be_made types.now)) bound) ≡ false }
-    ensures { IfOk result (λ children. AddsCases (world_types (T.sub types.now) (T.erase types.now) (T.classes types.now) (T.fields types.now) (T.can_be_made types.now)) state.now x shape (cases_below (world_types (T.sub types.now) (T.erase types.now) (T.classes types.now) (T.fields types.now) (T.can_be_made types.now)) bound) [] children) }
+    requires room { list_any
+        (crowds (world_types (T.sub types.now) (T.erase types.now) (T.classes types.now) (T.fields types.now)
+        (T.can_be_made types.now)) state.now)
+        (cases_below (world_types (T.sub types.now) (T.erase types.now) (T.classes types.now) (T.fields types.now)
+        (T.can_be_made types.now)) bound) ≡ false }
+    ensures { IfOk result
+        (λ children. AddsCases (world_types (T.sub types.now) (T.erase types.now) (T.classes types.now) (T.fields types.now)
+        (T.can_be_made types.now)) state.now x shape
+        (cases_below (world_types (T.sub types.now) (T.erase types.now) (T.classes types.now) (T.fields types.now)
+        (T.can_be_made types.now)) bound) [] children) }
 {
     let kinds = [
         Kind::Boolean,
@@ -172,8 +220,17 @@ fn children_below<T: Types, P: Pairs>(
 ) -> Result<Seq<Child<P>>, SplitFault>
     requires good { IsWellFormed state.now }
     requires x { x < 2048 }
-    ensures children { IfOk result (λ children. AddsCases (world_types (T.sub types.now) (T.erase types.now) (T.classes types.now) (T.fields types.now) (T.can_be_made types.now)) state.now x shape (cases_below (world_types (T.sub types.now) (T.erase types.now) (T.classes types.now) (T.fields types.now) (T.can_be_made types.now)) bound) [] children) }
-    ensures too_many { (n : ℕ) → (result ≡ Err (TooManyIds n)) ↔ IsFirstTooMany (case_counts (world_types (T.sub types.now) (T.erase types.now) (T.classes types.now) (T.fields types.now) (T.can_be_made types.now)) state.now (cases_below (world_types (T.sub types.now) (T.erase types.now) (T.classes types.now) (T.fields types.now) (T.can_be_made types.now)) bound)) n }
+    ensures children { IfOk result
+        (λ children. AddsCases (world_types (T.sub types.now) (T.erase types.now) (T.classes types.now) (T.fields types.now)
+        (T.can_be_made types.now)) state.now x shape
+        (cases_below (world_types (T.sub types.now) (T.erase types.now) (T.classes types.now) (T.fields types.now)
+        (T.can_be_made types.now)) bound) [] children) }
+    ensures too_many { (n : ℕ)
+        → (result ≡ Err (TooManyIds n)) ↔ IsFirstTooMany
+        (case_counts (world_types (T.sub types.now) (T.erase types.now) (T.classes types.now) (T.fields types.now)
+        (T.can_be_made types.now)) state.now
+        (cases_below (world_types (T.sub types.now) (T.erase types.now) (T.classes types.now) (T.fields types.now)
+        (T.can_be_made types.now)) bound)) n }
 {
     match past_cases(types, state, bound) {
         Ok(_) => Ok(case_children(alloc, types, state, x, shape, bound)?),
@@ -193,8 +250,14 @@ fn class_children<T: Types, P: Pairs>(
 ) -> Result<Seq<Child<P>>, SplitFault>
     requires good { IsWellFormed state.now }
     requires is { cell_at state.now x ≡ Some (cells.Unk bound false shape) }
-    ensures children { IfOk result (λ children. AreClassChildren (world_types (T.sub types.now) (T.erase types.now) (T.classes types.now) (T.fields types.now) (T.can_be_made types.now)) state.now x wanted children) }
-    ensures too_many { (n : ℕ) → (result ≡ Err (TooManyIds n)) ↔ IsFirstTooManyChild (world_types (T.sub types.now) (T.erase types.now) (T.classes types.now) (T.fields types.now) (T.can_be_made types.now)) state.now x wanted n }
+    ensures children { IfOk result
+        (λ children. AreClassChildren
+        (world_types (T.sub types.now) (T.erase types.now) (T.classes types.now) (T.fields types.now) (T.can_be_made types.now))
+        state.now x wanted children) }
+    ensures too_many { (n : ℕ)
+        → (result ≡ Err (TooManyIds n)) ↔ IsFirstTooManyChild
+        (world_types (T.sub types.now) (T.erase types.now) (T.classes types.now) (T.fields types.now) (T.can_be_made types.now))
+        state.now x wanted n }
 {
     if is_comparable(types, bound, wanted) {
         let low = lower_of(types, bound, wanted);
@@ -230,8 +293,14 @@ pub fn refine_class<T: Types, P: Pairs>(
 ) -> Result<Seq<Child<P>>, SplitFault>
     requires good { IsWellFormed state.now }
     requires object { IsObjectBelow state.now x }
-    ensures children { IfOk result (λ children. AreClassChildren (world_types (T.sub types.now) (T.erase types.now) (T.classes types.now) (T.fields types.now) (T.can_be_made types.now)) state.now x wanted children) }
-    ensures too_many { (n : ℕ) → (result ≡ Err (TooManyIds n)) ↔ IsFirstTooManyChild (world_types (T.sub types.now) (T.erase types.now) (T.classes types.now) (T.fields types.now) (T.can_be_made types.now)) state.now x wanted n }
+    ensures children { IfOk result
+        (λ children. AreClassChildren
+        (world_types (T.sub types.now) (T.erase types.now) (T.classes types.now) (T.fields types.now) (T.can_be_made types.now))
+        state.now x wanted children) }
+    ensures too_many { (n : ℕ)
+        → (result ≡ Err (TooManyIds n)) ↔ IsFirstTooManyChild
+        (world_types (T.sub types.now) (T.erase types.now) (T.classes types.now) (T.fields types.now) (T.can_be_made types.now))
+        state.now x wanted n }
 {
     match cell_of(state.cells(), x) {
         Some(Cell::Unk(bound, _, shape)) => {

@@ -2,7 +2,7 @@
 ghost use Rattle.std.specs.Prelude.{◌≡◌, ◌+◌, ◌≤◌, ◌<◌, [], true, map, length, IfOk, OnOk, IsTrue, ◌↔◌};
 ghost use Rattle.std.specs.Option.{option_map};
 ghost use Rattle.abs_cells.specs.Cells.{cell_in, AreEqual, Share};
-ghost use Rattle.abs_cells.specs.PairLists.{has};
+ghost use Rattle.abs_cells.specs.PairLists.{IsRising, has};
 ghost use Rattle.abs_cells.specs.Sound.{AreIdsRising, IsWellFormed};
 ghost use Rattle.abs_cells.specs.Limits.{most_ids};
 ghost use Rattle.abs_heap.specs.Building.{Gains, IsOver};
@@ -38,6 +38,23 @@ pub(crate) fn plain_link(alloc: Global, step: bool, merged: Option<(Id, Id)>) ->
     }
 }
 
+/// Listed pairs under their names, of which those stay that may stand.
+pub(crate) fn listed_pairs<P: Pairs>(
+    alloc: Global,
+    names: &[(Id, Id)],
+    listed: &[(Id, Id)],
+    cells: &[(Id, Cell)],
+) -> Result<P, AllocError>
+    requires cells { AreIdsRising 0 cells.now }
+    requires pairs { IsRising listed.now }
+    ensures { IfOk result (λ pairs. Gains cells.now (IsImage (name_in names.now) (λ x y. has x y listed.now ≡ true)) []
+        (P.pairs pairs)) }
+{
+    let mut pairs = P::empty(alloc);
+    put_named(names, listed, cells, &mut pairs)?;
+    Ok(pairs)
+}
+
 /// The pairs of a state under their names, of which those stay that may stand.
 pub(crate) fn named_pairs<P: Pairs>(
     alloc: Global,
@@ -46,11 +63,11 @@ pub(crate) fn named_pairs<P: Pairs>(
     cells: &[(Id, Cell)],
 ) -> Result<P, AllocError>
     requires { AreIdsRising 0 cells.now }
-    ensures { IfOk result (λ pairs. Gains cells.now (IsImage (name_in names.now) (λ x y. has x y (P.pairs old.now) ≡ true)) [] (P.pairs pairs)) }
+    ensures { IfOk result (λ pairs. Gains cells.now (IsImage (name_in names.now) (λ x y. has x y (P.pairs old.now) ≡ true)) []
+        (P.pairs pairs)) }
 {
-    let mut pairs = P::empty(alloc);
-    put_named(names, old, cells, &mut pairs)?;
-    Ok(pairs)
+    let listed = old.list(alloc)?;
+    listed_pairs(alloc, names, listed.as_slice(), cells)
 }
 
 /// The state with other cells and pairs, whose frames and thrown id are under their names.
@@ -62,7 +79,15 @@ pub(crate) fn whole<P: Pairs>(
     eq: P,
     share: P,
 ) -> Result<AbsState<P>, AllocError>
-    ensures { IfOk result (λ child. child ≡ record { frames = map (frame_named (name_in names.now)) state.now.frames; throwing = option_map (name_in names.now) state.now.throwing; cells = cells; eq = P.pairs eq; share = P.pairs share }) }
+    ensures { IfOk result
+        (λ child. child ≡ record {
+          frames = map (frame_named (name_in names.now)) state.now.frames;
+          throwing = option_map
+              (name_in names.now) state.now.throwing;
+          cells = cells;
+          eq = P.pairs eq;
+          share = P.pairs share;
+        }) }
 {
     let frames = named_frames(alloc, names, state.frames())?;
     let throwing = name_of_given(names, state.throwing());
@@ -89,7 +114,8 @@ pub(crate) fn child_of<P: Pairs>(
     cells: Seq<(Id, Cell)>,
 ) -> Result<AbsState<P>, AllocError>
     requires { AreIdsRising 0 cells }
-    ensures { IfOk result (λ child. IsGiven state.now.frames state.now.throwing (cell_in cells) (AreEqual state.now) (Share state.now) child) }
+    ensures { IfOk result (λ child. IsGiven state.now.frames state.now.throwing (cell_in cells) (AreEqual state.now)
+        (Share state.now) child) }
 {
     let list = cells.as_slice();
     let eq = named_pairs(alloc, &[], state.eq(), list)?;

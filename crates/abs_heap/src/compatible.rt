@@ -89,7 +89,8 @@ fn is_wanted<T: Types>(types: &T, cell: &Cell, others: &IdSet, other: Id, other_
 /// The ids of a set whose cells may describe the same object as a cell.
 fn compatible_ids<T: Types>(types: &T, cells: &[(Id, Cell)], cell: &Cell, others: &IdSet) -> IdSet
     requires { AreIdsRising 0 cells.now }
-    ensures { (n : ℕ) → has_id result n ≡ (has_id others.now n && is_of_sort (are_compatible (T.sub types.now) cell.now) (cell_in cells.now n)) }
+    ensures { (n : ℕ) → has_id result n ≡ (has_id others.now n && is_of_sort (are_compatible (T.sub types.now) cell.now)
+        (cell_in cells.now n)) }
 {
     let mut ids = IdSet::new();
     for (other, other_cell) in cells {
@@ -108,7 +109,10 @@ pub(crate) fn put_compatible<T: Types, P: Pairs>(
     pairs: &mut P,
 ) -> Result<(), AllocError>
     requires { AreIdsRising 0 cells.now }
-    ensures { OnOk result (Gains cells.now (λ c d. (c ≡ id) × ((has_id others.now d ≡ true) × (may_be_one (T.sub types.now) (cell_in cells.now id) (cell_in cells.now d) ≡ true))) (P.pairs pairs.old) (P.pairs pairs.new)) }
+    ensures { OnOk result
+        (Gains cells.now (λ c d. (c ≡ id)
+        × ((has_id others.now d ≡ true) × (may_be_one (T.sub types.now) (cell_in cells.now id) (cell_in cells.now d) ≡ true)))
+        (P.pairs pairs.old) (P.pairs pairs.new)) }
 {
     match cell_of(cells, id) {
         Some(cell) => put_with(
@@ -131,7 +135,8 @@ fn put_compatible_in<T: Types, P: Pairs>(
     pairs: &mut P,
 ) -> Result<(), AllocError>
     requires { AreIdsRising 0 cells.now }
-    ensures { OnOk result (Gains cells.now (λ c d. (c ≡ id) × WantsOne (T.sub types.now) cells.now ids.now others.now c d) (P.pairs pairs.old) (P.pairs pairs.new)) }
+    ensures { OnOk result (Gains cells.now (λ c d. (c ≡ id) × WantsOne (T.sub types.now) cells.now ids.now others.now c d)
+        (P.pairs pairs.old) (P.pairs pairs.new)) }
 {
     if ids.has(id) {
         put_compatible(types, cells, id, others, pairs)?;
@@ -148,7 +153,8 @@ pub(crate) fn put_compatible_between<T: Types, P: Pairs>(
     pairs: &mut P,
 ) -> Result<(), AllocError>
     requires { AreIdsRising 0 cells.now }
-    ensures { OnOk result (Gains cells.now (WantsOne (T.sub types.now) cells.now ids.now others.now) (P.pairs pairs.old) (P.pairs pairs.new)) }
+    ensures { OnOk result (Gains cells.now (WantsOne (T.sub types.now) cells.now ids.now others.now) (P.pairs pairs.old)
+        (P.pairs pairs.new)) }
 {
     for (id, _cell) in cells {
         put_compatible_in(types, cells, *id, ids, others, pairs)?;

@@ -33,7 +33,11 @@ fn past_instance<T: Types, P: Pairs>(
 ) -> Result<usize, usize>
     requires class { class < T.classes types.now }
     requires low { passed < 8589934592 }
-    ensures { result ≡ first_crowd (crowds (world_types (T.sub types.now) (T.erase types.now) (T.classes types.now) (T.fields types.now) (T.can_be_made types.now)) state.now) (instances_among (world_types (T.sub types.now) (T.erase types.now) (T.classes types.now) (T.fields types.now) (T.can_be_made types.now)) bound (class ∷ [])) passed }
+    ensures { result ≡ first_crowd
+        (crowds (world_types (T.sub types.now) (T.erase types.now) (T.classes types.now) (T.fields types.now)
+        (T.can_be_made types.now)) state.now)
+        (instances_among (world_types (T.sub types.now) (T.erase types.now) (T.classes types.now) (T.fields types.now)
+        (T.can_be_made types.now)) bound (class ∷ [])) passed }
 {
     if is_instance_below(types, bound, class) {
         past_case(state, types.fields(class).len(), passed)
@@ -48,7 +52,11 @@ fn past_instances<T: Types, P: Pairs>(
     state: &AbsState<P>,
     bound: Ty,
 ) -> Result<usize, usize>
-    ensures is { result ≡ first_crowd (crowds (world_types (T.sub types.now) (T.erase types.now) (T.classes types.now) (T.fields types.now) (T.can_be_made types.now)) state.now) (instances_below (world_types (T.sub types.now) (T.erase types.now) (T.classes types.now) (T.fields types.now) (T.can_be_made types.now)) bound) 0 }
+    ensures is { result ≡ first_crowd
+        (crowds (world_types (T.sub types.now) (T.erase types.now) (T.classes types.now) (T.fields types.now)
+        (T.can_be_made types.now)) state.now)
+        (instances_below (world_types (T.sub types.now) (T.erase types.now) (T.classes types.now) (T.fields types.now)
+        (T.can_be_made types.now)) bound) 0 }
     ensures low { IfOk result (λ passed. passed < 4294967296) }
 {
     let mut passed = 0;
@@ -69,7 +77,11 @@ fn past_numbers<T: Types, P: Pairs>(
     passed: usize,
 ) -> Result<usize, usize>
     requires { passed < 8589934592 }
-    ensures { result ≡ first_crowd (crowds (world_types (T.sub types.now) (T.erase types.now) (T.classes types.now) (T.fields types.now) (T.can_be_made types.now)) state.now) (numbers_among (world_types (T.sub types.now) (T.erase types.now) (T.classes types.now) (T.fields types.now) (T.can_be_made types.now)) bound (kind ∷ [])) passed }
+    ensures { result ≡ first_crowd
+        (crowds (world_types (T.sub types.now) (T.erase types.now) (T.classes types.now) (T.fields types.now)
+        (T.can_be_made types.now)) state.now)
+        (numbers_among (world_types (T.sub types.now) (T.erase types.now) (T.classes types.now) (T.fields types.now)
+        (T.can_be_made types.now)) bound (kind ∷ [])) passed }
 {
     if is_numbers_below(types, bound, kind) {
         past_case(state, 1, passed)
@@ -87,7 +99,11 @@ fn past_all_numbers<T: Types, P: Pairs>(
     passed: usize,
 ) -> Result<usize, usize>
     requires { passed + length kinds.now < 8589934592 }
-    ensures is { result ≡ first_crowd (crowds (world_types (T.sub types.now) (T.erase types.now) (T.classes types.now) (T.fields types.now) (T.can_be_made types.now)) state.now) (numbers_among (world_types (T.sub types.now) (T.erase types.now) (T.classes types.now) (T.fields types.now) (T.can_be_made types.now)) bound kinds.now) passed }
+    ensures is { result ≡ first_crowd
+        (crowds (world_types (T.sub types.now) (T.erase types.now) (T.classes types.now) (T.fields types.now)
+        (T.can_be_made types.now)) state.now)
+        (numbers_among (world_types (T.sub types.now) (T.erase types.now) (T.classes types.now) (T.fields types.now)
+        (T.can_be_made types.now)) bound kinds.now) passed }
     ensures low { IfOk result (λ all. all ≤ passed + length kinds.now) }
 {
     let mut all = passed;
@@ -105,7 +121,11 @@ fn past_references<T: Types, P: Pairs>(
     passed: usize,
 ) -> Result<usize, usize>
     requires { passed < 8589934592 }
-    ensures { result ≡ first_crowd (crowds (world_types (T.sub types.now) (T.erase types.now) (T.classes types.now) (T.fields types.now) (T.can_be_made types.now)) state.now) (listed (element_below (world_types (T.sub types.now) (T.erase types.now) (T.classes types.now) (T.fields types.now) (T.can_be_made types.now)) bound)) passed }
+    ensures { result ≡ first_crowd
+        (crowds (world_types (T.sub types.now) (T.erase types.now) (T.classes types.now) (T.fields types.now)
+        (T.can_be_made types.now)) state.now)
+        (listed (element_below (world_types (T.sub types.now) (T.erase types.now) (T.classes types.now) (T.fields types.now)
+        (T.can_be_made types.now)) bound)) passed }
 {
     if element_below(types, bound).is_some() {
         past_case(state, 1, passed)
@@ -120,7 +140,11 @@ pub(crate) fn past_cases<T: Types, P: Pairs>(
     state: &AbsState<P>,
     bound: Ty,
 ) -> Result<usize, usize>
-    ensures { result ≡ first_crowd (crowds (world_types (T.sub types.now) (T.erase types.now) (T.classes types.now) (T.fields types.now) (T.can_be_made types.now)) state.now) (cases_below (world_types (T.sub types.now) (T.erase types.now) (T.classes types.now) (T.fields types.now) (T.can_be_made types.now)) bound) 0 }
+    ensures { result ≡ first_crowd
+        (crowds (world_types (T.sub types.now) (T.erase types.now) (T.classes types.now) (T.fields types.now)
+        (T.can_be_made types.now)) state.now)
+        (cases_below (world_types (T.sub types.now) (T.erase types.now) (T.classes types.now) (T.fields types.now)
+        (T.can_be_made types.now)) bound) 0 }
 {
     let kinds = [
         Kind::Boolean,

@@ -5,7 +5,8 @@ ghost use Rattle.abs_cells.specs.PairLists.{has};
 ghost use Rattle.abs_cells.specs.Sound.{IsWellFormed};
 ghost use Rattle.abs_heap.specs.Answers.{IsMergedAnswer, IsApartAnswer, AreEqualAnswers};
 ghost use Rattle.abs_heap.specs.Names.{IsPairOf};
-ghost use Rattle.abs_heap.specs.Refining.{rank_of, stays_before, better_of, element_told, lower_element, lower_bound, merged_cell, IsMergedChild};
+ghost use Rattle.abs_heap.specs.Refining.{rank_of, stays_before, better_of, element_told, lower_element, lower_bound, merged_cell};
+ghost use Rattle.abs_heap.specs.Refining.{IsMergedChild};
 
 use crate::children::{named_pairs, plain_link, put_state, whole};
 use crate::compatible::{are_compatible, told_type};

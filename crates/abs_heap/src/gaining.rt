@@ -1,14 +1,15 @@
 //! Pairs put among others: of the wanted ones those that may stand.
-ghost use Rattle.std.specs.Prelude.{◌≡◌, ◌≢◌, ◌<◌, ◌==◌, ◌||◌, ◌&&◌, ◌↔◌, ℕ, true, IsTrue, OnOk};
+ghost use Rattle.std.specs.Prelude.{◌≡◌, ◌≢◌, ◌↔◌, ℕ, true, IsTrue, OnOk, slice_get};
 ghost use Rattle.abs_cells.specs.Cells.{is_known, is_of_sort, cell_in};
 ghost use Rattle.abs_cells.specs.IdSets.{has_id};
-ghost use Rattle.abs_cells.specs.PairLists.{has, pair_of, is_same};
+ghost use Rattle.abs_cells.specs.PairLists.{IsRising, has};
 ghost use Rattle.abs_cells.specs.Sound.{AreIdsRising, may_join};
 ghost use Rattle.abs_heap.specs.Building.{Gains, IsThis};
 ghost use Rattle.abs_heap.specs.Names.{name_in, IsImage};
 
+use crate::compatible::put_if;
 use crate::naming::name_of;
-use abs_cells::{Cell, Id, IdSet, Pairs};
+use abs_cells::{Cell, Id, IdSet, Pairs, is_pair};
 use abs_reach::{cell_of, is_reference_in};
 use std::alloc::AllocError;
 
@@ -57,18 +58,27 @@ pub(crate) fn put_pair<P: Pairs>(
     Ok(())
 }
 
-/// Adds those pairs of a state that may stand, each under its names.
+/// The pair at a place of a list.
+pub(crate) fn pair_at(listed: &[(Id, Id)], n: usize) -> Option<(Id, Id)>
+    ensures { result ≡ slice_get listed.now n }
+{
+    listed.get(n).copied()
+}
+
+/// Adds those of some pairs that may stand, each under its names.
 pub(crate) fn put_named<P: Pairs>(
     names: &[(Id, Id)],
-    old: &P,
+    old: &[(Id, Id)],
     cells: &[(Id, Cell)],
     pairs: &mut P,
 ) -> Result<(), AllocError>
-    requires { AreIdsRising 0 cells.now }
-    ensures { OnOk result (Gains cells.now (IsImage (name_in names.now) (λ x y. has x y (P.pairs old.now) ≡ true)) (P.pairs pairs.old) (P.pairs pairs.new)) }
+    requires cells { AreIdsRising 0 cells.now }
+    requires pairs { IsRising old.now }
+    ensures { OnOk result (Gains cells.now (IsImage (name_in names.now) (λ x y. has x y old.now ≡ true)) (P.pairs pairs.old)
+        (P.pairs pairs.new)) }
 {
     let mut n = 0;
-    while let Some((a, b)) = old.nth(n) {
+    while let Some((a, b)) = pair_at(old, n) {
         put_pair(cells, name_of(names, a), name_of(names, b), pairs)?;
         n += 1;
     }
@@ -84,7 +94,8 @@ fn put_pair_in<P: Pairs>(
     pairs: &mut P,
 ) -> Result<(), AllocError>
     requires { AreIdsRising 0 cells.now }
-    ensures { OnOk result (Gains cells.now (λ c d. (c ≡ id) × ((has_id others.now d ≡ true) × (d ≡ other))) (P.pairs pairs.old) (P.pairs pairs.new)) }
+    ensures { OnOk result (Gains cells.now (λ c d. (c ≡ id) × ((has_id others.now d ≡ true) × (d ≡ other))) (P.pairs pairs.old)
+        (P.pairs pairs.new)) }
 {
     if others.has(other) {
         put_pair(cells, id, other, pairs)?;
@@ -117,7 +128,8 @@ fn put_with_in<P: Pairs>(
     pairs: &mut P,
 ) -> Result<(), AllocError>
     requires { AreIdsRising 0 cells.now }
-    ensures { OnOk result (Gains cells.now (λ c d. ((has_id ids.now c ≡ true) × (c ≡ id)) × (has_id others.now d ≡ true)) (P.pairs pairs.old) (P.pairs pairs.new)) }
+    ensures { OnOk result (Gains cells.now (λ c d. ((has_id ids.now c ≡ true) × (c ≡ id)) × (has_id others.now d ≡ true))
+        (P.pairs pairs.old) (P.pairs pairs.new)) }
 {
     if ids.has(id) {
         put_with(cells, id, others, pairs)?;
@@ -133,7 +145,8 @@ pub(crate) fn put_between<P: Pairs>(
     pairs: &mut P,
 ) -> Result<(), AllocError>
     requires { AreIdsRising 0 cells.now }
-    ensures { OnOk result (Gains cells.now (λ c d. (has_id ids.now c ≡ true) × (has_id others.now d ≡ true)) (P.pairs pairs.old) (P.pairs pairs.new)) }
+    ensures { OnOk result (Gains cells.now (λ c d. (has_id ids.now c ≡ true) × (has_id others.now d ≡ true)) (P.pairs pairs.old)
+        (P.pairs pairs.new)) }
 {
     for (id, _cell) in cells {
         put_with_in(cells, *id, ids, others, pairs)?;
@@ -141,27 +154,15 @@ pub(crate) fn put_between<P: Pairs>(
     Ok(())
 }
 
-/// Puts into a set the id that is with another one in a pair.
-fn put_partner(set: &mut IdSet, id: Id, pair: (Id, Id))
-    requires { (pair.0 < pair.1) × (pair.1 < 2048) }
-    ensures { (n : ℕ) → has_id set.new n ≡ (is_same (pair_of id n) pair || has_id set.old n) }
-{
-    if pair.0 == id {
-        set.put(pair.1);
-    } else if pair.1 == id {
-        set.put(pair.0);
-    }
-}
-
 /// The ids that are a pair with an id.
 pub(crate) fn partners<P: Pairs>(pairs: &P, id: Id) -> IdSet
     ensures { (n : ℕ) → has_id result n ≡ has id n (P.pairs pairs.now) }
 {
     let mut set = IdSet::new();
-    let mut n = 0;
-    while let Some((a, b)) = pairs.nth(n) {
-        put_partner(&mut set, id, (a, b));
-        n += 1;
+    pairs.rise();
+    for other in 0..2048 {
+        let wanted = is_pair(pairs, id, other);
+        put_if(&mut set, wanted, other);
     }
     set
 }

@@ -89,7 +89,8 @@ fn field_partners<P: Pairs>(
     requires x { x < 2048 }
     requires low { All (λ id. id < 2048) ids.now }
     requires count { length ids.now ≡ length slots.now }
-    ensures { (n : ℕ) → (has_id result n ≡ true) ↔ (Share state.now x n ⊎ (((shape ≢ Tree) × IsReferenceField slots.now ids.now n) ⊎ ((shape ≡ Any) × (n ≡ x)))) }
+    ensures { (n : ℕ) → (has_id result n ≡ true) ↔
+        (Share state.now x n ⊎ (((shape ≢ Tree) × IsReferenceField slots.now ids.now n) ⊎ ((shape ≡ Any) × (n ≡ x)))) }
 {
     let mut others = item_partners(state, x, shape);
     if shape != Shape::Tree {
@@ -113,7 +114,9 @@ fn with_instance<T: Types, P: Pairs>(
     requires class { class < T.classes types.now }
     requires low { All (λ id. id < 2048) ids.now }
     requires count { length ids.now ≡ length (T.fields types.now class) }
-    ensures { IfOk result (λ child. IsGivenInstance (world_types (T.sub types.now) (T.erase types.now) (T.classes types.now) (T.fields types.now) (T.can_be_made types.now)) state.now x shape class ids.now child) }
+    ensures { IfOk result
+        (λ child. IsGivenInstance (world_types (T.sub types.now) (T.erase types.now) (T.classes types.now) (T.fields types.now)
+        (T.can_be_made types.now)) state.now x shape class ids.now child) }
 {
     let slots = types.fields(class);
     let mut cells = Vec::new(alloc);
@@ -148,7 +151,9 @@ pub(crate) fn instance_child<T: Types, P: Pairs>(
     requires x { x < 2048 }
     requires class { class < T.classes types.now }
     requires room { length state.now.cells + length (T.fields types.now class) ≤ most_ids }
-    ensures { IfOk result (λ child. IsCaseAnswer (world_types (T.sub types.now) (T.erase types.now) (T.classes types.now) (T.fields types.now) (T.can_be_made types.now)) state.now x shape (instance class) child) }
+    ensures { IfOk result
+        (λ child. IsCaseAnswer (world_types (T.sub types.now) (T.erase types.now) (T.classes types.now) (T.fields types.now)
+        (T.can_be_made types.now)) state.now x shape (instance class) child) }
 {
     let ids = fresh_ids(alloc, state, types.fields(class).len())?;
     let child = with_instance(alloc, types, state, x, shape, class, ids.as_slice())?;
@@ -165,7 +170,9 @@ fn with_array<P: Pairs>(
 ) -> Result<AbsState<P>, AllocError>
     requires good { IsWellFormed state.now }
     requires low { (x < 2048) × (len < 2048) }
-    ensures { IfOk result (λ child. IsGiven state.now.frames state.now.throwing (with_cells ((x, cell) ∷ (len, length_cell) ∷ []) state.now) (AreEqual state.now) (Share state.now) child) }
+    ensures { IfOk result
+        (λ child. IsGiven state.now.frames state.now.throwing (with_cells ((x, cell) ∷ (len, length_cell) ∷ []) state.now)
+        (AreEqual state.now) (Share state.now) child) }
 {
     let mut cells = Vec::new(alloc);
     put_cell(&mut cells, x, cell)?;

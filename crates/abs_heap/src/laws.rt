@@ -1,5 +1,6 @@
 //! What the calls promise of the machine's states, for the proofs of other crates. They run nothing.
-ghost use Rattle.abs_heap.specs.Laws.{NullSplits, ClassesSplit, EqualSplits, ItemsGoOn, ObjectsGoOn, ArraysGoOn, WritesGoOn, ValuesGoOn, IntWritesGoOn, NumberWritesGoOn};
+ghost use Rattle.abs_heap.specs.Laws.{NullSplits, ClassesSplit, EqualSplits, ItemsGoOn, ObjectsGoOn, ArraysGoOn, WritesGoOn};
+ghost use Rattle.abs_heap.specs.Laws.{ValuesGoOn, IntWritesGoOn, NumberWritesGoOn};
 
 /// Whatever fits a state in which an id's object may be null fits one of the two children of that split.
 pub fn null_splits()

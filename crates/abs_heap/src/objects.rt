@@ -68,7 +68,10 @@ fn with_object<P: Pairs>(
     requires good { IsWellFormed state.now }
     requires low { (id < 2048) × All (λ id. id < 2048) ids.now }
     requires count { length ids.now ≡ length slots.now }
-    ensures { IfOk result (λ child. IsGiven state.now.frames state.now.throwing (with_cells ((id, Obj class ids.now) ∷ zip ids.now (map zero_cell slots.now)) state.now) (AreEqual state.now) (Share state.now) child) }
+    ensures { IfOk result
+        (λ child. IsGiven state.now.frames state.now.throwing
+        (with_cells ((id, Obj class ids.now) ∷ zip ids.now (map zero_cell slots.now)) state.now) (AreEqual state.now)
+        (Share state.now) child) }
 {
     let mut cells = Vec::new(alloc);
     put_cell(
@@ -95,7 +98,9 @@ pub fn new_object<T: Types, P: Pairs>(
 ) -> Result<(Child<P>, Id), HeapFault>
     requires good { IsWellFormed state.now }
     requires class { class < T.classes types.now }
-    ensures child { IfOk result (λ r. IsObjectChild (world_types (T.sub types.now) (T.erase types.now) (T.classes types.now) (T.fields types.now) (T.can_be_made types.now)) state.now class r.1 r.0.state) }
+    ensures child { IfOk result
+        (λ r. IsObjectChild (world_types (T.sub types.now) (T.erase types.now) (T.classes types.now) (T.fields types.now)
+        (T.can_be_made types.now)) state.now class r.1 r.0.state) }
     ensures link { IfOk result (λ r. r.0.link ≡ plain_link true None) }
     ensures too_many { (result ≡ Err TooManyIds) ↔ HasTooMany state.now (length (T.fields types.now class) + 1) }
 {

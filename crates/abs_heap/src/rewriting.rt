@@ -2,6 +2,7 @@
 ghost use Rattle.std.specs.Prelude.{◌≡◌, ◌↔◌, ◌<◌, ◌||◌, ◌==◌, ℕ, true, false, IfOk, OnOk, All, Some, map, slice_set, if◌then◌else◌};
 ghost use Rattle.std.specs.List.{list_any};
 ghost use Rattle.abs_cells.specs.IdSets.{has_id};
+ghost use Rattle.abs_cells.specs.PairLists.{IsRising};
 ghost use Rattle.abs_cells.specs.Sound.{AreIdsRising};
 ghost use Rattle.abs_heap.specs.Building.{Gains, IsOver};
 ghost use Rattle.abs_heap.specs.Names.{name_in};
@@ -9,7 +10,7 @@ ghost use Rattle.abs_heap.specs.Renaming.{is_beside, IsBeside, is_named, ids_wri
 ghost use Rattle.abs_heap.specs.Writing.{shape_after, is_renamed, cell_after};
 
 use crate::compatible::put_if;
-use crate::gaining::put_between;
+use crate::gaining::{pair_at, put_between};
 use crate::naming::{name_of, named_ids};
 use crate::putting::put_cell;
 use crate::shapes::shape_after;
@@ -146,7 +147,9 @@ fn cell_after(
     id: Id,
     cell: &Cell,
 ) -> Result<Cell, AllocError>
-    ensures { IfOk result (λ made. made ≡ (cell_after effect.now.names (shape_after effect.now.null effect.now.no_cycle) (write_of write.now.object write.now.field write.now.value) (id, cell.now)).1) }
+    ensures { IfOk result
+        (λ made. made ≡ (cell_after effect.now.names (shape_after effect.now.null effect.now.no_cycle)
+        (write_of write.now.object write.now.field write.now.value) (id, cell.now)).1) }
 {
     let names = effect.names.as_slice();
     let renamed = is_renamed(names, id);
@@ -173,7 +176,10 @@ pub(crate) fn put_written(
 ) -> Result<(), AllocError>
     requires rising { AreIdsRising 0 cells.old.items }
     requires low { All (λ c. name_in effect.now.names c.0 < 2048) more.now }
-    ensures { OnOk result (IsOver cells.old.items (map (cell_after effect.now.names (shape_after effect.now.null effect.now.no_cycle) (write_of write.now.object write.now.field write.now.value)) more.now) cells.new.items) }
+    ensures { OnOk result
+        (IsOver cells.old.items
+        (map (cell_after effect.now.names (shape_after effect.now.null effect.now.no_cycle)
+        (write_of write.now.object write.now.field write.now.value)) more.now) cells.new.items) }
 {
     for (id, cell) in more {
         let after = cell_after(alloc, effect, write, *id, cell)?;
@@ -192,12 +198,13 @@ fn put_beside(set: &mut IdSet, others: &IdSet, pair: (Id, Id))
 }
 
 /// The ids that are a pair with one of a set.
-pub(crate) fn ids_beside<P: Pairs>(pairs: &P, others: &IdSet) -> IdSet
-    ensures { (n : ℕ) → (has_id result n ≡ true) ↔ IsBeside (P.pairs pairs.now) others.now n }
+pub(crate) fn ids_beside(pairs: &[(Id, Id)], others: &IdSet) -> IdSet
+    requires { IsRising pairs.now }
+    ensures { (n : ℕ) → (has_id result n ≡ true) ↔ IsBeside pairs.now others.now n }
 {
     let mut set = IdSet::new();
     let mut n = 0;
-    while let Some((a, b)) = pairs.nth(n) {
+    while let Some((a, b)) = pair_at(pairs, n) {
         put_beside(&mut set, others, (a, b));
         n += 1;
     }
@@ -238,7 +245,8 @@ pub(crate) fn put_met<P: Pairs>(
     pairs: &mut P,
 ) -> Result<(), AllocError>
     requires { AreIdsRising 0 cells.now }
-    ensures { OnOk result (Gains cells.now (λ c d. (null ≡ false) × ((has_id ids.now c ≡ true) × (has_id others.now d ≡ true))) (P.pairs pairs.old) (P.pairs pairs.new)) }
+    ensures { OnOk result (Gains cells.now (λ c d. (null ≡ false) × ((has_id ids.now c ≡ true) × (has_id others.now d ≡ true)))
+        (P.pairs pairs.old) (P.pairs pairs.new)) }
 {
     if !null {
         put_between(cells, ids, others, pairs)?;

@@ -11,7 +11,7 @@ ghost use Rattle.abs_heap.specs.Renaming.{IsWritten, write_of};
 ghost use Rattle.abs_heap.specs.Writing.{IsAffected, IsNullId, IsWriteChild, MakesNoCycle};
 ghost use Rattle.abs_heap.specs.declared.fault.HeapFault.TheVariants.{TooManyIds};
 
-use crate::children::{has_room, named_pairs, plain_link, whole};
+use crate::children::{has_room, listed_pairs, named_pairs, plain_link, whole};
 use crate::fault::HeapFault;
 use crate::renaming::{affected_ids, names_for};
 use crate::rewriting::{Effect, Write, ids_beside, names_among, put_met, put_written};
@@ -59,7 +59,8 @@ fn child_with<P: Pairs>(
     requires affected { (n : ℕ) → (has_id affected.now n ≡ true) ↔ IsAffected state.now write.now.object n }
     requires null { (effect.now.null ≡ true) ↔ IsNullId state.now write.now.value }
     requires low { All (λ c. name_in effect.now.names c.0 < 2048) state.now.cells }
-    ensures { IfOk result (λ child. IsWritten state.now (write_of write.now.object write.now.field write.now.value) effect.now.names effect.now.null effect.now.no_cycle child) }
+    ensures { IfOk result (λ child. IsWritten state.now (write_of write.now.object write.now.field write.now.value) effect.now.names
+        effect.now.null effect.now.no_cycle child) }
 {
     let old = state.cells();
     let pairs = state.share();
@@ -69,10 +70,12 @@ fn child_with<P: Pairs>(
     let list = cells.as_slice();
     let names = effect.names.as_slice();
     let eq = named_pairs(alloc, names, state.eq(), list)?;
-    let mut share = named_pairs(alloc, names, pairs, list)?;
+    let listed = pairs.list(alloc)?;
+    let shared = listed.as_slice();
+    let mut share: P = listed_pairs(alloc, names, shared, list)?;
     known_from(state, write.value, marks);
     let known = marks.ids();
-    let beside = ids_beside(pairs, known);
+    let beside = ids_beside(shared, known);
     let ids = names_among(names, old, affected, affected);
     let met = names_among(names, old, known, &beside);
     put_met(list, effect.null, &ids, &met, &mut share)?;

@@ -44,17 +44,22 @@ no_result_by_zero Or m n e = absurd cc
 no_result_by_zero Xor m n e = absurd cc
 no_result_by_zero (Narrow kind) m n e = absurd cc
 
-single_falls : (op : IntOp) (a b : Bounds) (m n : ℤ) (o : Option ℤ) → IsIn m a → IsIn n b → exact_result op m n ≡ None → int_result op m n ≡ o → IsSomeAnd (single_case a b o) (FallsUnder op m n)
+single_falls : (op : IntOp) (a b : Bounds) (m n : ℤ) (o : Option ℤ) → IsIn m a → IsIn n b → exact_result op m n ≡ None
+    → int_result op m n ≡ o → IsSomeAnd (single_case a b o) (FallsUnder op m n)
 single_falls op a b m n None p q exact e = in_zero op a b m n p q (no_result_by_zero op m n e) e
-single_falls op a b m n (Some r) p q exact e = in_inside op a b (Some (just r)) [] m n r p q e exact (omega (arith, ints), omega (arith, ints)) (no_rows m n r)
+single_falls op a b m n (Some r) p q exact e = in_inside op a b (Some (just r)) [] m n r p q e exact
+    (omega (arith, ints), omega (arith, ints)) (no_rows m n r)
 
-single_or_covers : (op : IntOp) (a b : Bounds) (m n : ℤ) (cases : List IntCase) → IsIn m a → IsIn n b → exact_result op m n ≡ None → Any (FallsUnder op m n) cases → Any (FallsUnder op m n) (single_or op a b cases)
+single_or_covers : (op : IntOp) (a b : Bounds) (m n : ℤ) (cases : List IntCase) → IsIn m a → IsIn n b → exact_result op m n ≡ None
+    → Any (FallsUnder op m n) cases → Any (FallsUnder op m n) (single_or op a b cases)
 single_or_covers op a b m n cases p q exact h =
-    if_either (λ (l : List IntCase). Any (FallsUnder op m n) l) (is_single a && is_single b) (only (single_case a b (int_result op a.lo b.lo))) cases (λ t.
+    if_either (λ (l : List IntCase). Any (FallsUnder op m n) l) (is_single a && is_single b)
+    (only (single_case a b (int_result op a.lo b.lo))) cases (λ t.
     let both = and_parts (is_single a) (is_single b) t in
     let left : a.lo ≡ m = single_is a m both.0 p in
     let right : b.lo ≡ n = single_is b n both.1 q in
-    let same : int_result op m n ≡ int_result op a.lo b.lo = ap (λ (x : ℤ). int_result op x n) (sym left) ∙ ap (λ (y : ℤ). int_result op a.lo y) (sym right) in
+    let same : int_result op m n ≡ int_result op a.lo b.lo = ap (λ (x : ℤ). int_result op x n) (sym left)
+    ∙ ap (λ (y : ℤ). int_result op a.lo y) (sym right) in
     any_first _ (single_case a b (int_result op a.lo b.lo)) [] (single_falls op a b m n (int_result op a.lo b.lo) p q exact same)) (λ _. h)
 
 -- ---- all operators
@@ -71,7 +76,8 @@ is_int a m f p =
     let ph = p.1 in
     (omega (arith, ints), omega (arith, ints))
 
-pub operated_covers : (op : IntOp) (a b : Bounds) (m n : ℤ) → AreInts a → AreInts b → IsIn m a → IsIn n b → Any (FallsUnder op m n) (operated op a b)
+pub operated_covers : (op : IntOp) (a b : Bounds) (m n : ℤ) → AreInts a → AreInts b → IsIn m a → IsIn n b
+    → Any (FallsUnder op m n) (operated op a b)
 operated_covers Add a b m n f g p q = sum_covers a b m n (is_int a m f p) (is_int b n g q) p q
 operated_covers Sub a b m n f g p q = difference_covers a b m n (is_int a m f p) (is_int b n g q) p q
 operated_covers Mul a b m n f g p q = single_or_covers Mul a b m n _ p q refl (product_covers a b m n p q)

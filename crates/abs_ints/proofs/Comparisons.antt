@@ -13,7 +13,8 @@ use Rattle.jvm_values.specs.Ints.{cond_holds}
 use Rattle.jvm_values.specs.declared.ints.Cond.{Cond}
 use Rattle.jvm_values.specs.declared.ints.Cond.TheVariants.{Eq, Ne, Lt, Ge, Gt, Le}
 use Rattle.abs_ints.specs.Cases.{AllTrueOf}
-use Rattle.abs_ints.specs.Comparing.{standing_so, exchanged, row_of, related, both_of, cases_between, cases_of_one, compared, GoesBetween, FallsBetween}
+use Rattle.abs_ints.specs.Comparing.{standing_so, exchanged, row_of, related, both_of, cases_between, cases_of_one, compared}
+use Rattle.abs_ints.specs.Comparing.{GoesBetween, FallsBetween}
 use Rattle.abs_ints.specs.declared.cases.Way.{Way}
 use Rattle.abs_ints.specs.declared.cases.Way.TheVariants.{Taken, Next}
 use Rattle.abs_ints.specs.declared.relations.Relation.{Relation}
@@ -50,9 +51,12 @@ row_stands Above m n h = more_rows m n (pos 0) (row_of Above) [] (omega (arith, 
 row_stands AtLeast m n h = more_rows m n (pos 0) (row_of AtLeast) [] (omega (arith, ints)) (no_rows m n (pos 0))
 
 -- numbers that stand so fall in the case of the relation
-in_relation : (condition : Cond) (r : Relation) (way : Way) (a b : Bounds) (m n : ℤ) → IsIn m a → IsIn n b → Stands r m n → GoesBetween way condition m n → IsSomeAnd (related r way a b) (FallsBetween condition m n)
+in_relation : (condition : Cond) (r : Relation) (way : Way) (a b : Bounds) (m n : ℤ) → IsIn m a → IsIn n b → Stands r m n
+    → GoesBetween way condition m n → IsSomeAnd (related r way a b) (FallsBetween condition m n)
 in_relation condition r way a b m n p q h goes =
-    covers_between (FallsBetween condition m n) way (standing_so r a b) (standing_so (exchanged r) b a) (row_of r ∷ []) m n (in_standing r a b m n p q h) (in_standing (exchanged r) b a n m q p (stands_exchanged r m n h)) (λ x y i j. record { left_in = i; right_in = j; rows_hold = row_stands r m n h; way_taken = goes })
+    covers_between (FallsBetween condition m n) way (standing_so r a b) (standing_so (exchanged r) b a) (row_of r ∷ []) m n
+    (in_standing r a b m n p q h) (in_standing (exchanged r) b a n m q p (stands_exchanged r m n h))
+    (λ x y i j. record { left_in = i; right_in = j; rows_hold = row_stands r m n h; way_taken = goes })
 
 -- ---- how two numbers stand, and what the conditions say
 
@@ -87,18 +91,29 @@ is_not_at_most m n h = let e : false ≡ int_le m n = omega (arith, ints) in sym
 
 covers_eq : (a b : Bounds) (m n : ℤ) → IsIn m a → IsIn n b → Order m n → Any (FallsBetween Eq m n) (cases_between Eq a b)
 covers_eq a b m n p q (same h) = any_first _ (related Equal Taken a b) _ (in_relation Eq Equal Taken a b m n p q h (int_eq_from m n h))
-covers_eq a b m n p q (less h) = any_rest _ (related Equal Taken a b) _ (any_first _ (related Below Next a b) _ (in_relation Eq Below Next a b m n p q h (apart_less m n h)))
-covers_eq a b m n p q (more h) = any_rest _ (related Equal Taken a b) _ (any_rest _ (related Below Next a b) _ (any_first _ (related Above Next a b) _ (in_relation Eq Above Next a b m n p q h (apart_more m n h))))
+covers_eq a b m n p q (less h) = any_rest _ (related Equal Taken a b) _
+    (any_first _ (related Below Next a b) _ (in_relation Eq Below Next a b m n p q h (apart_less m n h)))
+covers_eq a b m n p q (more h) = any_rest _ (related Equal Taken a b) _
+    (any_rest _ (related Below Next a b) _
+    (any_first _ (related Above Next a b) _ (in_relation Eq Above Next a b m n p q h (apart_more m n h))))
 
 covers_ne : (a b : Bounds) (m n : ℤ) → IsIn m a → IsIn n b → Order m n → Any (FallsBetween Ne m n) (cases_between Ne a b)
-covers_ne a b m n p q (less h) = any_first _ (related Below Taken a b) _ (in_relation Ne Below Taken a b m n p q h (ap not (apart_less m n h)))
-covers_ne a b m n p q (more h) = any_rest _ (related Below Taken a b) _ (any_first _ (related Above Taken a b) _ (in_relation Ne Above Taken a b m n p q h (ap not (apart_more m n h))))
-covers_ne a b m n p q (same h) = any_rest _ (related Below Taken a b) _ (any_rest _ (related Above Taken a b) _ (any_first _ (related Equal Next a b) _ (in_relation Ne Equal Next a b m n p q h (ap not (int_eq_from m n h)))))
+covers_ne a b m n p q (less h) = any_first _ (related Below Taken a b) _
+    (in_relation Ne Below Taken a b m n p q h (ap not (apart_less m n h)))
+covers_ne a b m n p q (more h) = any_rest _ (related Below Taken a b) _
+    (any_first _ (related Above Taken a b) _ (in_relation Ne Above Taken a b m n p q h (ap not (apart_more m n h))))
+covers_ne a b m n p q (same h) = any_rest _ (related Below Taken a b) _
+    (any_rest _ (related Above Taken a b) _
+    (any_first _ (related Equal Next a b) _ (in_relation Ne Equal Next a b m n p q h (ap not (int_eq_from m n h)))))
 
 -- a condition with a relation that it consists of, and one that breaks it
-covers_two : (condition : Cond) (holding failing : Relation) (first second : Way) (a b : Bounds) (m n : ℤ) → IsIn m a → IsIn n b → (Stands holding m n × GoesBetween first condition m n) ⊎ (Stands failing m n × GoesBetween second condition m n) → Any (FallsBetween condition m n) (both_of (related holding first a b) (related failing second a b))
-covers_two condition holding failing first second a b m n p q (inl h) = any_first _ (related holding first a b) _ (in_relation condition holding first a b m n p q h.0 h.1)
-covers_two condition holding failing first second a b m n p q (inr h) = any_rest _ (related holding first a b) _ (any_first _ (related failing second a b) _ (in_relation condition failing second a b m n p q h.0 h.1))
+covers_two : (condition : Cond) (holding failing : Relation) (first second : Way) (a b : Bounds) (m n : ℤ) → IsIn m a → IsIn n b
+    → (Stands holding m n × GoesBetween first condition m n) ⊎ (Stands failing m n × GoesBetween second condition m n)
+    → Any (FallsBetween condition m n) (both_of (related holding first a b) (related failing second a b))
+covers_two condition holding failing first second a b m n p q (inl h) = any_first _ (related holding first a b) _
+    (in_relation condition holding first a b m n p q h.0 h.1)
+covers_two condition holding failing first second a b m n p q (inr h) = any_rest _ (related holding first a b) _
+    (any_first _ (related failing second a b) _ (in_relation condition failing second a b m n p q h.0 h.1))
 
 lt_or_ge : (m n : ℤ) → (Stands Below m n × int_lt m n ≡ true) ⊎ (Stands AtLeast m n × int_lt m n ≡ false)
 lt_or_ge m n = by_lt_z m n (λ h. inl (h, is_less m n h)) (λ h. inr (h, is_not_less m n h))
@@ -112,7 +127,8 @@ gt_or_le m n = by_lt_z n m (λ h. inl (h, is_less n m h)) (λ h. inr (h, is_not_
 le_or_gt : (m n : ℤ) → (Stands AtMost m n × int_le m n ≡ true) ⊎ (Stands Above m n × int_le m n ≡ false)
 le_or_gt m n = by_lt_z n m (λ h. inr (h, is_not_at_most m n h)) (λ h. inl (h, int_le_from m n h))
 
-covers_cond : (condition : Cond) (a b : Bounds) (m n : ℤ) → IsIn m a → IsIn n b → Any (FallsBetween condition m n) (cases_between condition a b)
+covers_cond : (condition : Cond) (a b : Bounds) (m n : ℤ) → IsIn m a → IsIn n b
+    → Any (FallsBetween condition m n) (cases_between condition a b)
 covers_cond Eq a b m n p q = covers_eq a b m n p q (order_of m n)
 covers_cond Ne a b m n p q = covers_ne a b m n p q (order_of m n)
 covers_cond Lt a b m n p q = covers_two Lt Below AtLeast Taken Next a b m n p q (lt_or_ge m n)
@@ -128,11 +144,25 @@ goes_with_itself Ge m = int_le_from m m (omega (arith, ints))
 goes_with_itself Gt m = is_not_less m m (omega (arith, ints))
 goes_with_itself Le m = int_le_from m m (omega (arith, ints))
 
-covers_one : (condition : Cond) (a b : Bounds) (m : ℤ) → IsIn m a → IsIn m b → Any (FallsBetween condition m m) (cases_of_one condition a b)
-covers_one condition a b m p q = (0, _, omega arith, refl, record { left_in = p; right_in = q; rows_hold = no_rows m m (pos 0); way_taken = goes_with_itself condition m })
+covers_one : (condition : Cond) (a b : Bounds) (m : ℤ) → IsIn m a → IsIn m b
+    → Any (FallsBetween condition m m) (cases_of_one condition a b)
+covers_one condition a b m p q = (
+  0,
+  _,
+  omega arith,
+  refl,
+  record {
+    left_in = p;
+    right_in = q;
+    rows_hold = no_rows m m (pos 0);
+    way_taken = goes_with_itself
+        condition m;
+  },
+)
 
 -- two ints, equal ones where both are one, fall in a case of their comparison
-pub compared_covers : (condition : Cond) (one : Bool) (a b : Bounds) (m n : ℤ) → IsIn m a → IsIn n b → (one ≡ true → m ≡ n) → Any (FallsBetween condition m n) (compared condition one a b)
+pub compared_covers : (condition : Cond) (one : Bool) (a b : Bounds) (m n : ℤ) → IsIn m a → IsIn n b → (one ≡ true → m ≡ n)
+    → Any (FallsBetween condition m n) (compared condition one a b)
 compared_covers condition true a b m n p q h =
     let e : m ≡ n = h refl in
     let P : ℤ → Type 0 = λ z. Any (FallsBetween condition m z) (cases_of_one condition a b) in

@@ -18,7 +18,8 @@ bounds lo hi = record { lo = lo; hi = hi }
 abbrev nothing : Option Bounds
 nothing = None
 
-in_cond : (t : Bool) (n lo hi : ℤ) → int_le lo hi ≡ t → lo ≤ℤ n → n ≤ℤ hi → IsSomeAnd (cond t (Some (bounds lo hi)) nothing) (λ x. IsIn n x)
+in_cond : (t : Bool) (n lo hi : ℤ) → int_le lo hi ≡ t → lo ≤ℤ n → n ≤ℤ hi
+    → IsSomeAnd (cond t (Some (bounds lo hi)) nothing) (λ x. IsIn n x)
 in_cond true n lo hi e l h = (l, h)
 in_cond false n lo hi e l h = absurd (omega (arith, ints))
 
@@ -36,26 +37,34 @@ in_meet n a b p q =
 pub no_rows : (m n r : ℤ) → AllTrueOf m n r []
 no_rows m n r k d h = absurd (omega arith)
 
-pub more_rows : (m n r : ℤ) (row : ShortRow) (rows : List ShortRow) → IsTrueOf m n r row → AllTrueOf m n r rows → AllTrueOf m n r (row ∷ rows)
+pub more_rows : (m n r : ℤ) (row : ShortRow) (rows : List ShortRow) → IsTrueOf m n r row → AllTrueOf m n r rows
+    → AllTrueOf m n r (row ∷ rows)
 more_rows m n r row rows p q zero d h = p
 more_rows m n r row rows p q (suc k) d h = q k d (omega arith)
 
 -- ---- cases
 
 -- a case that is there, from operands in their intervals
-pub covers_between : (P : IntCase → Type 0) (way : Way) (left right : Option Bounds) (rows : List ShortRow) (m n : ℤ) → IsSomeAnd left (λ x. IsIn m x) → IsSomeAnd right (λ x. IsIn n x) → ((a b : Bounds) → IsIn m a → IsIn n b → P (record { left = a; right = b; result = None; rows = rows; way = way })) → IsSomeAnd (case_between way left right rows) P
+pub covers_between : (P : IntCase → Type 0) (way : Way) (left right : Option Bounds) (rows : List ShortRow) (m n : ℤ)
+    → IsSomeAnd left (λ x. IsIn m x) → IsSomeAnd right (λ x. IsIn n x)
+    → ((a b : Bounds) → IsIn m a → IsIn n b → P (record { left = a; right = b; result = None; rows = rows; way = way }))
+    → IsSomeAnd (case_between way left right rows) P
 covers_between P way None right rows m n p q make = absurd p
 covers_between P way (Some a) None rows m n p q make = absurd q
 covers_between P way (Some a) (Some b) rows m n p q make = make a b p q
 
-pub covers_with : (P : IntCase → Type 0) (way : Way) (left right result : Option Bounds) (rows : List ShortRow) (m n r : ℤ) → IsSomeAnd left (λ x. IsIn m x) → IsSomeAnd right (λ x. IsIn n x) → IsSomeAnd result (λ x. IsIn r x) → ((a b c : Bounds) → IsIn m a → IsIn n b → IsIn r c → P (record { left = a; right = b; result = Some c; rows = rows; way = way })) → IsSomeAnd (case_with way left right result rows) P
+pub covers_with : (P : IntCase → Type 0) (way : Way) (left right result : Option Bounds) (rows : List ShortRow) (m n r : ℤ)
+    → IsSomeAnd left (λ x. IsIn m x) → IsSomeAnd right (λ x. IsIn n x) → IsSomeAnd result (λ x. IsIn r x)
+    → ((a b c : Bounds) → IsIn m a → IsIn n b → IsIn r c
+    → P (record { left = a; right = b; result = Some c; rows = rows; way = way })) → IsSomeAnd (case_with way left right result rows) P
 covers_with P way None right result rows m n r p q i make = absurd p
 covers_with P way (Some a) None result rows m n r p q i make = absurd q
 covers_with P way (Some a) (Some b) None rows m n r p q i make = absurd i
 covers_with P way (Some a) (Some b) (Some c) rows m n r p q i make = make a b c p q i
 
 -- a case that is made from an interval, which is there
-pub covers_and_then : (P : IntCase → Type 0) (from : Option Bounds) (f : Bounds → Option IntCase) (z : ℤ) → IsSomeAnd from (λ x. IsIn z x) → ((x : Bounds) → IsIn z x → IsSomeAnd (f x) P) → IsSomeAnd (option_and_then f from) P
+pub covers_and_then : (P : IntCase → Type 0) (from : Option Bounds) (f : Bounds → Option IntCase) (z : ℤ)
+    → IsSomeAnd from (λ x. IsIn z x) → ((x : Bounds) → IsIn z x → IsSomeAnd (f x) P) → IsSomeAnd (option_and_then f from) P
 covers_and_then P None f z h make = absurd h
 covers_and_then P (Some x) f z h make = make x h
 

@@ -1,5 +1,7 @@
 -- Two ints fall in a case of their quotient, and of their remainder.
-use Rattle.std.proofs.Common.{◌≡◌, ℕ, zero, suc, ◌+◌, ◌-◌, ◌*◌, ◌/◌, ◌%◌, ◌<◌, ◌≤◌, ℤ, pos, negsuc, ◌+ℤ◌, ◌-ℤ◌, ◌*ℤ◌, ◌≤ℤ◌, ◌<ℤ◌, neg_ℤ, Bool, true, false, cond, Option, Some, None, List, [], ◌∷◌, FitsSigned, w32, refl, sym, ap, ◌∙◌, subst, inl, inr, arith}
+use Rattle.std.proofs.Common.{◌≡◌, ℕ, zero, suc, ◌+◌, ◌-◌, ◌*◌, ◌/◌, ◌%◌, ◌<◌, ◌≤◌, ℤ, pos, negsuc, ◌+ℤ◌, ◌-ℤ◌, ◌*ℤ◌, ◌≤ℤ◌, ◌<ℤ◌}
+use Rattle.std.proofs.Common.{neg_ℤ, Bool, true, false, cond, Option, Some, None, List, [], ◌∷◌, FitsSigned, w32, refl, sym, ap}
+use Rattle.std.proofs.Common.{◌∙◌, subst, inl, inr, arith}
 use Rattle.std.specs.Prelude.{IsSomeAnd, int_le, int_div, int_rem, unsigned_abs, max, ◌&&◌, ◌⊎◌}
 use Rattle.std.specs.List.{Any, cons_option}
 use Rattle.std.specs.Int.{int_wrap, int_min, int_max}
@@ -20,7 +22,9 @@ use Rattle.jvm_values.specs.Ints.{int_result}
 use Rattle.jvm_values.specs.declared.ints.IntOp.{IntOp}
 use Rattle.jvm_values.specs.declared.ints.IntOp.TheVariants.{Div, Rem}
 use Rattle.abs_ints.specs.Cases.{at_least_zero, inside}
-use Rattle.abs_ints.specs.Divisions.{divisors_of, are_positive, size_of, zero_case, least_quotient, greatest_quotient, may_wrap, quotients_of, single_divisor_rows, quotient_rows, quotient_cases, least_remainder, greatest_remainder, remainders_of, dividend_rows, remainder_rows, remainder_cases}
+use Rattle.abs_ints.specs.Divisions.{divisors_of, are_positive, size_of, zero_case, least_quotient, greatest_quotient, may_wrap}
+use Rattle.abs_ints.specs.Divisions.{quotients_of, single_divisor_rows, quotient_rows, quotient_cases, least_remainder}
+use Rattle.abs_ints.specs.Divisions.{greatest_remainder, remainders_of, dividend_rows, remainder_rows, remainder_cases}
 use Rattle.abs_ints.specs.Falling.{FallsUnder}
 use Rattle.abs_ints.specs.IntIntervals.{all_ints, is_single, meet_of}
 use Rattle.abs_ints.specs.declared.cases.IntCase.{IntCase}
@@ -38,7 +42,11 @@ in_divisors : (b : Bounds) (n : ℤ) → IsIn n b → ¬ (n ≡ pos 0) → IsSom
 in_divisors b n q apart =
     let low = q.0 in
     let high = q.1 in
-    in_interval n (cond (int_eq b.lo (pos 0)) (pos 1) b.lo) (cond (int_eq b.hi (pos 0)) (negsuc 0) b.hi) (if_either (λ (z : ℤ). z ≤ℤ n) (int_eq b.lo (pos 0)) (pos 1) b.lo (λ t. let e = (Decides-int_eq b.lo (pos 0)).0 t in omega (arith, ints)) (λ _. low)) (if_either (λ (z : ℤ). n ≤ℤ z) (int_eq b.hi (pos 0)) (negsuc 0) b.hi (λ t. let e = (Decides-int_eq b.hi (pos 0)).0 t in omega (arith, ints)) (λ _. high))
+    in_interval n (cond (int_eq b.lo (pos 0)) (pos 1) b.lo) (cond (int_eq b.hi (pos 0)) (negsuc 0) b.hi)
+    (if_either (λ (z : ℤ). z ≤ℤ n) (int_eq b.lo (pos 0)) (pos 1) b.lo
+    (λ t. let e = (Decides-int_eq b.lo (pos 0)).0 t in omega (arith, ints)) (λ _. low))
+    (if_either (λ (z : ℤ). n ≤ℤ z) (int_eq b.hi (pos 0)) (negsuc 0) b.hi
+    (λ t. let e = (Decides-int_eq b.hi (pos 0)).0 t in omega (arith, ints)) (λ _. high))
 
 no_result : (x : Option ℤ) (n : ℤ) → n ≡ pos 0 → cond (int_eq n (pos 0)) None x ≡ None
 no_result x n e = ap (λ (t : Bool). cond t None x) ((Decides-int_eq n (pos 0)).1 e)
@@ -51,11 +59,14 @@ some_result : (x : Option ℤ) (n : ℤ) → ¬ (n ≡ pos 0) → cond (int_eq n
 some_result x n apart = ap (λ (t : Bool). cond t None x) (is_false (int_eq n (pos 0)) (λ t. apart ((Decides-int_eq n (pos 0)).0 t)))
 
 -- a divisor is 0, or one of the others
-divided : (op : IntOp) (f : Bounds → Option IntCase) (a b : Bounds) (m n : ℤ) → IsIn m a → IsIn n b → (n ≡ pos 0 → int_result op m n ≡ None) → (¬ (n ≡ pos 0) → (d : Bounds) → IsIn n d → IsSomeAnd (f d) (FallsUnder op m n)) → Any (FallsUnder op m n) (cons_option (option_and_then f (divisors_of b)) (cons_option (zero_case a b) []))
+divided : (op : IntOp) (f : Bounds → Option IntCase) (a b : Bounds) (m n : ℤ) → IsIn m a → IsIn n b
+    → (n ≡ pos 0 → int_result op m n ≡ None) → (¬ (n ≡ pos 0) → (d : Bounds) → IsIn n d → IsSomeAnd (f d) (FallsUnder op m n))
+    → Any (FallsUnder op m n) (cons_option (option_and_then f (divisors_of b)) (cons_option (zero_case a b) []))
 divided op f a b m n p q nothing something =
     elim (zero_or_not n) [
       | inl e ↦ any_rest _ (option_and_then f (divisors_of b)) _ (any_first _ (zero_case a b) [] (in_zero op a b m n p q e (nothing e)))
-      | inr h ↦ any_first _ (option_and_then f (divisors_of b)) _ (covers_and_then (FallsUnder op m n) (divisors_of b) f n (in_divisors b n q h) (something h))
+      | inr h ↦ any_first _ (option_and_then f (divisors_of b)) _
+          (covers_and_then (FallsUnder op m n) (divisors_of b) f n (in_divisors b n q h) (something h))
     ]
 
 -- ---- quotients by divisors above 0
@@ -67,13 +78,16 @@ least_is_least : (l m : ℤ) (d q e : ℕ) → 0 < d → d ≤ q → q ≤ e →
 least_is_least (pos l) (pos x) d q e o h k i = let r = quotient_mono l x q e (omega (arith, ints)) k (omega arith) in omega (arith, ints)
 least_is_least (pos l) (negsuc x) d q e o h k i = absurd (omega (arith, ints))
 least_is_least (negsuc l) (pos x) d q e o h k i = omega (arith, ints)
-least_is_least (negsuc l) (negsuc x) d q e o h k i = let r = quotient_mono (suc x) (suc l) d q (omega (arith, ints)) h o in omega (arith, ints)
+least_is_least (negsuc l) (negsuc x) d q e o h k i = let r = quotient_mono (suc x) (suc l) d q (omega (arith, ints)) h o in omega
+    (arith, ints)
 
-greatest_is_greatest : (l m : ℤ) (d q e : ℕ) → 0 < d → d ≤ q → q ≤ e → m ≤ℤ l → int_div m (pos q) ≤ℤ greatest_quotient l (bounds (pos d) (pos e))
+greatest_is_greatest : (l m : ℤ) (d q e : ℕ) → 0 < d → d ≤ q → q ≤ e → m ≤ℤ l
+    → int_div m (pos q) ≤ℤ greatest_quotient l (bounds (pos d) (pos e))
 greatest_is_greatest (pos l) (pos x) d q e o h k i = let r = quotient_mono x l d q (omega (arith, ints)) h o in omega (arith, ints)
 greatest_is_greatest (pos l) (negsuc x) d q e o h k i = omega (arith, ints)
 greatest_is_greatest (negsuc l) (pos x) d q e o h k i = absurd (omega (arith, ints))
-greatest_is_greatest (negsuc l) (negsuc x) d q e o h k i = let r = quotient_mono (suc l) (suc x) q e (omega (arith, ints)) k (omega arith) in omega (arith, ints)
+greatest_is_greatest (negsuc l) (negsuc x) d q e o h k i = let r = quotient_mono (suc l) (suc x) q e (omega (arith, ints)) k
+    (omega arith) in omega (arith, ints)
 
 -- the quotient by a divisor above 0 is an int
 quotient_fits : (m : ℤ) (q : ℕ) → IsIn m all_ints → FitsSigned w32 (int_div m (pos q))
@@ -119,9 +133,11 @@ single_divisor_true b m n r q h =
     let k : m <ℤ (b.lo *ℤ r +ℤ b.lo) = subst (λ (z : ℤ). m <ℤ (z *ℤ r +ℤ z)) (sym (single_is b n t q)) h in
     more_rows m n r (at_least_zero (negsuc 0) (pos 0) b.lo (b.lo -ℤ pos 1)) [] (omega (arith, ints)) (no_rows m n r)) (λ _. no_rows m n r)
 
-quotient_rows_true : (a b d : Bounds) (m n r : ℤ) → IsIn m a → IsIn n b → (pos 1 ≤ℤ d.lo → pos 0 ≤ℤ m → (d.lo *ℤ r) ≤ℤ m) → (pos 1 ≤ℤ d.lo → pos 0 ≤ℤ m → m <ℤ (n *ℤ r +ℤ n)) → AreTrue m n r (quotient_rows a b d)
+quotient_rows_true : (a b d : Bounds) (m n r : ℤ) → IsIn m a → IsIn n b → (pos 1 ≤ℤ d.lo → pos 0 ≤ℤ m → (d.lo *ℤ r) ≤ℤ m)
+    → (pos 1 ≤ℤ d.lo → pos 0 ≤ℤ m → m <ℤ (n *ℤ r +ℤ n)) → AreTrue m n r (quotient_rows a b d)
 quotient_rows_true a b d m n r p q least own =
-    if_either (AreTrue m n r) (are_positive d && int_le (pos 0) a.lo) (at_least_zero (pos 1) (pos 0) (neg_ℤ d.lo) (pos 0) ∷ single_divisor_rows b) [] (λ t.
+    if_either (AreTrue m n r) (are_positive d && int_le (pos 0) a.lo)
+    (at_least_zero (pos 1) (pos 0) (neg_ℤ d.lo) (pos 0) ∷ single_divisor_rows b) [] (λ t.
     let both = and_parts (are_positive d) (int_le (pos 0) a.lo) t in
     let one = both.0 in
     let two = both.1 in
@@ -129,12 +145,14 @@ quotient_rows_true a b d m n r p q least own =
     let above : pos 1 ≤ℤ d.lo = omega (arith, ints) in
     let natural : pos 0 ≤ℤ m = omega (arith, ints) in
     let low = least above natural in
-    more_rows m n r (at_least_zero (pos 1) (pos 0) (neg_ℤ d.lo) (pos 0)) (single_divisor_rows b) (omega (arith, ints, neg_times d.lo r)) (single_divisor_true b m n r q (own above natural))) (λ _. no_rows m n r)
+    more_rows m n r (at_least_zero (pos 1) (pos 0) (neg_ℤ d.lo) (pos 0)) (single_divisor_rows b)
+    (omega (arith, ints, neg_times d.lo r)) (single_divisor_true b m n r q (own above natural))) (λ _. no_rows m n r)
 
 -- ---- quotients by other divisors
 
 -- a quotient of ints is an int, but for the least int by -1
-by_minus_one : (x : ℕ) → IsIn (negsuc x) all_ints → (x < 2147483647) ⊎ (2147483647 ≤ x) → FitsSigned w32 (int_div (negsuc x) (negsuc 0)) ⊎ ((negsuc x ≡ negsuc 2147483647) × (negsuc 0 ≡ negsuc 0))
+by_minus_one : (x : ℕ) → IsIn (negsuc x) all_ints → (x < 2147483647) ⊎ (2147483647 ≤ x)
+    → FitsSigned w32 (int_div (negsuc x) (negsuc 0)) ⊎ ((negsuc x ≡ negsuc 2147483647) × (negsuc 0 ≡ negsuc 0))
 by_minus_one x f (inl h) = let k = div-le_self (suc x) 1 in inl (omega (arith, ints))
 by_minus_one x f (inr h) = let low = f.0 in inr (omega (arith, ints), refl)
 
@@ -159,9 +177,12 @@ wraps a d m n low p q e g =
     let pl = p.0 in
     let ql = q.0 in
     let qh = q.1 in
-    three_true (int_eq a.lo all_ints.lo) (int_le d.lo (negsuc 0)) (int_le (negsuc 0) d.hi) ((Decides-int_eq a.lo (negsuc 2147483647)).1 (omega (arith, ints))) (int_le_from d.lo (negsuc 0) (omega (arith, ints))) (int_le_from (negsuc 0) d.hi (omega (arith, ints)))
+    three_true (int_eq a.lo all_ints.lo) (int_le d.lo (negsuc 0)) (int_le (negsuc 0) d.hi)
+    ((Decides-int_eq a.lo (negsuc 2147483647)).1 (omega (arith, ints))) (int_le_from d.lo (negsuc 0) (omega (arith, ints)))
+    (int_le_from (negsuc 0) d.hi (omega (arith, ints)))
 
-other_fits : (a d : Bounds) (m n : ℤ) → all_ints.lo ≤ℤ a.lo → IsIn m all_ints → IsIn m a → IsIn n d → may_wrap a d ≡ false → FitsSigned w32 (int_div m n)
+other_fits : (a d : Bounds) (m n : ℤ) → all_ints.lo ≤ℤ a.lo → IsIn m all_ints → IsIn m a → IsIn n d → may_wrap a d ≡ false
+    → FitsSigned w32 (int_div m n)
 other_fits a d m n low f p q t =
     elim (fits_or_wraps m n f) [ inl h ↦ h | inr h ↦ absurd (wraps_not (may_wrap a d) (wraps a d m n low p q h.0 h.1) t) ]
   where
@@ -176,18 +197,25 @@ size_over : (a : Bounds) (m : ℤ) → IsIn m a → unsigned_abs m ≤ size_of a
 size_over a m p = let l = p.0 in let h = p.1 in omega (arith, ints)
 
 -- where a quotient lies
-in_quotients : (a d : Bounds) (m n : ℤ) → all_ints.lo ≤ℤ a.lo → IsIn m all_ints → IsIn m a → IsIn n d → IsSomeAnd (quotients_of a d) (λ x. IsIn (int_wrap w32 (int_div m n)) x)
+in_quotients : (a d : Bounds) (m n : ℤ) → all_ints.lo ≤ℤ a.lo → IsIn m all_ints → IsIn m a → IsIn n d
+    → IsSomeAnd (quotients_of a d) (λ x. IsIn (int_wrap w32 (int_div m n)) x)
 in_quotients a d m n low f p q =
     let P : Option Bounds → Type 0 = λ o. IsSomeAnd o (λ x. IsIn (int_wrap w32 (int_div m n)) x) in
     if_either P (are_positive d) (interval_of (least_quotient a.lo d) (greatest_quotient a.hi d)) _ (λ t.
     let k = quotient_is a d.lo d.hi m n f p (omega (arith, ints)) q.0 q.1 in
-    subst (λ (z : ℤ). IsSomeAnd (interval_of (least_quotient a.lo d) (greatest_quotient a.hi d)) (λ x. IsIn z x)) (sym (int_wrap_fits w32 (int_div m n) k.fits)) (in_interval (int_div m n) (least_quotient a.lo d) (greatest_quotient a.hi d) k.low k.high)) (λ _.
+    subst (λ (z : ℤ). IsSomeAnd (interval_of (least_quotient a.lo d) (greatest_quotient a.hi d)) (λ x. IsIn z x))
+    (sym (int_wrap_fits w32 (int_div m n) k.fits))
+    (in_interval (int_div m n) (least_quotient a.lo d) (greatest_quotient a.hi d) k.low k.high)) (λ _.
     if_either P (may_wrap a d) (Some all_ints) _ (λ _. in_all (int_div m n)) (λ t.
     let fits = other_fits a d m n low f p q t in
     let s = sized m (int_div m n) (size_of a) (omega (arith, abs_quotient m n, size_over a m p)) in
-    subst (λ (z : ℤ). IsSomeAnd (meet_of all_ints (bounds (neg_ℤ (pos (size_of a))) (pos (size_of a)))) (λ x. IsIn z x)) (sym (int_wrap_fits w32 (int_div m n) fits)) (in_meet (int_div m n) all_ints (bounds (neg_ℤ (pos (size_of a))) (pos (size_of a))) (omega (arith, ints), omega (arith, ints)) s)))
+    subst (λ (z : ℤ). IsSomeAnd (meet_of all_ints (bounds (neg_ℤ (pos (size_of a))) (pos (size_of a)))) (λ x. IsIn z x))
+    (sym (int_wrap_fits w32 (int_div m n) fits))
+    (in_meet (int_div m n) all_ints (bounds (neg_ℤ (pos (size_of a))) (pos (size_of a)))
+    (omega (arith, ints), omega (arith, ints)) s)))
 
-quotient_true : (a b d : Bounds) (m n : ℤ) → IsIn m all_ints → IsIn m a → IsIn n b → IsIn n d → AreTrue m n (int_wrap w32 (int_div m n)) (quotient_rows a b d)
+quotient_true : (a b d : Bounds) (m n : ℤ) → IsIn m all_ints → IsIn m a → IsIn n b → IsIn n d
+    → AreTrue m n (int_wrap w32 (int_div m n)) (quotient_rows a b d)
 quotient_true a b d m n f p q i =
     quotient_rows_true a b d m n (int_wrap w32 (int_div m n)) p q (λ s t.
     let k = quotient_is a d.lo d.hi m n f p s i.0 i.1 in
@@ -195,10 +223,12 @@ quotient_true a b d m n f p q i =
     let k = quotient_is a d.lo d.hi m n f p s i.0 i.1 in
     subst (λ (z : ℤ). m <ℤ (n *ℤ z +ℤ n)) (sym (int_wrap_fits w32 (int_div m n) k.fits)) (k.own t))
 
-pub quotient_covers : (a b : Bounds) (m n : ℤ) → all_ints.lo ≤ℤ a.lo → IsIn m all_ints → IsIn m a → IsIn n b → Any (FallsUnder Div m n) (quotient_cases a b)
+pub quotient_covers : (a b : Bounds) (m n : ℤ) → all_ints.lo ≤ℤ a.lo → IsIn m all_ints → IsIn m a → IsIn n b
+    → Any (FallsUnder Div m n) (quotient_cases a b)
 quotient_covers a b m n low f p q =
     divided Div (λ d. inside a d (quotients_of a d) (quotient_rows a b d)) a b m n p q (no_result _ n) (λ apart d i.
-    in_inside Div a d (quotients_of a d) (quotient_rows a b d) m n (int_wrap w32 (int_div m n)) p i (some_result _ n apart) refl (in_quotients a d m n low f p i) (quotient_true a b d m n f p q i))
+    in_inside Div a d (quotients_of a d) (quotient_rows a b d) m n (int_wrap w32 (int_div m n)) p i (some_result _ n apart) refl
+    (in_quotients a d m n low f p i) (quotient_true a b d m n f p q i))
 
 -- ---- remainders
 
@@ -220,7 +250,9 @@ in_remainders a d m n p q apart =
     let near = remainder_near m n in
     let below = rem_below m n (size_above_zero n apart) in
     let s = sized m (int_rem m n) (size_of d - 1) (omega (arith, below, size_over d n q)) in
-    in_interval (int_rem m n) (least_remainder a.lo (size_of d - 1)) (greatest_remainder a.hi (size_of d - 1)) (least_remainder_is a.lo m (int_rem m n) (size_of d - 1) p.0 near.0 s.0) (greatest_remainder_is a.hi m (int_rem m n) (size_of d - 1) p.1 near.1 s.1)
+    in_interval (int_rem m n) (least_remainder a.lo (size_of d - 1)) (greatest_remainder a.hi (size_of d - 1))
+    (least_remainder_is a.lo m (int_rem m n) (size_of d - 1) p.0 near.0 s.0)
+    (greatest_remainder_is a.hi m (int_rem m n) (size_of d - 1) p.1 near.1 s.1)
 
 no_higher : (m v : ℤ) → v ≤ℤ int_max m (pos 0) → pos 0 ≤ℤ m → v ≤ℤ m
 no_higher m v h k = omega (arith, ints, clamps)
@@ -232,9 +264,11 @@ remainder_true a d m n p q apart =
     let v : ℤ = int_rem m n in
     let ql = q.0 in
     if_either (AreTrue m n (int_rem m n)) (are_positive d) (at_least_zero (pos 0) (pos 1) (negsuc 0) (negsuc 0) ∷ dividend_rows a) [] (λ t.
-    more_rows m n (int_rem m n) (at_least_zero (pos 0) (pos 1) (negsuc 0) (negsuc 0)) (dividend_rows a) (omega (arith, ints)) (dividend_rows_true a m n (int_rem m n) p (no_higher m (int_rem m n) near.1))) (λ _. no_rows m n (int_rem m n))
+    more_rows m n (int_rem m n) (at_least_zero (pos 0) (pos 1) (negsuc 0) (negsuc 0)) (dividend_rows a) (omega (arith, ints))
+    (dividend_rows_true a m n (int_rem m n) p (no_higher m (int_rem m n) near.1))) (λ _. no_rows m n (int_rem m n))
 
 pub remainder_covers : (a b : Bounds) (m n : ℤ) → IsIn m a → IsIn n b → Any (FallsUnder Rem m n) (remainder_cases a b)
 remainder_covers a b m n p q =
     divided Rem (λ d. inside a d (remainders_of a d) (remainder_rows a d)) a b m n p q (no_result _ n) (λ apart d i.
-    in_inside Rem a d (remainders_of a d) (remainder_rows a d) m n (int_rem m n) p i (some_result _ n apart) refl (in_remainders a d m n p i apart) (remainder_true a d m n p i apart))
+    in_inside Rem a d (remainders_of a d) (remainder_rows a d) m n (int_rem m n) p i (some_result _ n apart) refl
+    (in_remainders a d m n p i apart) (remainder_true a d m n p i apart))

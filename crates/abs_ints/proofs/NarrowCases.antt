@@ -1,5 +1,6 @@
 -- An int falls in the case of its narrowing.
-use Rattle.std.proofs.Common.{◌≡◌, ℕ, ◌%◌, ◌-◌, ℤ, pos, negsuc, ◌≤ℤ◌, Bool, true, false, cond, Option, Some, None, List, [], FitsSigned, w8, w16, refl, sym, subst, arith}
+use Rattle.std.proofs.Common.{◌≡◌, ℕ, ◌%◌, ◌-◌, ℤ, pos, negsuc, ◌≤ℤ◌, Bool, true, false, cond, Option, Some, None, List, []}
+use Rattle.std.proofs.Common.{FitsSigned, w8, w16, refl, sym, subst, arith}
 use Rattle.std.specs.Prelude.{IsSomeAnd, int_le}
 use Rattle.std.specs.List.{Any}
 use Rattle.std.specs.Int.{int_wrap, int_rem_euclid}
@@ -44,7 +45,8 @@ of_kind Byte m h = let f : FitsSigned w8 (int_wrap w8 m) = SFits-int_wrap w8 m i
 of_kind Short m h = let f : FitsSigned w16 (int_wrap w16 m) = SFits-int_wrap w16 m in (omega (arith, ints), omega (arith, ints))
 of_kind Int m h = h
 
-falls_as_it_is : (kind : Kind) (a b : Bounds) (m n : ℤ) → IsIn m a → IsIn n b → IsOfKind kind m → IsSomeAnd (case_between Inside (Some a) (Some b) []) (FallsUnder (Narrow kind) m n)
+falls_as_it_is : (kind : Kind) (a b : Bounds) (m n : ℤ) → IsIn m a → IsIn n b → IsOfKind kind m
+    → IsSomeAnd (case_between Inside (Some a) (Some b) []) (FallsUnder (Narrow kind) m n)
 falls_as_it_is kind a b m n p q h = record {
   left_in = p;
   right_in = q;
@@ -52,14 +54,17 @@ falls_as_it_is kind a b m n p q h = record {
   way_taken = (refl, tt);
 }
 
-pub narrow_covers : (kind : Kind) (a b : Bounds) (m n : ℤ) → IsIn m all_ints → IsIn m a → IsIn n b → Any (FallsUnder (Narrow kind) m n) (narrow_cases kind a b)
+pub narrow_covers : (kind : Kind) (a b : Bounds) (m n : ℤ) → IsIn m all_ints → IsIn m a → IsIn n b
+    → Any (FallsUnder (Narrow kind) m n) (narrow_cases kind a b)
 narrow_covers kind a b m n f p q =
-    any_first _ (cond (are_of_kind kind a) (case_between Inside (Some a) (Some b) []) (inside a b (interval_of (least_of kind) (greatest_of kind)) [])) [] (
+    any_first _ (cond (are_of_kind kind a) (case_between Inside (Some a) (Some b) [])
+    (inside a b (interval_of (least_of kind) (greatest_of kind)) [])) [] (
     if_either (λ (o : Option IntCase). IsSomeAnd o (FallsUnder (Narrow kind) m n)) (are_of_kind kind a) _ _ (λ e.
     let t = and_parts (int_le (least_of kind) a.lo) (int_le a.hi (greatest_of kind)) e in
     let low = t.0 in
     let high = t.1 in
     falls_as_it_is kind a b m n p q (omega (arith, ints), omega (arith, ints))) (λ e.
     let k = of_kind kind m f in
-    in_inside (Narrow kind) a b (interval_of (least_of kind) (greatest_of kind)) [] m n (narrowed kind m) p q refl refl (in_interval (narrowed kind m) (least_of kind) (greatest_of kind) k.0 k.1) (no_rows m n (narrowed kind m)))
+    in_inside (Narrow kind) a b (interval_of (least_of kind) (greatest_of kind)) [] m n (narrowed kind m) p q refl refl
+    (in_interval (narrowed kind m) (least_of kind) (greatest_of kind) k.0 k.1) (no_rows m n (narrowed kind m)))
     )

@@ -1,5 +1,6 @@
 -- What the operators' cases have in common: two ints fall in a case with a result, or in the division by 0.
-use Rattle.std.proofs.Common.{◌≡◌, ℕ, ℤ, pos, negsuc, ◌+ℤ◌, ◌≤ℤ◌, ◌<ℤ◌, Bool, true, false, cond, Option, Some, None, List, [], ◌∷◌, FitsSigned, w32, refl, sym, subst, arith}
+use Rattle.std.proofs.Common.{◌≡◌, ℕ, ℤ, pos, negsuc, ◌+ℤ◌, ◌≤ℤ◌, ◌<ℤ◌, Bool, true, false, cond, Option, Some, None, List, [], ◌∷◌}
+use Rattle.std.proofs.Common.{FitsSigned, w32, refl, sym, subst, arith}
 use Rattle.std.specs.Prelude.{IsSomeAnd, IsSome, IfSome, int_le, ◌&&◌}
 use Rattle.std.specs.Int.{int_wrap}
 use Rattle.std.specs.Ordering.{int_eq}
@@ -28,23 +29,29 @@ single_is a m e p =
     omega (arith, ints)
 
 -- ints fall in a case that leaves them as they are
-pub in_inside : (op : IntOp) (a b : Bounds) (result : Option Bounds) (rows : List ShortRow) (m n r : ℤ) → IsIn m a → IsIn n b → int_result op m n ≡ Some r → exact_result op m n ≡ None → IsSomeAnd result (λ x. IsIn r x) → AllTrueOf m n r rows → IsSomeAnd (inside a b result rows) (FallsUnder op m n)
+pub in_inside : (op : IntOp) (a b : Bounds) (result : Option Bounds) (rows : List ShortRow) (m n r : ℤ) → IsIn m a → IsIn n b
+    → int_result op m n ≡ Some r → exact_result op m n ≡ None → IsSomeAnd result (λ x. IsIn r x) → AllTrueOf m n r rows
+    → IsSomeAnd (inside a b result rows) (FallsUnder op m n)
 in_inside op a b None rows m n r p q is exact i true_rows = absurd i
 in_inside op a b (Some x) rows m n r p q is exact i true_rows = record {
   left_in = p;
   right_in = q;
-  answered = subst (λ (o : Option ℤ). IsAnswered m n (record { left = a; right = b; result = Some x; rows = rows; way = Inside }) o) (sym is) (i, true_rows);
+  answered = subst (λ (o : Option ℤ). IsAnswered m n (record { left = a; right = b; result = Some x; rows = rows; way = Inside }) o)
+      (sym is) (i, true_rows);
   way_taken = (subst (λ (o : Option ℤ). IsSome o) (sym is) refl, subst (λ (o : Option ℤ). IfSome o (λ z. IsIn z all_ints)) (sym exact) tt);
 }
 
 -- ints fall in the division by 0
-pub in_zero : (op : IntOp) (a b : Bounds) (m n : ℤ) → IsIn m a → IsIn n b → n ≡ pos 0 → int_result op m n ≡ None → IsSomeAnd (zero_case a b) (FallsUnder op m n)
+pub in_zero : (op : IntOp) (a b : Bounds) (m n : ℤ) → IsIn m a → IsIn n b → n ≡ pos 0 → int_result op m n ≡ None
+    → IsSomeAnd (zero_case a b) (FallsUnder op m n)
 in_zero op a b m n p q e is =
-    covers_between (FallsUnder op m n) Zero (Some a) (meet_of b (just (pos 0))) [] m n p (in_meet n b (just (pos 0)) q (omega (arith, ints), omega (arith, ints))) (λ x y u v.
+    covers_between (FallsUnder op m n) Zero (Some a) (meet_of b (just (pos 0))) [] m n p
+    (in_meet n b (just (pos 0)) q (omega (arith, ints), omega (arith, ints))) (λ x y u v.
     record {
       left_in = u;
       right_in = v;
-      answered = subst (λ (o : Option ℤ). IsAnswered m n (record { left = x; right = y; result = None; rows = []; way = Zero }) o) (sym is) refl;
+      answered = subst (λ (o : Option ℤ). IsAnswered m n (record { left = x; right = y; result = None; rows = []; way = Zero }) o)
+          (sym is) refl;
       way_taken = is;
     })
 
@@ -87,4 +94,6 @@ unwrapped z h p e =
 -- a number of an interval, wrapped, is in that interval if this has ints alone
 pub in_ints_or_all : (z : ℤ) (h : Bounds) → IsIn z h → IsSomeAnd (ints_or_all h) (λ x. IsIn (int_wrap w32 z) x)
 in_ints_or_all z h p =
-    if_either (λ (o : Option Bounds). IsSomeAnd o (λ x. IsIn (int_wrap w32 z) x)) (are_ints h) (meet_of all_ints h) (Some all_ints) (λ e. subst (λ (y : ℤ). IsSomeAnd (meet_of all_ints h) (λ x. IsIn y x)) (sym (unwrapped z h p e)) (in_meet z all_ints h (an_int z h p e) p)) (λ e. in_all z)
+    if_either (λ (o : Option Bounds). IsSomeAnd o (λ x. IsIn (int_wrap w32 z) x)) (are_ints h) (meet_of all_ints h) (Some all_ints)
+    (λ e. subst (λ (y : ℤ). IsSomeAnd (meet_of all_ints h) (λ x. IsIn y x)) (sym (unwrapped z h p e))
+    (in_meet z all_ints h (an_int z h p e) p)) (λ e. in_all z)

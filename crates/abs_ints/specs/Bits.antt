@@ -36,7 +36,8 @@ ones_over a b = pos (2 ^ (32 - leading_zeros w32 (cast_unsigned w32 (int_max a.h
 -- the bits that one of two numbers has, neither below 0: r - a and r - b are at least 0
 abbrev pub or_case : Bounds → Bounds → Option IntCase
 or_case a b =
-    if is_natural a && is_natural b then inside a b (meet_of all_ints (record { lo = int_max a.lo b.lo; hi = ones_over a b })) (at_least_zero (negsuc 0) (pos 0) (pos 1) (pos 0) ∷ at_least_zero (pos 0) (negsuc 0) (pos 1) (pos 0) ∷ [])
+    if is_natural a && is_natural b then inside a b (meet_of all_ints (record { lo = int_max a.lo b.lo; hi = ones_over a b }))
+    (at_least_zero (negsuc 0) (pos 0) (pos 1) (pos 0) ∷ at_least_zero (pos 0) (negsuc 0) (pos 1) (pos 0) ∷ [])
     else inside a b (Some all_ints) []
 
 abbrev pub or_cases : Bounds → Bounds → List IntCase

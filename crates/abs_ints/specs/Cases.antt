@@ -30,11 +30,14 @@ is_zero left right result constant = record { kind = IsZero; left = left; right 
 
 -- a case without a result, where neither operand's interval is empty
 abbrev pub case_between : Way → Option Bounds → Option Bounds → List ShortRow → Option IntCase
-case_between way left right rows = option_and_then (λ a. option_map (λ b. record { left = a; right = b; result = None; rows = rows; way = way }) right) left
+case_between way left right rows = option_and_then
+    (λ a. option_map (λ b. record { left = a; right = b; result = None; rows = rows; way = way }) right) left
 
 -- a case with a result, where none of the three intervals is empty
 abbrev pub case_with : Way → Option Bounds → Option Bounds → Option Bounds → List ShortRow → Option IntCase
-case_with way left right result rows = option_and_then (λ a. option_and_then (λ b. option_map (λ r. record { left = a; right = b; result = Some r; rows = rows; way = way }) result) right) left
+case_with way left right result rows = option_and_then
+    (λ a. option_and_then (λ b. option_map (λ r. record { left = a; right = b; result = Some r; rows = rows; way = way }) result)
+    right) left
 
 -- the case of an operator that leaves its operands as they are
 abbrev pub inside : Bounds → Bounds → Option Bounds → List ShortRow → Option IntCase

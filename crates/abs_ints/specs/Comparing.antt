@@ -57,7 +57,14 @@ cases_between Le a b = both_of (related AtMost Taken a b) (related Above Next a 
 
 -- the one case of a condition between an int and itself, which says nothing more of it
 abbrev pub cases_of_one : Cond → Bounds → Bounds → List IntCase
-cases_of_one cond a b = record { left = a; right = b; result = None; rows = []; way = if cond_holds cond (pos 0) (pos 0) then Taken else Next } ∷ []
+cases_of_one cond a b = record {
+  left = a;
+  right = b;
+  result = None;
+  rows = [];
+  way = if cond_holds cond (pos 0) (pos 0) then Taken
+      else Next;
+} ∷ []
 
 -- the cases of a condition between two ints, which may be one
 abbrev pub compared : Cond → Bool → Bounds → Bounds → List IntCase

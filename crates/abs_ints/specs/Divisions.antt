@@ -1,5 +1,6 @@
 -- The cases of quotients and remainders of abstract ints (JVM specification, section 6.5, `idiv` and `irem`).
-use Rattle.std.specs.Prelude.{ℕ, ◌-◌, ℤ, pos, negsuc, neg_ℤ, ◌-ℤ◌, int_div, int_le, unsigned_abs, max, ◌&&◌, Bool, Option, Some, None, List, [], ◌∷◌, if◌then◌else◌}
+use Rattle.std.specs.Prelude.{ℕ, ◌-◌, ℤ, pos, negsuc, neg_ℤ, ◌-ℤ◌, int_div, int_le, unsigned_abs, max, ◌&&◌, Bool, Option, Some}
+use Rattle.std.specs.Prelude.{None, List, [], ◌∷◌, if◌then◌else◌}
 use Rattle.std.specs.Ordering.{int_eq}
 use Rattle.std.specs.List.{cons_option}
 use Rattle.std.specs.Int.{int_max, int_min}
@@ -44,7 +45,8 @@ may_wrap a d = int_eq a.lo all_ints.lo && int_le d.lo (negsuc 0) && int_le (negs
 
 -- where the quotients lie: of other divisors all that is known is that a quotient is no greater in size than a dividend
 abbrev pub quotients_of : Bounds → Bounds → Option Bounds
-quotients_of a d = if are_positive d then interval_of (least_quotient a.lo d) (greatest_quotient a.hi d) else if may_wrap a d then Some all_ints else meet_of all_ints (record { lo = neg_ℤ (pos (size_of a)); hi = pos (size_of a) })
+quotients_of a d = if are_positive d then interval_of (least_quotient a.lo d) (greatest_quotient a.hi d) else if may_wrap a d then
+    Some all_ints else meet_of all_ints (record { lo = neg_ℤ (pos (size_of a)); hi = pos (size_of a) })
 
 -- c r + c - 1 - a is at least 0, where the divisor is a single c
 abbrev pub single_divisor_rows : Bounds → List ShortRow
@@ -52,10 +54,12 @@ single_divisor_rows b = if is_single b then at_least_zero (negsuc 0) (pos 0) b.l
 
 -- with the least divisor c, a - c r is at least 0
 abbrev pub quotient_rows : Bounds → Bounds → Bounds → List ShortRow
-quotient_rows a b d = if are_positive d && int_le (pos 0) a.lo then at_least_zero (pos 1) (pos 0) (neg_ℤ d.lo) (pos 0) ∷ single_divisor_rows b else []
+quotient_rows a b d = if are_positive d && int_le (pos 0) a.lo then at_least_zero (pos 1) (pos 0) (neg_ℤ d.lo) (pos 0)
+    ∷ single_divisor_rows b else []
 
 abbrev pub quotient_cases : Bounds → Bounds → List IntCase
-quotient_cases a b = cons_option (option_and_then (λ d. inside a d (quotients_of a d) (quotient_rows a b d)) (divisors_of b)) (cons_option (zero_case a b) [])
+quotient_cases a b = cons_option (option_and_then (λ d. inside a d (quotients_of a d) (quotient_rows a b d)) (divisors_of b))
+    (cons_option (zero_case a b) [])
 
 -- ---- remainders
 
@@ -80,4 +84,5 @@ abbrev pub remainder_rows : Bounds → Bounds → List ShortRow
 remainder_rows a d = if are_positive d then at_least_zero (pos 0) (pos 1) (negsuc 0) (negsuc 0) ∷ dividend_rows a else []
 
 abbrev pub remainder_cases : Bounds → Bounds → List IntCase
-remainder_cases a b = cons_option (option_and_then (λ d. inside a d (remainders_of a d) (remainder_rows a d)) (divisors_of b)) (cons_option (zero_case a b) [])
+remainder_cases a b = cons_option (option_and_then (λ d. inside a d (remainders_of a d) (remainder_rows a d)) (divisors_of b))
+    (cons_option (zero_case a b) [])

@@ -20,7 +20,8 @@ abbrev pub shifted_left_rows : Bounds → Bounds → List ShortRow
 shifted_left_rows a b = if are_ints (multiples_of (power_of b) a) then times_left (power_of b) ∷ [] else []
 
 abbrev pub shift_left_cases : Bounds → Bounds → List IntCase
-shift_left_cases a b = only (if is_single b then inside a b (ints_or_all (multiples_of (power_of b) a)) (shifted_left_rows a b) else inside a b (Some all_ints) [])
+shift_left_cases a b = only (if is_single b then inside a b (ints_or_all (multiples_of (power_of b) a)) (shifted_left_rows a b) else
+    inside a b (Some all_ints) [])
 
 -- ---- to the right: a quotient by that power, rounded down
 
@@ -36,7 +37,8 @@ abbrev pub shifted_right : Bounds → Option Bounds
 shifted_right a = interval_of (int_min a.lo (pos 0)) (int_max a.hi (negsuc 0))
 
 abbrev pub shift_right_case : Bounds → Bounds → Option IntCase
-shift_right_case a b = if is_single b then inside a b (shifted_right_by a (shift_count b.lo)) (shifted_right_rows (power_of b)) else inside a b (shifted_right a) (dividend_rows a)
+shift_right_case a b = if is_single b then inside a b (shifted_right_by a (shift_count b.lo)) (shifted_right_rows (power_of b)) else
+    inside a b (shifted_right a) (dividend_rows a)
 
 abbrev pub shift_right_cases : Bounds → Bounds → List IntCase
 shift_right_cases a b = only (shift_right_case a b)
@@ -45,10 +47,12 @@ shift_right_cases a b = only (shift_right_case a b)
 
 -- by a single count, of numbers some of which are below 0
 abbrev pub zeros_case : Bounds → Bounds → ℕ → Option IntCase
-zeros_case a b count = if count == 0 then inside a b (Some a) (is_zero (negsuc 0) (pos 0) (pos 1) (pos 0) ∷ []) else inside a b (interval_of (pos 0) (pos (2 ^ (32 - count)) -ℤ pos 1)) []
+zeros_case a b count = if count == 0 then inside a b (Some a) (is_zero (negsuc 0) (pos 0) (pos 1) (pos 0) ∷ []) else inside a b
+    (interval_of (pos 0) (pos (2 ^ (32 - count)) -ℤ pos 1)) []
 
 abbrev pub shift_zeros_case : Bounds → Bounds → Option IntCase
-shift_zeros_case a b = if int_le (pos 0) a.lo then shift_right_case a b else if is_single b then zeros_case a b (shift_count b.lo) else inside a b (Some all_ints) []
+shift_zeros_case a b = if int_le (pos 0) a.lo then shift_right_case a b else if is_single b then zeros_case a b (shift_count b.lo)
+    else inside a b (Some all_ints) []
 
 abbrev pub shift_zeros_cases : Bounds → Bounds → List IntCase
 shift_zeros_cases a b = only (shift_zeros_case a b)

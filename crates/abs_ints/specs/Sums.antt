@@ -37,16 +37,19 @@ difference_row way = is_zero (negsuc 0) (pos 1) (pos 1) (turn_of way)
 -- the case of a sum that is wrapped so. The operands are narrowed to what its exact results allow
 abbrev pub sum_case : Way → Bounds → Bounds → Option IntCase
 sum_case way a b = option_and_then (λ exact.
-    case_with way (meet_of a (difference_of exact b)) (meet_of b (difference_of exact a)) (meet_of all_ints (wrapped_by way exact)) (sum_row way ∷ [])) (meet_of (reached_by way) (sum_of a b))
+    case_with way (meet_of a (difference_of exact b)) (meet_of b (difference_of exact a)) (meet_of all_ints (wrapped_by way exact))
+    (sum_row way ∷ [])) (meet_of (reached_by way) (sum_of a b))
 
 -- the same of a difference
 abbrev pub difference_case : Way → Bounds → Bounds → Option IntCase
 difference_case way a b = option_and_then (λ exact.
-    case_with way (meet_of a (sum_of exact b)) (meet_of b (difference_of a exact)) (meet_of all_ints (wrapped_by way exact)) (difference_row way ∷ [])) (meet_of (reached_by way) (difference_of a b))
+    case_with way (meet_of a (sum_of exact b)) (meet_of b (difference_of a exact)) (meet_of all_ints (wrapped_by way exact))
+    (difference_row way ∷ [])) (meet_of (reached_by way) (difference_of a b))
 
 -- the cases: the exact result is an int, or above all ints, or below all ints
 abbrev pub sum_cases : Bounds → Bounds → List IntCase
 sum_cases a b = cons_option (sum_case Inside a b) (cons_option (sum_case Over a b) (cons_option (sum_case Under a b) []))
 
 abbrev pub difference_cases : Bounds → Bounds → List IntCase
-difference_cases a b = cons_option (difference_case Inside a b) (cons_option (difference_case Over a b) (cons_option (difference_case Under a b) []))
+difference_cases a b = cons_option (difference_case Inside a b)
+    (cons_option (difference_case Over a b) (cons_option (difference_case Under a b) []))

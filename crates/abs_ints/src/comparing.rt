@@ -16,7 +16,8 @@ use lin_core::Interval;
 /// nothing more of it.
 pub fn compare(cond: Cond, same: bool, a: Interval, b: Interval) -> Few<IntCase>
     ensures table { result ≡ compared cond same a b }
-    ensures covers { (left right : ℤ) → IsIn left a → IsIn right b → (same ≡ true → left ≡ right) → Any (FallsBetween cond left right) result }
+    ensures covers { (left right : ℤ) → IsIn left a → IsIn right b → (same ≡ true → left ≡ right)
+        → Any (FallsBetween cond left right) result }
 {
     cases(cond, same, a, b)
 }

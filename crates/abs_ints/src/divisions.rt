@@ -2,7 +2,9 @@
 ghost use Rattle.std.specs.Prelude.{◌≡◌, ◌-◌, ◌-ℤ◌, ◌≤ℤ◌, pos, negsuc, neg_ℤ, if◌then◌else◌};
 ghost use Rattle.std.specs.Ordering.{int_eq};
 ghost use Rattle.std.specs.Option.{option_and_then};
-ghost use Rattle.abs_ints.specs.Divisions.{divisors_of, are_positive, size_of, zero_case, least_quotient, greatest_quotient, may_wrap, quotients_of, quotient_rows, quotient_cases, least_remainder, greatest_remainder, remainders_of, dividend_rows, remainder_rows, remainder_cases};
+ghost use Rattle.abs_ints.specs.Divisions.{divisors_of, are_positive, size_of, zero_case, least_quotient, greatest_quotient};
+ghost use Rattle.abs_ints.specs.Divisions.{may_wrap, quotients_of, quotient_rows, quotient_cases, least_remainder};
+ghost use Rattle.abs_ints.specs.Divisions.{greatest_remainder, remainders_of, dividend_rows, remainder_rows, remainder_cases};
 ghost use Rattle.abs_ints.specs.Cases.{inside, at_least_zero};
 
 use crate::cases::{IntCase, ShortRow, Way};

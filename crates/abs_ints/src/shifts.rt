@@ -6,7 +6,8 @@ ghost use Rattle.abs_ints.specs.Cases.{at_least_zero};
 ghost use Rattle.abs_ints.specs.Divisions.{dividend_rows};
 ghost use Rattle.abs_ints.specs.IntIntervals.{are_ints, multiples_of};
 ghost use Rattle.abs_ints.specs.Products.{times_left};
-ghost use Rattle.abs_ints.specs.Shifts.{power_of, shift_left_cases, shifted_right_by, shifted_right_rows, shifted_right, shift_right_case, shift_right_cases, zeros_case, shift_zeros_cases};
+ghost use Rattle.abs_ints.specs.Shifts.{power_of, shift_left_cases, shifted_right_by, shifted_right_rows, shifted_right};
+ghost use Rattle.abs_ints.specs.Shifts.{shift_right_case, shift_right_cases, zeros_case, shift_zeros_cases};
 
 use crate::cases::{IntCase, ShortRow};
 use crate::divisions::dividend_rows;

@@ -1,6 +1,8 @@
 -- Tests of cells, and what they say.
-use Rattle.std.proofs.Common.{◌≡◌, ℕ, ◌≤ℤ◌, eqb, Bool, true, false, not, ◌&&◌, ◌||◌, IsTrue, List, Option, Some, None, ◌⊎◌, inl, inr, ◌↔◌, ℤ, refl, sym, ap, subst, ◌∙◌}
-use Rattle.std.proofs.lemmas.Bool.{false≢true, not-true, eqb-true, eq-eqb, and_parts, and_from, or_cases, or_left, or_right, not_from_false, cases_Bool}
+use Rattle.std.proofs.Common.{◌≡◌, ℕ, ◌≤ℤ◌, eqb, Bool, true, false, not, ◌&&◌, ◌||◌, IsTrue, List, Option, Some, None, ◌⊎◌, inl}
+use Rattle.std.proofs.Common.{inr, ◌↔◌, ℤ, refl, sym, ap, subst, ◌∙◌}
+use Rattle.std.proofs.lemmas.Bool.{false≢true, not-true, eqb-true, eq-eqb, and_parts, and_from, or_cases, or_left, or_right}
+use Rattle.std.proofs.lemmas.Bool.{not_from_false, cases_Bool}
 use Rattle.std.specs.Prelude.{int_le}
 use Rattle.abs_match.specs.Matching.{image_is}
 

@@ -21,10 +21,15 @@ module _ (whole part : AbstractState) (d : IsDropped whole part) where
     place = r.place;
     start = r.start;
     stands = r.stands;
-    reaches = record { path = r.reaches.path ++ (n ∷ []); leads = joined (named_steps whole) r.reaches.path (n ∷ []) r.start x y r.reaches.leads (ap (option_and_then (follow (named_steps whole) [])) e) };
+    reaches = record {
+      path = r.reaches.path ++ (n ∷ []);
+      leads = joined (named_steps whole) r.reaches.path (n ∷ []) r.start x y
+          r.reaches.leads (ap (option_and_then (follow (named_steps whole) [])) e);
+    };
   }
 
-  walk : (path : List ℕ) (x y : ℕ) → IsReached whole x → follow (named_steps whole) path x ≡ Some y → follow (named_steps part) path x ≡ Some y
+  walk : (path : List ℕ) (x y : ℕ) → IsReached whole x → follow (named_steps whole) path x ≡ Some y
+      → follow (named_steps part) path x ≡ Some y
   walk [] x y r e = e
   walk (n ∷ path) x y r e =
       let to = then_some (follow (named_steps whole) path) (named_steps whole x n) y e in
@@ -44,7 +49,11 @@ module _ (whole part : AbstractState) (d : IsDropped whole part) where
         place = r.place;
         start = r.start;
         stands = ap (λ (ids : List ℕ). slice_get ids r.place) same_positions ∙ r.stands;
-        reaches = record { path = r.reaches.path; leads = walk r.reaches.path r.start id (start r.place r.start r.stands) r.reaches.leads };
+        reaches = record {
+          path = r.reaches.path;
+          leads = walk r.reaches.path r.start id (start r.place r.start r.stands)
+              r.reaches.leads;
+        };
       }
 
 pub dropped_reach_all : DroppedStatesReachAll

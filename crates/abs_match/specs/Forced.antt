@@ -1,5 +1,6 @@
 -- Words for the call that looks for a map: pairs of an id of the target and the image that each map must give it.
-use Rattle.std.specs.Prelude.{◌≡◌, ℕ, ◌<◌, ◌≤◌, ◌+◌, ◌==◌, ◌&&◌, ◌||◌, Bool, true, false, List, [], ◌∷◌, length, map, take, Option, Some, None, slice_get}
+use Rattle.std.specs.Prelude.{◌≡◌, ℕ, ◌<◌, ◌≤◌, ◌+◌, ◌==◌, ◌&&◌, ◌||◌, Bool, true, false, List, [], ◌∷◌, length, map, take, Option}
+use Rattle.std.specs.Prelude.{Some, None, slice_get}
 use Rattle.std.specs.List.{list_all, AllByRecursion}
 use Rattle.jvm_values.specs.declared.types.Ty.{Ty}
 use Rattle.abs_cells.specs.declared.cells.Cell.{Cell}
@@ -27,7 +28,8 @@ pub record ArePut (asks : List (ℕ × ℕ) → Type 0) (ids : List ℕ) (old ne
   pub wait : list_all (waits new) ids ≡ true
 
 -- the same of the first items of a list, of which each names ids
-pub record AreFirstPut {X : Type 0} (asks : List (ℕ × ℕ) → Type 0) (names : X → List ℕ) (items : List X) (count : ℕ) (old new : List (ℕ × ℕ)) : Type 0 where
+pub record AreFirstPut {X : Type 0} (asks : List (ℕ × ℕ) → Type 0) (names : X → List ℕ) (items : List X) (count : ℕ)
+    (old new : List (ℕ × ℕ)) : Type 0 where
   pub given : (entries : List (ℕ × ℕ)) → asks entries → AllByRecursion (Gives entries) old → AllByRecursion (Gives entries) new
   pub kept : (id : ℕ) → waits old id ≡ true → waits new id ≡ true
   pub wait : list_all (λ item. list_all (waits new) (names item)) (take count items) ≡ true
@@ -100,9 +102,12 @@ cell_asks sub cell below entries = IsOver sub entries cell below
 -- the one that was noted. What the positions name, and what the cells of ids that were met name, was met or waits
 pub record IsSearching (state target : AbstractState) (met : List ℕ) (entries todo : List (ℕ × ℕ)) : Type 0 where
   pub keys : map (λ entry. entry.0) entries ≡ map (λ c. c.0) target.cells
-  pub given : (sub : Ty → Ty → Bool) (matching : List (ℕ × ℕ)) → InstanceOf sub state target matching → AllByRecursion (Gives matching) todo
-  pub noted : (sub : Ty → Ty → Bool) (matching : List (ℕ × ℕ)) → InstanceOf sub state target matching → (id : ℕ) → has_id met id ≡ true → image_in matching id ≡ image_in entries id
-  pub closed : (id n other : ℕ) → has_id met id ≡ true → reached.named_steps target id n ≡ Some other → (has_id met other || waits todo other) ≡ true
+  pub given : (sub : Ty → Ty → Bool) (matching : List (ℕ × ℕ)) → InstanceOf sub state target matching
+      → AllByRecursion (Gives matching) todo
+  pub noted : (sub : Ty → Ty → Bool) (matching : List (ℕ × ℕ)) → InstanceOf sub state target matching → (id : ℕ)
+      → has_id met id ≡ true → image_in matching id ≡ image_in entries id
+  pub closed : (id n other : ℕ) → has_id met id ≡ true → reached.named_steps target id n ≡ Some other
+      → (has_id met other || waits todo other) ≡ true
   pub starts : list_all (λ id. has_id met id || waits todo id) (reached.positions target) ≡ true
 
 -- no map matches

@@ -26,7 +26,8 @@ after meaning entries id = value_of_image meaning (image_in entries id)
 
 -- each array of references is itself of a type of the world, as in every typed heap
 abbrev pub HasArraysOfWorld : WorldTypes → Heap → Type 0
-HasArraysOfWorld types heap = (place : ℕ) (element : Ty) (items : List Value) → slice_get heap.objects place ≡ Some (objects.Refs element items) → IsReference types.classes (array_of element)
+HasArraysOfWorld types heap = (place : ℕ) (element : Ty) (items : List Value)
+    → slice_get heap.objects place ≡ Some (objects.Refs element items) → IsReference types.classes (array_of element)
 
 -- What is left without the ids that positions don't reach has none of them.
 abbrev pub DroppedStatesReachAll : Type 0
@@ -37,4 +38,5 @@ abbrev pub MatchesCarryFitting : Type 0
 MatchesCarryFitting =
     (types : WorldTypes) (state target : AbstractState) (entries : List (ℕ × ℕ)) (machine : MachineState) (meaning : Meaning)
     → AreLawful types → HasArraysOfWorld types machine.heap
-    → IsWellFormed state → InstanceOf types.sub state target entries → Fits types state machine meaning → Fits types target machine (after meaning entries)
+    → IsWellFormed state → InstanceOf types.sub state target entries → Fits types state machine meaning
+    → Fits types target machine (after meaning entries)

@@ -1,5 +1,6 @@
 -- Words for the calls that look for the first clause that fails.
-use Rattle.std.specs.Prelude.{◌≡◌, ◌≢◌, ℕ, ◌<◌, nat_lt, if◌then◌else◌, Bool, true, false, ◌&&◌, ◌||◌, not, ◌==◌, int_le, List, map, reverse, Option, Some, None, slice_get}
+use Rattle.std.specs.Prelude.{◌≡◌, ◌≢◌, ℕ, ◌<◌, nat_lt, if◌then◌else◌, Bool, true, false, ◌&&◌, ◌||◌, not, ◌==◌, int_le, List, map}
+use Rattle.std.specs.Prelude.{reverse, Option, Some, None, slice_get}
 use Rattle.std.specs.Option.{option_and_then, option_map}
 use Rattle.lin_core.specs.Intervals.{Bounds}
 use Rattle.jvm_values.specs.declared.types.Kind.{Kind}
@@ -10,9 +11,11 @@ use Rattle.abs_cells.specs.declared.cells.Cell.TheVariants.{Int, Null, Obj, Nums
 use Rattle.abs_cells.specs.AbstractStates.{AbstractFrame, AbstractState}
 use Rattle.jvm_values.specs.declared.shape.Shape.{Shape}
 use Rattle.abs_cells.specs.PairLists.{has}
-use Rattle.abs_cells.specs.Cells.{is_known, is_hazy, cell_in, cell_at, is_of_sort, shape_of, type_of_cell, HasCell, AreEqual, is_null, can_be_null}
+use Rattle.abs_cells.specs.Cells.{is_known, is_hazy, cell_in, cell_at, is_of_sort, shape_of, type_of_cell, HasCell, AreEqual}
+use Rattle.abs_cells.specs.Cells.{is_null, can_be_null}
 use Rattle.abs_cells.specs.Sound.{IsWellFormed}
-use Rattle.abs_reach.specs.Instances.{image_in, ListsIds, is_no_int, AreMapped, MayBeOne, HasIdShape, HoldsClause, FailsAt, Clause, cells, aliases, sharing, shapes}
+use Rattle.abs_reach.specs.Instances.{image_in, ListsIds, is_no_int, AreMapped, MayBeOne, HasIdShape, HoldsClause, FailsAt, Clause}
+use Rattle.abs_reach.specs.Instances.{cells, aliases, sharing, shapes}
 use Rattle.abs_match.specs.declared.clauses.IdClause.{IdClause}
 use Rattle.abs_match.specs.declared.clauses.IdClause.TheVariants.{Cells, Aliases, Sharing, Shapes}
 use Rattle.abs_match.specs.declared.clauses.OtherSort.{OtherSort}
@@ -50,15 +53,18 @@ local_at locals n = option_and_then (λ id. id) (slice_get locals n)
 
 -- a frame's places: its locals, and its stack's entries from the bottom
 abbrev pub FrameMeets : List (ℕ × ℕ) → AbstractFrame → AbstractFrame → ℕ → Type 0
-FrameMeets entries target frame id = PlacesMeet entries (local_at target.locals) (local_at frame.locals) id × PlacesMeet entries (slice_get (reverse target.stack)) (slice_get (reverse frame.stack)) id
+FrameMeets entries target frame id = PlacesMeet entries (local_at target.locals) (local_at frame.locals) id
+    × PlacesMeet entries (slice_get (reverse target.stack)) (slice_get (reverse frame.stack)) id
 
 -- what a frame of one number asks
 abbrev pub FramesMeet : List (ℕ × ℕ) → List AbstractFrame → List AbstractFrame → ℕ → ℕ → Type 0
-FramesMeet entries targets frames f id = (target frame : AbstractFrame) → slice_get targets f ≡ Some target → slice_get frames f ≡ Some frame → FrameMeets entries target frame id
+FramesMeet entries targets frames f id = (target frame : AbstractFrame) → slice_get targets f ≡ Some target
+    → slice_get frames f ≡ Some frame → FrameMeets entries target frame id
 
 -- what an entry of one number asks: the image has a cell
 abbrev pub EntryMeets : List (ℕ × Cell) → List (ℕ × ℕ) → ℕ → ℕ → Type 0
-EntryMeets given entries n id = (entry : ℕ × ℕ) → slice_get entries n ≡ Some entry → entry.0 ≡ id → is_of_sort (λ _. true) (cell_in given entry.1) ≡ true
+EntryMeets given entries n id = (entry : ℕ × ℕ) → slice_get entries n ≡ Some entry → entry.0 ≡ id
+    → is_of_sort (λ _. true) (cell_in given entry.1) ≡ true
 
 -- what a cell of one number asks
 abbrev pub CellMeets : (ℕ → Type 0) → List (ℕ × Cell) → ℕ → ℕ → Type 0
@@ -93,7 +99,8 @@ is_type_below sub bound None = false
 is_type_below sub bound (Some t) = sub t bound
 
 abbrev pub over_unknown : (Ty → Ty → Bool) → Ty → Bool → Cell → Bool
-over_unknown sub bound nullable cell = (not (can_be_null cell) || nullable) && (is_null cell || is_type_below sub bound (type_of_cell cell))
+over_unknown sub bound nullable cell = (not (can_be_null cell) || nullable)
+    && (is_null cell || is_type_below sub bound (type_of_cell cell))
 
 -- ---- pairs, as sets of images
 
@@ -132,10 +139,12 @@ AllMapped state entries = (id image : ℕ) → image_in entries id ≡ Some imag
 
 -- what the clauses on pairs with one object and on shapes ask of an id
 abbrev pub PairsEnough : AbstractState → AbstractState → List (ℕ × ℕ) → ℕ → Type 0
-PairsEnough state target entries id = (other image other_image : ℕ) → AreMapped target entries is_no_int is_no_int id other image other_image → MayBeOne state image other_image → AreEqual target id other
+PairsEnough state target entries id = (other image other_image : ℕ)
+    → AreMapped target entries is_no_int is_no_int id other image other_image → MayBeOne state image other_image → AreEqual target id other
 
 abbrev pub IsShaped : AbstractState → AbstractState → List (ℕ × ℕ) → ℕ → Type 0
-IsShaped state target entries id = (cell : Cell) (shape : Shape) (image : ℕ) → cell_at target id ≡ Some cell → shape_of cell ≡ Some shape → image_in entries id ≡ Some image → HasIdShape shape state image
+IsShaped state target entries id = (cell : Cell) (shape : Shape) (image : ℕ) → cell_at target id ≡ Some cell
+    → shape_of cell ≡ Some shape → image_in entries id ≡ Some image → HasIdShape shape state image
 
 -- what is known once the map was tested
 pub record AreMatched (state target : AbstractState) (entries : List (ℕ × ℕ)) : Type 0 where

@@ -50,7 +50,8 @@ pub(crate) fn apart_images<P: Pairs>(
     requires entries_rise { AreKeysRising 0 entries.now }
     requires low { id < 2048 }
     requires images { (n : ℕ) → n < length entries.now → (slice_index_or entries.now n (0, 0)).1 < 2048 }
-    ensures { (image : ℕ) → (has_id result image ≡ true) ↔ IsApartImage cells.now entries.now (P.pairs pairs.now) (is_wanted sort) id image }
+    ensures { (image : ℕ) → (has_id result image ≡ true) ↔ IsApartImage cells.now entries.now (P.pairs pairs.now) (is_wanted sort)
+        id image }
 {
     let mut images = IdSet::new();
     for (place, (other, cell)) in cells.iter().enumerate() {

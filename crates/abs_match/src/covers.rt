@@ -55,7 +55,8 @@ fn is_int_within(outer: &Interval, cell: &Cell) -> bool
 /// Whether a cell is that of an instance of the class whose fields have the images of these ids.
 fn is_instance_over(entries: &[(Id, Id)], class: u32, ids: &Ids, cell: &Cell) -> bool
     requires { AreKeysRising 0 entries.now }
-    ensures { IsTrue result ↔ ((images : List ℕ) × ((cell.now ≡ Obj class images) × (map (image_in entries.now) ids.now ≡ map Some images))) }
+    ensures { IsTrue result ↔
+        ((images : List ℕ) × ((cell.now ≡ Obj class images) × (map (image_in entries.now) ids.now ≡ map Some images))) }
 {
     match cell {
         Cell::Obj(other, images) => {

@@ -1,5 +1,6 @@
 //! The map by which a state is an instance of another one, if there is one.
-ghost use Rattle.std.specs.Prelude.{◌≡◌, ◌+◌, ◌<◌, ℕ, suc, List, [], ◌∷◌, true, false, map, length, slice_set, IfOk, MatchBool, MatchOption};
+ghost use Rattle.std.specs.Prelude.{◌≡◌, ◌+◌, ◌<◌, ℕ, suc, List, [], ◌∷◌, true, false, map, length, slice_set, IfOk, MatchBool};
+ghost use Rattle.std.specs.Prelude.{MatchOption};
 ghost use Rattle.abs_cells.specs.IdSets.{has_id};
 ghost use Rattle.abs_cells.specs.Cells.{HasCell};
 ghost use Rattle.abs_cells.specs.Sound.{AreIdsRising, IsWellFormed};
@@ -49,7 +50,10 @@ fn visit<P: Pairs>(
     requires rising { AreIdsRising 0 target.now.cells }
     requires searching { IsSearching state.now target.now met.old entries.old.items ((id, image) ∷ todo.old.0) }
     requires fresh { has_id met.old id ≡ false }
-    ensures { IfOk result (λ done. MatchBool done (IsSearching state.now target.now met.new entries.new.items todo.new.0 × (length todo.new.0 + still names_count target.now.cells met.new < suc (length todo.old.0) + still names_count target.now.cells met.old)) (NoneMatches state.now target.now)) }
+    ensures { IfOk result
+        (λ done. MatchBool done (IsSearching state.now target.now met.new entries.new.items todo.new.0
+        × (length todo.new.0 + still names_count target.now.cells met.new < suc (length todo.old.0) + still names_count
+        target.now.cells met.old)) (NoneMatches state.now target.now)) }
 {
     let Some(cell) = cell_of(target.cells(), id) else {
         return Ok(false);
@@ -78,7 +82,10 @@ fn take_pair<P: Pairs>(
     requires good { IsWellFormed state.now }
     requires rising { AreIdsRising 0 target.now.cells }
     requires searching { IsSearching state.now target.now met.old entries.old.items ((id, image) ∷ todo.old.0) }
-    ensures { IfOk result (λ done. MatchBool done (IsSearching state.now target.now met.new entries.new.items todo.new.0 × (length todo.new.0 + still names_count target.now.cells met.new < suc (length todo.old.0) + still names_count target.now.cells met.old)) (NoneMatches state.now target.now)) }
+    ensures { IfOk result
+        (λ done. MatchBool done (IsSearching state.now target.now met.new entries.new.items todo.new.0
+        × (length todo.new.0 + still names_count target.now.cells met.new < suc (length todo.old.0) + still names_count
+        target.now.cells met.old)) (NoneMatches state.now target.now)) }
 {
     if met.has(id) {
         return Ok(true);
@@ -97,7 +104,8 @@ fn take_all<P: Pairs>(
     requires good { IsWellFormed state.now }
     requires rising { AreIdsRising 0 target.now.cells }
     requires searching { IsSearching state.now target.now met.old entries.old.items todo.old.0 }
-    ensures { IfOk result (λ done. MatchBool done (IsSearching state.now target.now met.new entries.new.items []) (NoneMatches state.now target.now)) }
+    ensures { IfOk result (λ done. MatchBool done (IsSearching state.now target.now met.new entries.new.items [])
+        (NoneMatches state.now target.now)) }
 {
     while let Some((id, image)) = todo.pop() {
         if !take_pair(state, target, met, entries, todo, id, image)? {
@@ -115,7 +123,8 @@ fn only_match<P: Pairs>(
 ) -> Result<Option<Vec<(Id, Id)>>, AllocError>
     requires good { IsWellFormed state.now }
     requires reached { (id : ℕ) → HasCell (λ _. true) target.now id → IsReached target.now id }
-    ensures { IfOk result (λ found. MatchOption found (NoneMatches state.now target.now) (λ map. IsOnlyMatch state.now target.now map.items)) }
+    ensures { IfOk result
+        (λ found. MatchOption found (NoneMatches state.now target.now) (λ map. IsOnlyMatch state.now target.now map.items)) }
 {
     if !ids_rise(target.cells()) {
         return Ok(None);
@@ -149,7 +158,8 @@ pub fn find_map<T: Types, P: Pairs>(
 ) -> Result<Option<Vec<(Id, Id)>>, AllocError>
     requires good { IsWellFormed a.now }
     requires reached { (id : ℕ) → HasCell (λ _. true) b.now id → IsReached b.now id }
-    ensures { IfOk result (λ found. MatchOption found ((entries : List (ℕ × ℕ)) → InstanceOf (T.sub types.now) a.now b.now entries → ⊥) (λ map. InstanceOf (T.sub types.now) a.now b.now map.items)) }
+    ensures { IfOk result (λ found. MatchOption found ((entries : List (ℕ × ℕ)) → InstanceOf (T.sub types.now) a.now b.now entries
+        → ⊥) (λ map. InstanceOf (T.sub types.now) a.now b.now map.items)) }
 {
     let Some(map) = only_match(alloc, a, b)? else {
         return Ok(None);

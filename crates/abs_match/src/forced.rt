@@ -6,7 +6,8 @@ ghost use Rattle.jvm_values.specs.declared.types.Ty.{Ty};
 ghost use Rattle.abs_cells.specs.Cells.{ids_in};
 ghost use Rattle.abs_cells.specs.Sound.{given_ids, ids_of_frame};
 ghost use Rattle.abs_reach.specs.Reached.{positions};
-ghost use Rattle.abs_match.specs.Forced.{ArePut, NoneDoes, fields_of, stacked, numbers_length, array_length, place_asks, locals_ask, entries_ask, frame_asks, frames_ask, state_asks, fields_ask, cell_asks};
+ghost use Rattle.abs_match.specs.Forced.{ArePut, NoneDoes, fields_of, stacked, numbers_length, array_length, place_asks, locals_ask};
+ghost use Rattle.abs_match.specs.Forced.{entries_ask, frame_asks, frames_ask, state_asks, fields_ask, cell_asks};
 
 use crate::places::{entry_at, local_at};
 use abs_cells::{AbsFrame, AbsState, Cell, Id, Ids, Pairs};
@@ -28,7 +29,9 @@ fn put(todo: &mut Todo, id: Id, image: Id) -> Result<(), AllocError>
 
 /// Adds the pair of two places, where the one of the target has an id; false if the other one has none.
 fn put_place(todo: &mut Todo, theirs: Option<Id>, ours: Option<Id>) -> Result<bool, AllocError>
-    ensures puts { IfOk result (λ done. MatchBool done (ArePut (place_asks theirs ours) (given_ids (theirs ∷ [])) todo.old.0 todo.new.0) (NoneDoes (place_asks theirs ours))) }
+    ensures puts { IfOk result
+        (λ done. MatchBool done (ArePut (place_asks theirs ours) (given_ids (theirs ∷ [])) todo.old.0 todo.new.0)
+        (NoneDoes (place_asks theirs ours))) }
     ensures few { length todo.new.0 ≤ length todo.old.0 + 1 }
 {
     let Some(id) = theirs else {
@@ -47,7 +50,9 @@ fn put_locals(
     theirs: &[Option<Id>],
     ours: &[Option<Id>],
 ) -> Result<bool, AllocError>
-    ensures { IfOk result (λ done. MatchBool done (ArePut (locals_ask theirs.now ours.now) (given_ids theirs.now) todo.old.0 todo.new.0) (NoneDoes (locals_ask theirs.now ours.now))) }
+    ensures { IfOk result
+        (λ done. MatchBool done (ArePut (locals_ask theirs.now ours.now) (given_ids theirs.now) todo.old.0 todo.new.0)
+        (NoneDoes (locals_ask theirs.now ours.now))) }
 {
     for n in 0..theirs.len() {
         if !put_place(todo, theirs[n], local_at(ours, n))? {
@@ -59,7 +64,8 @@ fn put_locals(
 
 /// Adds the pairs of the entries of stacks.
 fn put_entries(todo: &mut Todo, theirs: &[Id], ours: &[Id]) -> Result<bool, AllocError>
-    ensures { IfOk result (λ done. MatchBool done (ArePut (entries_ask theirs.now ours.now) theirs.now todo.old.0 todo.new.0) (NoneDoes (entries_ask theirs.now ours.now))) }
+    ensures { IfOk result (λ done. MatchBool done (ArePut (entries_ask theirs.now ours.now) theirs.now todo.old.0 todo.new.0)
+        (NoneDoes (entries_ask theirs.now ours.now))) }
 {
     for n in 0..theirs.len() {
         if !put_place(todo, Some(theirs[n]), entry_at(ours, n))? {
@@ -71,7 +77,9 @@ fn put_entries(todo: &mut Todo, theirs: &[Id], ours: &[Id]) -> Result<bool, Allo
 
 /// Adds the pairs of frames that stand at one place.
 fn put_frame(todo: &mut Todo, theirs: &AbsFrame, ours: &AbsFrame) -> Result<bool, AllocError>
-    ensures { IfOk result (λ done. MatchBool done (ArePut (frame_asks theirs.now ours.now) (ids_of_frame theirs.now) todo.old.0 todo.new.0) (NoneDoes (frame_asks theirs.now ours.now))) }
+    ensures { IfOk result
+        (λ done. MatchBool done (ArePut (frame_asks theirs.now ours.now) (ids_of_frame theirs.now) todo.old.0 todo.new.0)
+        (NoneDoes (frame_asks theirs.now ours.now))) }
 {
     if !put_locals(todo, theirs.locals(), ours.locals())? {
         return Ok(false);
@@ -82,7 +90,9 @@ fn put_frame(todo: &mut Todo, theirs: &AbsFrame, ours: &AbsFrame) -> Result<bool
 /// Adds the pairs of all frames, from the bottom up.
 fn put_frames(todo: &mut Todo, theirs: &[AbsFrame], ours: &[AbsFrame]) -> Result<bool, AllocError>
     requires { length ours.now ≡ length theirs.now }
-    ensures { IfOk result (λ done. MatchBool done (ArePut (frames_ask theirs.now ours.now) (flat_map ids_of_frame theirs.now) todo.old.0 todo.new.0) (NoneDoes (frames_ask theirs.now ours.now))) }
+    ensures { IfOk result
+        (λ done. MatchBool done (ArePut (frames_ask theirs.now ours.now) (flat_map ids_of_frame theirs.now) todo.old.0 todo.new.0)
+        (NoneDoes (frames_ask theirs.now ours.now))) }
 {
     for f in 0..theirs.len() {
         if !put_frame(todo, &theirs[f], &ours[f])? {
@@ -98,7 +108,10 @@ pub(crate) fn put_positions<P: Pairs>(
     state: &AbsState<P>,
     target: &AbsState<P>,
 ) -> Result<bool, AllocError>
-    ensures { (sub : Ty → Ty → Bool) → IfOk result (λ done. MatchBool done (ArePut (state_asks sub state.now target.now) (positions target.now) todo.old.0 todo.new.0) (NoneDoes (state_asks sub state.now target.now))) }
+    ensures { (sub : Ty → Ty → Bool)
+        → IfOk result (λ done. MatchBool done
+        (ArePut (state_asks sub state.now target.now) (positions target.now) todo.old.0 todo.new.0)
+        (NoneDoes (state_asks sub state.now target.now))) }
 {
     if !are_same_heads(state.frames(), target.frames()) {
         return Ok(false);
@@ -111,7 +124,9 @@ pub(crate) fn put_positions<P: Pairs>(
 
 /// Adds the pairs of two lists of ids; false if they are not of one length.
 fn put_all(todo: &mut Todo, ids: &[Id], images: &[Id]) -> Result<bool, AllocError>
-    ensures { IfOk result (λ done. MatchBool done ((length ids.now ≡ length images.now) × (todo.new.0 ≡ stacked ids.now images.now todo.old.0)) (length ids.now ≡ length images.now → ⊥)) }
+    ensures { IfOk result
+        (λ done. MatchBool done ((length ids.now ≡ length images.now) × (todo.new.0 ≡ stacked ids.now images.now todo.old.0))
+        (length ids.now ≡ length images.now → ⊥)) }
 {
     if ids.len() != images.len() {
         return Ok(false);
@@ -135,7 +150,9 @@ fn fields_of(cell: &Cell) -> Option<&Ids>
 
 /// Adds the pairs of an instance's fields; false if the other cell is no instance with as many.
 fn put_fields(todo: &mut Todo, ids: &[Id], below: &Cell) -> Result<bool, AllocError>
-    ensures { IfOk result (λ done. MatchBool done (ArePut (fields_ask ids.now below.now) ids.now todo.old.0 todo.new.0 × (length todo.new.0 ≤ length todo.old.0 + length ids.now)) (NoneDoes (fields_ask ids.now below.now))) }
+    ensures { IfOk result
+        (λ done. MatchBool done (ArePut (fields_ask ids.now below.now) ids.now todo.old.0 todo.new.0
+        × (length todo.new.0 ≤ length todo.old.0 + length ids.now)) (NoneDoes (fields_ask ids.now below.now))) }
 {
     let Some(images) = fields_of(below) else {
         return Ok(false);
@@ -166,7 +183,9 @@ fn array_length(cell: &Cell) -> Option<Id>
 
 /// Adds the pairs that a cell of the target and the one of its image name; false if the cells are of two forms.
 pub(crate) fn put_named(todo: &mut Todo, cell: &Cell, below: &Cell) -> Result<bool, AllocError>
-    ensures { (sub : Ty → Ty → Bool) → IfOk result (λ done. MatchBool done (ArePut (cell_asks sub cell.now below.now) (ids_in cell.now) todo.old.0 todo.new.0 × (length todo.new.0 ≤ length todo.old.0 + length (ids_in cell.now))) (NoneDoes (cell_asks sub cell.now below.now))) }
+    ensures { (sub : Ty → Ty → Bool)
+        → IfOk result (λ done. MatchBool done (ArePut (cell_asks sub cell.now below.now) (ids_in cell.now) todo.old.0 todo.new.0
+        × (length todo.new.0 ≤ length todo.old.0 + length (ids_in cell.now))) (NoneDoes (cell_asks sub cell.now below.now))) }
 {
     match cell {
         Cell::Obj(_class, ids) => put_fields(todo, ids.as_slice(), below),

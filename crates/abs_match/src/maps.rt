@@ -72,7 +72,8 @@ fn without_cell(cells: &[(Id, Cell)], id: Id, image: Id) -> Option<Id>
 pub(crate) fn least_unmapped(cells: &[(Id, Cell)], entries: &[(Id, Id)]) -> Option<Id>
     requires keys { AreKeysRising 0 entries.now }
     requires rising { AreIdsRising 0 cells.now }
-    ensures { IsLeastOf (λ id. (image : ℕ) → image_in entries.now id ≡ Some image → is_of_sort (λ _. true) (cell_in cells.now image) ≡ true) result }
+    ensures { IsLeastOf (λ id. (image : ℕ) → image_in entries.now id ≡ Some image
+        → is_of_sort (λ _. true) (cell_in cells.now image) ≡ true) result }
 {
     let mut least = None;
     for (id, image) in entries {

@@ -72,7 +72,8 @@ fn meets_enough<P: Pairs>(
     requires matched { AreMatched state.now target.now entries.now }
     requires is { HasCell is_hazy target.now id }
     requires maps { image_in entries.now id ≡ Some image }
-    ensures { IsTrue result ↔ ((other other_image : ℕ) → AreMapped target.now entries.now is_hazy is_hazy id other image other_image → MayMeet state.now image other_image → Share target.now id other) }
+    ensures { IsTrue result ↔ ((other other_image : ℕ) → AreMapped target.now entries.now is_hazy is_hazy id other image other_image
+        → MayMeet state.now image other_image → Share target.now id other) }
 {
     let others = apart_images(target.cells(), entries, target.share(), OtherSort::Hazy, id);
     !may_meet_some(state, image, &others, marks)
@@ -90,7 +91,9 @@ fn holds_enough<P: Pairs>(
     requires matched { AreMatched state.now target.now entries.now }
     requires is { HasCell is_hazy target.now id }
     requires maps { image_in entries.now id ≡ Some image }
-    ensures { IsTrue result ↔ ((other other_image : ℕ) → AreMapped target.now entries.now is_hazy is_known id other image other_image → MayBeIn state.now other_image image → Share target.now id other) }
+    ensures { IsTrue result ↔ ((other other_image : ℕ)
+        → AreMapped target.now entries.now is_hazy is_known id other image other_image → MayBeIn state.now other_image image
+        → Share target.now id other) }
 {
     let others = apart_images(
         target.cells(),
@@ -114,7 +117,9 @@ fn is_in_enough<P: Pairs>(
     requires matched { AreMatched state.now target.now entries.now }
     requires is { HasCell is_known target.now id }
     requires maps { image_in entries.now id ≡ Some image }
-    ensures { IsTrue result ↔ ((other other_image : ℕ) → AreMapped target.now entries.now is_known is_hazy id other image other_image → MayBeIn state.now image other_image → Share target.now id other) }
+    ensures { IsTrue result ↔ ((other other_image : ℕ)
+        → AreMapped target.now entries.now is_known is_hazy id other image other_image → MayBeIn state.now image other_image
+        → Share target.now id other) }
 {
     let others = apart_images(target.cells(), entries, target.share(), OtherSort::Hazy, id);
     !may_be_in_some(state, image, &others, marks)

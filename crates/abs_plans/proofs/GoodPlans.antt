@@ -25,7 +25,8 @@ use Rattle.abs_plans.specs.Planning.{plan_here, plan_in, plan_of}
 use Rattle.abs_turns.specs.Turns.{Here}
 use Rattle.abs_turns.specs.GoodPlans.{IsThere, HoldsIds, IsGoodPlan}
 use Rattle.abs_plans.proofs.WellFormed.{frames_there, thrown_there}
-use Rattle.abs_plans.proofs.GoodRows.{NamesClasses, form_fine, throwing_fine}
+use Rattle.abs_plans.proofs.SplitPlans.{NamesClasses}
+use Rattle.abs_plans.proofs.GoodRows.{form_fine, throwing_fine}
 
 -- ---- forms
 
@@ -51,18 +52,28 @@ frame_holds state frame a = record {
 }
 
 pub frames_hold : (state : AbstractState) → IsWellFormed state → AllByRecursion (HoldsIds state) state.frames
-frames_hold state good = all_weaker (λ frame. AllByRecursion (IsThere state) (ids_of_frame frame)) (HoldsIds state) (frame_holds state) state.frames (frames_there state good)
+frames_hold state good = all_weaker (λ frame. AllByRecursion (IsThere state) (ids_of_frame frame)) (HoldsIds state)
+    (frame_holds state) state.frames (frames_there state good)
 
 -- ---- plans
 
-module _ (p : Program) (typing : ℕ → CodeTypes) (state : AbstractState) (is_good : IsGood p) (sound : IsSound (types_of p.world) state) where
+module _ (p : Program) (typing : ℕ → CodeTypes) (state : AbstractState) (is_good : IsGood p)
+    (sound : IsSound (types_of p.world) state) where
   at_form : (frame : AbstractFrame) (below : List AbstractFrame) → HoldsIds state frame → AllByRecursion (HoldsIds state) below
       → (form : Option Form) (next : Option ℕ) (there : Option PlaceTypes) → IfSome form (NamesClasses (types_of p.world))
       → IsGoodPlan (types_of p.world) state (plan_here p typing state frame below form next there)
   at_form frame below h b None next there n = tt
   at_form frame below h b (Some form) next None n = tt
   at_form frame below h b (Some form) next (Some there) n =
-      let here : Here = record { program = p; state = state; frame = frame; below = below; places = there.stack; next = option_map_or (λ place. place) next frame.pc } in
+      let here : Here = record {
+        program = p;
+        state = state;
+        frame = frame;
+        below = below;
+        places = there.stack;
+        next =
+            option_map_or (λ place. place) next frame.pc;
+      } in
       form_fine here sound b h form n
 
   found_names : (number pc : ℕ) (found : Option (Op × Option ℕ)) → insn_at p.methods number pc ≡ found
@@ -72,11 +83,13 @@ module _ (p : Program) (typing : ℕ → CodeTypes) (state : AbstractState) (is_
       let g = good_at p is_good number pc x.0 x.1 e in
       op_names p g.method.class x.0 g.good.named
 
-  in_mode : (thrown : Option ℕ) (frames : List AbstractFrame) → AllByRecursion (IsThere state) (given_ids (thrown ∷ [])) → AllByRecursion (HoldsIds state) frames
+  in_mode : (thrown : Option ℕ) (frames : List AbstractFrame) → AllByRecursion (IsThere state) (given_ids (thrown ∷ []))
+      → AllByRecursion (HoldsIds state) frames
       → IsGoodPlan (types_of p.world) state (plan_in p typing state thrown frames)
   in_mode None [] t h = tt
   in_mode (Some x) [] t h = tt
-  in_mode (Some x) (frame ∷ below) t h = throwing_fine (types_of p.world) state x t.0 frame h.0 below h.1 (option_map_or (λ (m : Method). m.table) (slice_get p.methods frame.method) [])
+  in_mode (Some x) (frame ∷ below) t h = throwing_fine (types_of p.world) state x t.0 frame h.0 below h.1
+      (option_map_or (λ (m : Method). m.table) (slice_get p.methods frame.method) [])
   in_mode None (frame ∷ below) t h =
       at_form frame below h.0 h.1 (option_map_or (λ (x : Op × Option ℕ). form_of x.0) (insn_at p.methods frame.method frame.pc) None)
       (option_map_or (λ (x : Op × Option ℕ). x.1) (insn_at p.methods frame.method frame.pc) None) (typing frame.method frame.pc)

@@ -1,10 +1,11 @@
 -- The plan of each form names ids that are there, and splits ids that can be split.
-use Rattle.std.proofs.Common.{◌≡◌, ◌∙◌, ◌==◌, ◌<◌, ◌+◌, eqb, ℕ, zero, suc, ℤ, pos, Bool, true, false, not, ◌&&◌, ◌||◌, if◌then◌else◌, List, [], ◌∷◌, ◌++◌, length, take, drop, reverse, map, Option, Some, None, slice_get, slice_index_or, refl, sym, ap, subst}
-use Rattle.std.specs.Prelude.{slice_set, replicate}
+use Rattle.std.proofs.Common.{◌≡◌, ◌∙◌, ◌==◌, ◌<◌, ◌+◌, eqb, ℕ, ℤ, pos, Bool, true, false, ◌&&◌, ◌||◌}
+use Rattle.std.proofs.Common.{if◌then◌else◌, List, [], ◌∷◌, ◌++◌, length, take, drop, reverse, Option, Some, None, slice_get}
+use Rattle.std.proofs.Common.{refl, sym, ap, subst}
+use Rattle.std.specs.Prelude.{slice_set}
 use Rattle.std.specs.List.{AllByRecursion, find}
 use Rattle.std.specs.Option.{option_map, option_and_then, option_map_or, option_to_list}
 use Rattle.std.proofs.lemmas.Bool.{false≢true, and_parts, ne_eqb, eqb-false}
-use Rattle.std.proofs.lemmas.List.{reverse-append}
 use Rattle.std.proofs.lemmas.Option.{none-some}
 use Rattle.list_views.proofs.Quantified.{all_joined}
 use Rattle.list_views.proofs.Options.{map_some, then_some}
@@ -14,7 +15,6 @@ use Rattle.jvm_values.specs.declared.types.Kind.{Kind}
 use Rattle.jvm_values.specs.declared.types.Ty.{Ty}
 use Rattle.jvm_values.specs.declared.types.Slot.{Slot}
 use Rattle.jvm_values.specs.declared.types.Slot.TheVariants as slots
-use Rattle.jvm_values.specs.declared.typing.PlaceType.{PlaceType}
 use Rattle.jvm_values.specs.declared.typing.PlaceType.TheVariants as places
 use Rattle.jvm_values.specs.declared.shape.Shape.{Shape}
 use Rattle.jvm_values.specs.Subtyping.{class_type}
@@ -23,10 +23,9 @@ use Rattle.jvm_values.proofs.Options.{some_is}
 use Rattle.abs_cells.specs.declared.cells.Cell.{Cell}
 use Rattle.abs_cells.specs.declared.cells.Cell.TheVariants as cells
 use Rattle.abs_cells.specs.AbstractStates.{AbstractFrame, AbstractState}
-use Rattle.abs_cells.specs.Cells.{is_int, is_known, is_of_sort, ids_in, cell_in, cell_at, HasCell}
+use Rattle.abs_cells.specs.Cells.{is_int, is_of_sort, ids_in, cell_in, cell_at, HasCell}
 use Rattle.abs_cells.specs.PairLists.{has}
-use Rattle.abs_cells.specs.Sound.{given_ids, IsWellFormed, IsSound}
-use Rattle.abs_heap.specs.Answers.{IsNullable, IsObjectBelow}
+use Rattle.abs_cells.specs.Sound.{IsWellFormed, IsSound}
 use Rattle.abs_heap.specs.Writing.{is_array_of_references}
 use Rattle.abs_ints.specs.IntIntervals.{just, meet_of}
 use Rattle.abs_ints.specs.Comparing.{related}
@@ -44,13 +43,27 @@ use Rattle.class_program.specs.declared.selected.Selected.TheVariants as answers
 use Rattle.class_program.specs.Programs.{insn_at}
 use Rattle.op_forms.specs.declared.form.Shuffle.{Shuffle as StackShuffle}
 use Rattle.op_forms.specs.Forms.{Form, shuffled}
-use Rattle.op_forms.specs.Forms.Form.{Nop, AconstNull, Iconst, Iload, Aload, Istore, Astore, Iinc, Shuffle, Arith, Ineg, Narrow, If, IfIcmp, IfAcmpeq, IfAcmpne, Ifnull, Ifnonnull, Goto, Tableswitch, Lookupswitch, Ireturn, Areturn, Return, Getstatic, Putstatic, Getfield, Putfield, Invokevirtual, Invokespecial, Invokestatic, Invokeinterface, New, Newarray, Anewarray, Arraylength, NumberLoad, Aaload, NumberStore, Aastore, Athrow, Checkcast, Instanceof}
+use Rattle.op_forms.specs.Forms.Form.{Nop, AconstNull, Iconst, Iload, Aload, Istore, Astore, Iinc, Shuffle, Arith, Ineg, Narrow, If}
+use Rattle.op_forms.specs.Forms.Form.{IfIcmp, IfAcmpeq, IfAcmpne, Ifnull, Ifnonnull, Goto, Tableswitch, Lookupswitch, Ireturn}
+use Rattle.op_forms.specs.Forms.Form.{Areturn, Return, Getstatic, Putstatic, Getfield, Putfield, Invokevirtual, Invokespecial}
+use Rattle.op_forms.specs.Forms.Form.{Invokestatic, Invokeinterface, New, Newarray, Anewarray, Arraylength, NumberLoad, Aaload}
+use Rattle.op_forms.specs.Forms.Form.{NumberStore, Aastore, Athrow, Checkcast, Instanceof}
 use Rattle.term_graph.specs.declared.links.LinkRow.{LinkRow}
-use Rattle.abs_turns.specs.Plans.{on_stack, in_local, in_bottom, in_field, Turn, Plan, steps, by_null, by_equal, no_child, no_rows}
-use Rattle.abs_turns.specs.Needs.{Passing, passes, fails, splits, passes_if, passing, passing_id, after_test, tested, operands_of, may_be_null, need_null, is_unknown, known_partner, split_unknown, split_below, need_class}
+use Rattle.abs_turns.specs.Plans.{on_stack, in_local, in_bottom, in_field, Turn, Plan, steps, by_equal, no_rows}
+use Rattle.abs_turns.specs.Needs.{Passing, passes, fails, splits, passing, operands_of}
+use Rattle.abs_turns.specs.Needs.{is_unknown}
 use Rattle.abs_turns.specs.Turns.{Here, known, id, with_stack, moves, goes_on, throws, throws_after, interval_of_id, narrowings, rows_over}
 use Rattle.abs_turns.specs.Switches.{table_keys, lookup_keys, parts_of}
-use Rattle.abs_turns.specs.Table.{types_here, place_under, cell_here, is_null_here, unless_null, accessed, local_here, step_if, store_plan, increment_plan, negation_plan, narrow_plan, switch_plan, jump_if, null_plan, equal_plan, field_id, getfield_plan, on_instance, put_slot, putfield_plan, bottom_of, bottom_with, static_local, getstatic_plan, put_static, putstatic_plan, new_plan, array_turn, natural, negative, array_plan, length_id, items_length_id, items_of, length_plan, in_bounds, out_of_bounds, access_of, number_load_plan, number_store_plan, aaload_plan, aastore_plan, Cast, checkcast_of, instanceof_of, with_bound, bounded, cell_bound, is_bound_below, may_be_below, is_known_cell, undecided, cast_plan, checkcast_plan, instanceof_plan, invokes, runs_or_lacks, receiver_of, special_plan, answered, selecting_plan, returned_to, value_plan, athrow_plan, binary, unary, row_of, taken_by, plan_of_form}
+use Rattle.abs_turns.specs.Table.{types_here, place_under, cell_here, is_null_here, unless_null, accessed, local_here, step_if}
+use Rattle.abs_turns.specs.Table.{store_plan, increment_plan, negation_plan, narrow_plan, switch_plan, jump_if, null_plan}
+use Rattle.abs_turns.specs.Table.{equal_plan, field_id, getfield_plan, on_instance, put_slot, putfield_plan, bottom_of, bottom_with}
+use Rattle.abs_turns.specs.Table.{static_local, getstatic_plan, put_static, putstatic_plan, new_plan, array_turn, natural, negative}
+use Rattle.abs_turns.specs.Table.{array_plan, length_id, items_length_id, items_of, length_plan, in_bounds, out_of_bounds}
+use Rattle.abs_turns.specs.Table.{access_of, number_load_plan, number_store_plan, aaload_plan, aastore_plan, Cast, checkcast_of}
+use Rattle.abs_turns.specs.Table.{instanceof_of, with_bound, bounded, cell_bound, is_bound_below, may_be_below, is_known_cell}
+use Rattle.abs_turns.specs.Table.{undecided, cast_plan, checkcast_plan, instanceof_plan, invokes, runs_or_lacks, receiver_of}
+use Rattle.abs_turns.specs.Table.{special_plan, answered, selecting_plan, returned_to, value_plan, athrow_plan, binary, unary}
+use Rattle.abs_turns.specs.Table.{row_of, taken_by, plan_of_form}
 use Rattle.abs_turns.specs.Throwing.{takes, handled, is_open, caught_plan, if_passes, throwing_plan}
 use Rattle.abs_turns.specs.GoodPlans.{IsThere, HoldsIds, IsChange, IsGoodAct, IsGoodTurn, IsGoodPlan}
 use Rattle.abs_turns.proofs.OptionLists.{if_there}
@@ -58,147 +71,11 @@ use Rattle.abs_turns.proofs.SoundCells.{cell_sound}
 use Rattle.abs_plans.proofs.Holding.{local_held, set_held, reordered}
 use Rattle.abs_plans.proofs.WellFormed.{names_there}
 use Rattle.abs_plans.proofs.GoodTurns as turns
+use Rattle.abs_plans.proofs.SplitPlans.{all_taken, all_dropped, all_turned, got, first_or, given_set, ids_set, either, may_be}
+use Rattle.abs_plans.proofs.SplitPlans.{need_null_good, split_below_good, need_class_good, tested_good, NamesClasses}
 
--- ---- lists
-
-all_taken : {X : Type 0} (P : X → Type 0) (n : ℕ) (xs : List X) → AllByRecursion P xs → AllByRecursion P (take n xs)
-all_taken P zero xs a = tt
-all_taken P (suc n) [] a = tt
-all_taken P (suc n) (x ∷ xs) a = (a.0, all_taken P n xs a.1)
-
-all_dropped : {X : Type 0} (P : X → Type 0) (n : ℕ) (xs : List X) → AllByRecursion P xs → AllByRecursion P (drop n xs)
-all_dropped P zero xs a = a
-all_dropped P (suc n) [] a = tt
-all_dropped P (suc n) (x ∷ xs) a = all_dropped P n xs a.1
-
-pub all_turned : {X : Type 0} (P : X → Type 0) (xs : List X) → AllByRecursion P xs → AllByRecursion P (reverse xs)
-all_turned P [] a = tt
-all_turned P (x ∷ xs) a = subst (AllByRecursion P) (sym (reverse-append (x ∷ []) xs)) (all_joined P (reverse xs) (x ∷ []) (all_turned P xs a.1) (a.0, tt))
-
-got : {X : Type 0} (P : X → Type 0) (xs : List X) (n : ℕ) (x : X) → AllByRecursion P xs → slice_get xs n ≡ Some x → P x
-got P [] n x a e = absurd (none-some x e)
-got P (y ∷ xs) zero x a e = subst P (some_is e) a.0
-got P (y ∷ xs) (suc n) x a e = got P xs n x a.1 e
-
-first_or : {X : Type 0} (P : X → Type 0) (xs : List X) (d : X) → AllByRecursion P xs → P d → P (slice_index_or xs 0 d)
-first_or P [] d a h = h
-first_or P (x ∷ xs) d a h = a.0
-
-given_set : (P : ℕ → Type 0) (ids : List ℕ) (count : ℕ) → AllByRecursion P ids → AllByRecursion P (given_ids (map Some ids ++ replicate count None))
-given_set P [] zero a = tt
-given_set P [] (suc count) a = given_set P [] count a
-given_set P (x ∷ ids) count a = (a.0, given_set P ids count a.1)
-
-found_holds : {X : Type 0} (p : X → Bool) (xs : List X) (x : X) → find p xs ≡ Some x → p x ≡ true
-found_holds p [] x e = absurd (none-some x e)
-found_holds p (y ∷ xs) x e = at (p y) refl e (λ f. found_holds p xs x f)
-  where
-    at : (b : Bool) → p y ≡ b → (if b then Some y else find p xs) ≡ Some x → (find p xs ≡ Some x → p x ≡ true) → p x ≡ true
-    at true h f rest = ap p (sym (some_is f)) ∙ h
-    at false h f rest = rest f
-
-ids_set : (P : ℕ → Type 0) (ids : List ℕ) (n x : ℕ) → AllByRecursion P ids → P x → AllByRecursion P (slice_set ids n x)
-ids_set P [] n x a p = tt
-ids_set P (y ∷ ids) zero x a p = (p, a.1)
-ids_set P (y ∷ ids) (suc n) x a p = (a.0, ids_set P ids n x a.1 p)
-
-either : (P : Plan → Type 0) (b : Bool) (one other : Plan) → (b ≡ true → P one) → (b ≡ false → P other) → P (if b then one else other)
-either P true one other h k = h refl
-either P false one other h k = k refl
-
-may_be : {X : Type 0} (P : Plan → Type 0) (f : X → Plan) (o : Option X) → ((x : X) → o ≡ Some x → P (f x)) → P no_child → P (option_map_or f o no_child)
-may_be P f None h n = n
-may_be P f (Some x) h n = h x refl
-
--- ---- splits
-
-null_split : (state : AbstractState) (x : ℕ) (found : Option Cell) → cell_at state x ≡ found → may_be_null found ≡ true → IsNullable state x
-null_split state x None e h = absurd (false≢true h)
-null_split state x (Some (cells.Int interval)) e h = absurd (false≢true h)
-null_split state x (Some cells.Null) e h = absurd (false≢true h)
-null_split state x (Some (cells.Obj class ids)) e h = absurd (false≢true h)
-null_split state x (Some (cells.Nums kind len)) e h = absurd (false≢true h)
-null_split state x (Some (cells.Refs element len shape)) e h = absurd (false≢true h)
-null_split state x (Some (cells.Unk bound nullable shape)) e h = record { bound = bound; shape = shape; is = e ∙ ap (λ (n : Bool). Some (cells.Unk bound n shape)) h }
-
-not_nullable : (n : Bool) → not n ≡ true → n ≡ false
-not_nullable true e = absurd (false≢true e)
-not_nullable false e = refl
-
-class_split : (state : AbstractState) (x : ℕ) (found : Option Cell) → cell_at state x ≡ found → is_unknown found ≡ true → IsObjectBelow state x
-class_split state x None e h = absurd (false≢true h)
-class_split state x (Some (cells.Int interval)) e h = absurd (false≢true h)
-class_split state x (Some cells.Null) e h = absurd (false≢true h)
-class_split state x (Some (cells.Obj class ids)) e h = absurd (false≢true h)
-class_split state x (Some (cells.Nums kind len)) e h = absurd (false≢true h)
-class_split state x (Some (cells.Refs element len shape)) e h = absurd (false≢true h)
-class_split state x (Some (cells.Unk bound nullable shape)) e h =
-    record { bound = bound; shape = shape; is = e ∙ ap (λ (n : Bool). Some (cells.Unk bound n shape)) (not_nullable nullable h) }
-
-no_splits : (b : Bool) → passes_if b fails ≡ splits → ⊥
-no_splits true e = cc
-no_splits false e = cc
-
-nullable_splits : (b nullable : Bool) → passes_if b (if nullable then splits else fails) ≡ splits → nullable ≡ true
-nullable_splits true nullable e = cc
-nullable_splits false true e = refl
-nullable_splits false false e = cc
-
-operand_split : (types : WorldTypes) (state : AbstractState) (place : PlaceType) (x : ℕ) (found : Option Cell) → cell_at state x ≡ found
-    → option_map_or (passing types place) found passes ≡ splits → IsNullable state x
-operand_split types state place x None e h = cc
-operand_split types state place x (Some (cells.Int interval)) e h = cc
-operand_split types state place x (Some cells.Null) e h = cc
-operand_split types state place x (Some (cells.Obj class ids)) e h = absurd (no_splits _ h)
-operand_split types state place x (Some (cells.Nums kind len)) e h = absurd (no_splits _ h)
-operand_split types state place x (Some (cells.Refs element len shape)) e h = absurd (no_splits _ h)
-operand_split types state place x (Some (cells.Unk bound nullable shape)) e h =
-    record { bound = bound; shape = shape; is = e ∙ ap (λ (n : Bool). Some (cells.Unk bound n shape)) (nullable_splits _ nullable h) }
-
-module _ (types : WorldTypes) (state : AbstractState) where
-  abbrev GoodPlan : Plan → Type 0
-  GoodPlan = IsGoodPlan types state
-
-  need_null_good : (x : ℕ) (plan : Plan) → GoodPlan plan → GoodPlan (need_null state x plan)
-  need_null_good x plan h = either GoodPlan (may_be_null (cell_at state x)) (by_null x) plan (null_split state x (cell_at state x) refl) (λ e. h)
-
-  known_apart : (x y : ℕ) → IsObjectBelow state x → is_of_sort is_known (cell_at state y) ≡ true → x ≡ y → ⊥
-  known_apart x y below h e = false≢true (sym (ap (is_of_sort is_known) (ap (cell_at state) (sym e) ∙ below.is)) ∙ h)
-
-  pub split_below_good : (x : ℕ) (place : PlaceType) → is_unknown (cell_at state x) ≡ true → GoodPlan (split_below state x place)
-  split_below_good x places.Unset u = tt
-  split_below_good x places.Int u = tt
-  split_below_good x places.Null u = tt
-  split_below_good x (places.Ref t) u = at (known_partner state x) refl
-    where
-      at : (found : Option ℕ) → known_partner state x ≡ found → GoodPlan (split_unknown x t found)
-      at None e = class_split state x (cell_at state x) refl u
-      at (Some y) e =
-          let both = and_parts (is_of_sort is_known (cell_at state y)) (has x y state.eq)
-          (found_holds (λ (other : ℕ). is_of_sort is_known (cell_at state other) && has x other state.eq) (map (λ (c : ℕ × Cell). c.0) state.cells) y e) in
-          (both.1, known_apart x y (class_split state x (cell_at state x) refl u) both.0)
-
-  need_class_good : (x : ℕ) (place : PlaceType) (plan : Plan) → GoodPlan plan → GoodPlan (need_class state x place plan)
-  need_class_good x place plan h = either GoodPlan (is_unknown (cell_at state x)) (split_below state x place) plan (split_below_good x place) (λ e. h)
-
-  tested_good : (operands : List (PlaceType × ℕ)) (plan : Plan) → GoodPlan plan → GoodPlan (tested types state operands plan)
-  tested_good [] plan h = h
-  tested_good (operand ∷ operands) plan h = at (passing_id types state operand.0 operand.1) refl (tested_good operands plan h)
-    where
-      at : (passing : Passing) → passing_id types state operand.0 operand.1 ≡ passing → GoodPlan (tested types state operands plan)
-          → GoodPlan (after_test passing operand.1 (tested types state operands plan))
-      at passes e k = k
-      at fails e k = tt
-      at splits e k = operand_split types state operand.0 operand.1 (cell_at state operand.1) refl e
-
--- ---- rows
-
--- a class that is made is one of the world's
-abbrev pub NamesClasses : WorldTypes → Form → Type 0
-NamesClasses types (New t) = (class : ℕ) × ((t ≡ class_type class) × (class < types.classes))
-NamesClasses types _ = Unit {0}
-
-module _ (here : Here) (sound : IsSound (types_here here) here.state) (below_held : AllByRecursion (HoldsIds here.state) here.below) (held : HoldsIds here.state here.frame) where
+module _ (here : Here) (sound : IsSound (types_here here) here.state) (below_held : AllByRecursion (HoldsIds here.state) here.below)
+    (held : HoldsIds here.state here.frame) where
   abbrev Types : WorldTypes
   Types = types_here here
 
@@ -217,7 +94,8 @@ module _ (here : Here) (sound : IsSound (types_here here) here.state) (below_hel
   goes : (place : ℕ) (stack : List ℕ) → AllByRecursion Holds stack → Good (goes_on here place stack)
   goes = turns.goes_good Types here below_held held
 
-  stack_fine : (place : ℕ) (stack : List ℕ) → AllByRecursion Holds stack → AllByRecursion (HoldsIds here.state) (with_stack here place stack)
+  stack_fine : (place : ℕ) (stack : List ℕ) → AllByRecursion Holds stack
+      → AllByRecursion (HoldsIds here.state) (with_stack here place stack)
   stack_fine = turns.stack_held Types here below_held held
 
   thrown_one : (class : ℕ) → Fine (steps (throws here class ∷ []))
@@ -227,7 +105,8 @@ module _ (here : Here) (sound : IsSound (types_here here) here.state) (below_hel
   unless_null_fine x plan h = either Fine (is_null_here here x) _ plan (λ e. thrown_one _) (λ e. h)
 
   accessed_fine : (depth x : ℕ) (plan : Plan) → Fine plan → Fine (accessed here depth x plan)
-  accessed_fine depth x plan h = need_null_good Types here.state x _ (need_class_good Types here.state x (place_under here depth) _ (unless_null_fine x plan h))
+  accessed_fine depth x plan h = need_null_good Types here.state x _
+      (need_class_good Types here.state x (place_under here depth) _ (unless_null_fine x plan h))
 
   found_local : (n x : ℕ) → local_here here n ≡ Some x → Holds x
   found_local n x e =
@@ -246,26 +125,30 @@ module _ (here : Here) (sound : IsSound (types_here here) here.state) (below_hel
   store_fine n [] s = tt
   store_fine n (x ∷ stack) s = (
     turns.moves_good Types here below_held held _
-        (turns.frames_held Types here below_held held here.next (slice_set here.frame.locals n (Some x)) stack (set_held Holds here.frame.locals n x held.locals s.0) s.1),
+        (turns.frames_held Types here below_held held here.next (slice_set here.frame.locals n (Some x)) stack
+        (set_held Holds here.frame.locals n x held.locals s.0) s.1),
     tt,
   )
 
   increment_fine : (n : ℕ) (by : ℤ) (found : Option ℕ) → ((x : ℕ) → found ≡ Some x → Holds x) → Fine (increment_plan here n by found)
   increment_fine n by None h = tt
   increment_fine n by (Some x) h =
-      turns.operator_good Types here below_held held Add (id x) (known by) (with_stack here here.next here.frame.stack) (in_local n) (h x refl) tt
+      turns.operator_good Types here below_held held Add (id x) (known by) (with_stack here here.next here.frame.stack) (in_local n)
+      (h x refl) tt
       (stack_fine here.next here.frame.stack held.stack) (λ r narrowed. refl)
 
   negation_fine : (stack : List ℕ) → AllByRecursion Holds stack → Fine (negation_plan here stack)
   negation_fine [] s = tt
   negation_fine (a ∷ stack) s =
-      turns.operator_good Types here below_held held Sub (known (pos 0)) (id a) (with_stack here here.next stack) on_stack tt s.0 (stack_fine here.next stack s.1)
+      turns.operator_good Types here below_held held Sub (known (pos 0)) (id a) (with_stack here here.next stack) on_stack tt s.0
+      (stack_fine here.next stack s.1)
       (λ r narrowed. refl)
 
   narrow_fine : (kind : Kind) (stack : List ℕ) → AllByRecursion Holds stack → Fine (narrow_plan here kind stack)
   narrow_fine kind [] s = tt
   narrow_fine kind (a ∷ stack) s =
-      turns.kinds_good Types here below_held held kind a (goes_on here here.next (a ∷ stack)) (with_stack here here.next stack) on_stack (goes here.next (a ∷ stack) s)
+      turns.kinds_good Types here below_held held kind a (goes_on here here.next (a ∷ stack)) (with_stack here here.next stack)
+      on_stack (goes here.next (a ∷ stack) s)
       (stack_fine here.next stack s.1) (λ r narrowed. refl)
 
   shuffle_fine : (shuffle : StackShuffle) → Fine (row_of here (Shuffle shuffle))
@@ -274,7 +157,8 @@ module _ (here : Here) (sound : IsSound (types_here here) here.state) (below_hel
       let m = map_some (goes_on here here.next) (shuffled shuffle here.frame.stack) turn e in
       subst Good m.1.1 (goes here.next m.0 (reordered Holds shuffle here.frame.stack m.0 held.stack m.1.0)))
 
-  switched_fine : (default : ℕ) (keys : List (ℤ × ℕ)) (stack : List ℕ) → AllByRecursion Holds stack → Fine (switch_plan here default keys stack)
+  switched_fine : (default : ℕ) (keys : List (ℤ × ℕ)) (stack : List ℕ) → AllByRecursion Holds stack
+      → Fine (switch_plan here default keys stack)
   switched_fine default keys [] s = tt
   switched_fine default keys (a ∷ stack) s = turns.switch_good Types here below_held held a stack (parts_of default keys) s.0 s.1
 
@@ -306,7 +190,8 @@ module _ (here : Here) (sound : IsSound (types_here here) here.state) (below_hel
       need_null_good Types here.state a _ (need_null_good Types here.state b _ (
       either Fine (is_null_here here a && is_null_here here b) _ _ (λ e. jump_fine wanted true place stack s.1.1) (λ e.
       either Fine (is_null_here here a || is_null_here here b) _ _ (λ f. jump_fine wanted false place stack s.1.1) (λ f.
-      either Fine (has a b here.state.eq) (by_equal a b) _ (λ h. (h, eqb-false a b apart)) (λ h. jump_fine wanted false place stack s.1.1))))))
+      either Fine (has a b here.state.eq) (by_equal a b) _ (λ h. (h, eqb-false a b apart))
+      (λ h. jump_fine wanted false place stack s.1.1))))))
 
   -- ---- fields
 
@@ -324,24 +209,35 @@ module _ (here : Here) (sound : IsSound (types_here here) here.state) (below_hel
 
   getfield_fine : (used : FieldUse) (stack : List ℕ) → AllByRecursion Holds stack → Fine (getfield_plan here used stack)
   getfield_fine used [] s = tt
-  getfield_fine used (k ∷ stack) s = accessed_fine 0 k _ (pushed_fine (field_id (cell_here here k) used.place) stack (λ x. field_held k used.place x (cell_here here k) refl) s.1)
+  getfield_fine used (k ∷ stack) s = accessed_fine 0 k _
+      (pushed_fine (field_id (cell_here here k) used.place) stack (λ x. field_held k used.place x (cell_here here k) refl) s.1)
 
   put_fine : (slot : Slot) (k place x : ℕ) (stack : List ℕ) → Holds k → Holds x → AllByRecursion Holds stack → (class : ℕ) (ids : List ℕ)
       → cell_at here.state k ≡ Some (cells.Obj class ids) → Fine (put_slot here slot k place x stack class ids)
   put_fine (slots.Num kind) k place x stack hk hx s class ids e =
       turns.kinds_good Types here below_held held kind x
-      (record (moves (with_stack here here.next stack)) { changed = (k, cells.Obj class (slice_set ids place x)) ∷ [] }) (with_stack here here.next stack)
+      (record (moves (with_stack here here.next stack)) { changed = (k, cells.Obj class (slice_set ids place x)) ∷ [] })
+      (with_stack here here.next stack)
       (in_field k place)
       (record {
-        changed = (record { old = record { cell = cells.Obj class ids; is = e; sort_is = refl }; names = ids_set Holds ids place x (named k (cells.Obj class ids) e) hx }, tt);
+        changed = (
+          record {
+            old = record { cell = cells.Obj class ids; is = e; sort_is = refl };
+            names = ids_set Holds ids place x
+                (named k (cells.Obj class ids) e) hx;
+          },
+          tt,
+        );
         frames = stack_fine here.next stack s;
         thrown = tt;
         act = tt;
       })
       (stack_fine here.next stack s) (λ r narrowed. refl)
-  put_fine (slots.Ref t) k place x stack hk hx s class ids e = (record { changed = tt; frames = stack_fine here.next stack s; thrown = tt; act = (hk, hx) }, tt)
+  put_fine (slots.Ref t) k place x stack hk hx s class ids e =
+      (record { changed = tt; frames = stack_fine here.next stack s; thrown = tt; act = (hk, hx) }, tt)
 
-  on_instance_fine : (k : ℕ) (found : Option Cell) (plan : ℕ → List ℕ → Plan) → ((class : ℕ) (ids : List ℕ) → found ≡ Some (cells.Obj class ids) → Fine (plan class ids))
+  on_instance_fine : (k : ℕ) (found : Option Cell) (plan : ℕ → List ℕ → Plan)
+      → ((class : ℕ) (ids : List ℕ) → found ≡ Some (cells.Obj class ids) → Fine (plan class ids))
       → Fine (on_instance found plan)
   on_instance_fine k None plan h = tt
   on_instance_fine k (Some (cells.Int interval)) plan h = tt
@@ -354,12 +250,14 @@ module _ (here : Here) (sound : IsSound (types_here here) here.state) (below_hel
   putfield_fine : (used : FieldUse) (stack : List ℕ) → AllByRecursion Holds stack → Fine (putfield_plan here used stack)
   putfield_fine used [] s = tt
   putfield_fine used (x ∷ []) s = tt
-  putfield_fine used (x ∷ k ∷ stack) s = accessed_fine 1 k _ (on_instance_fine k (cell_here here k) _ (put_fine used.slot k used.place x stack s.1.0 s.0 s.1.1))
+  putfield_fine used (x ∷ k ∷ stack) s = accessed_fine 1 k _
+      (on_instance_fine k (cell_here here k) _ (put_fine used.slot k used.place x stack s.1.0 s.0 s.1.1))
 
   -- ---- static fields
 
   bottom_held : HoldsIds here.state (bottom_of here)
-  bottom_held = first_or (HoldsIds here.state) (reverse (here.frame ∷ here.below)) here.frame (all_turned (HoldsIds here.state) (here.frame ∷ here.below) (held, below_held)) held
+  bottom_held = first_or (HoldsIds here.state) (reverse (here.frame ∷ here.below)) here.frame
+      (all_turned (HoldsIds here.state) (here.frame ∷ here.below) (held, below_held)) held
 
   getstatic_fine : (place : ℕ) → Fine (getstatic_plan here place)
   getstatic_fine place =
@@ -367,27 +265,36 @@ module _ (here : Here) (sound : IsSound (types_here here) here.state) (below_hel
       let m = then_some (λ (local : Option ℕ). local) (slice_get (bottom_of here).locals (static_local here place)) x e in
       local_held Holds (bottom_of here).locals (static_local here place) x bottom_held.locals (m.1.0 ∙ ap Some m.1.1)) held.stack
 
-  bottom_set : (n x : ℕ) (frames : List AbstractFrame) → Holds x → AllByRecursion (HoldsIds here.state) frames → AllByRecursion (HoldsIds here.state) (bottom_with n x frames)
+  bottom_set : (n x : ℕ) (frames : List AbstractFrame) → Holds x → AllByRecursion (HoldsIds here.state) frames
+      → AllByRecursion (HoldsIds here.state) (bottom_with n x frames)
   bottom_set n x [] h a = tt
   bottom_set n x (frame ∷ []) h a = (record { locals = set_held Holds frame.locals n x a.0.locals h; stack = a.0.stack }, tt)
   bottom_set n x (frame ∷ next ∷ rest) h a = (a.0, bottom_set n x (next ∷ rest) h a.1)
 
   put_static_fine : (slot : Slot) (n x : ℕ) (stack : List ℕ) → Holds x → AllByRecursion Holds stack → Fine (put_static here slot n x stack)
   put_static_fine (slots.Num kind) n x stack h s =
-      turns.kinds_good Types here below_held held kind x (moves (bottom_with n x (with_stack here here.next stack))) (with_stack here here.next stack) (in_bottom n)
-      (turns.moves_good Types here below_held held _ (bottom_set n x (with_stack here here.next stack) h (stack_fine here.next stack s))) (stack_fine here.next stack s)
+      turns.kinds_good Types here below_held held kind x (moves (bottom_with n x (with_stack here here.next stack)))
+      (with_stack here here.next stack) (in_bottom n)
+      (turns.moves_good Types here below_held held _
+      (bottom_set n x (with_stack here here.next stack) h (stack_fine here.next stack s))) (stack_fine here.next stack s)
       (λ r narrowed. refl)
-  put_static_fine (slots.Ref t) n x stack h s = (turns.moves_good Types here below_held held _ (bottom_set n x (with_stack here here.next stack) h (stack_fine here.next stack s)), tt)
+  put_static_fine (slots.Ref t) n x stack h s = (
+    turns.moves_good Types here below_held held _
+        (bottom_set n x (with_stack here here.next stack) h (stack_fine here.next stack s)),
+    tt,
+  )
 
   putstatic_fine : (place : ℕ) (stack : List ℕ) → AllByRecursion Holds stack → Fine (putstatic_plan here place stack)
   putstatic_fine place [] s = tt
-  putstatic_fine place (x ∷ stack) s = may_be Fine _ (slice_get here.program.statics place) (λ field e. put_static_fine field.slot (static_local here place) x stack s.0 s.1) tt
+  putstatic_fine place (x ∷ stack) s = may_be Fine _ (slice_get here.program.statics place)
+      (λ field e. put_static_fine field.slot (static_local here place) x stack s.0 s.1) tt
 
   -- ---- objects and arrays
 
   new_fine : (t : Ty) (class : ℕ) → t ≡ class_type class → class < Types.classes → Fine (new_plan here t)
   new_fine t class e l =
-      subst (λ (u : Ty). Fine (new_plan here u)) (sym e) (record { changed = tt; frames = stack_fine here.next here.frame.stack held.stack; thrown = tt; act = l }, tt)
+      subst (λ (u : Ty). Fine (new_plan here u)) (sym e)
+      (record { changed = tt; frames = stack_fine here.next here.frame.stack held.stack; thrown = tt; act = l }, tt)
 
   option_good : {X : Type 0} (f : X → Turn) (o : Option X) → ((x : X) → Good (f x)) → AllByRecursion Good (option_to_list (option_map f o))
   option_good f None h = tt
@@ -398,14 +305,21 @@ module _ (here : Here) (sound : IsSound (types_here here) here.state) (below_hel
       → AllByRecursion Good (option_to_list (option_map (λ both. throws_after here ((x, cells.Int both) ∷ []) no_rows class) met))
   narrowed_thrown x class h met =
       option_good (λ both. throws_after here ((x, cells.Int both) ∷ []) no_rows class) met
-      (λ both. turns.throws_good Types here below_held held ((x, cells.Int both) ∷ []) no_rows class (turns.narrow_one Types here below_held held x both h, tt))
+      (λ both. turns.throws_good Types here below_held held ((x, cells.Int both) ∷ []) no_rows class
+      (turns.narrow_one Types here below_held held x both h, tt))
 
   array_fine : (slot : Slot) (stack : List ℕ) → AllByRecursion Holds stack → Fine (array_plan here slot stack)
   array_fine slot [] s = tt
   array_fine slot (count ∷ stack) s =
       all_joined Good _ _
       (option_good (array_turn here slot count stack) (meet_of (interval_of_id here.state count) natural)
-      (λ both. record { changed = (turns.narrow_one Types here below_held held count both s.0, tt); frames = stack_fine here.next stack s.1; thrown = tt; act = s.0 }))
+      (λ both. record {
+        changed = (turns.narrow_one Types here below_held held count both s.0, tt);
+        frames = stack_fine here.next
+            stack s.1;
+        thrown = tt;
+        act = s.0;
+      }))
       (narrowed_thrown count negative_array_size_exception s.0 (meet_of (interval_of_id here.state count) negative))
 
   length_held : (k len : ℕ) (found : Option Cell) → cell_at here.state k ≡ found → length_id found ≡ Some len → Holds len
@@ -419,7 +333,8 @@ module _ (here : Here) (sound : IsSound (types_here here) here.state) (below_hel
 
   length_fine : (stack : List ℕ) → AllByRecursion Holds stack → Fine (length_plan here stack)
   length_fine [] s = tt
-  length_fine (k ∷ stack) s = accessed_fine 0 k _ (pushed_fine (length_id (cell_here here k)) stack (λ len. length_held k len (cell_here here k) refl) s.1)
+  length_fine (k ∷ stack) s = accessed_fine 0 k _
+      (pushed_fine (length_id (cell_here here k)) stack (λ len. length_held k len (cell_here here k) refl) s.1)
 
   -- what an index and a length are narrowed to
   abbrev AreChanges : List (ℕ × Cell) → Type 0
@@ -440,55 +355,70 @@ module _ (here : Here) (sound : IsSound (types_here here) here.state) (below_hel
   abbrev cases_inside : ℕ → ℕ → Bounds → Option (List (ℕ × Cell) × (ℕ → List LinkRow))
   cases_inside index len i = option_and_then (case_inside index len) (related Below Taken i (interval_of_id here.state len))
 
-  are_inside : (index len : ℕ) (inside : List (ℕ × Cell) × (ℕ → List LinkRow)) → in_bounds here index len ≡ Some inside → AreInside index len inside.0
+  are_inside : (index len : ℕ) (inside : List (ℕ × Cell) × (ℕ → List LinkRow)) → in_bounds here index len ≡ Some inside
+      → AreInside index len inside.0
   are_inside index len inside e =
       let a = then_some (cases_inside index len) (meet_of (interval_of_id here.state index) natural) inside e in
       let b = then_some (case_inside index len) (related Below Taken a.0 (interval_of_id here.state len)) inside a.1.1 in
       let m = map_some (rows_of_case index len b.0) (narrowings (id index) b.0.left (id len) b.0.right) inside b.1.1 in
-      subst (λ (x : List (ℕ × Cell) × (ℕ → List LinkRow)). AreInside index len x.0) m.1.1 (record { left = b.0.left; right = b.0.right; are = m.1.0 })
+      subst (λ (x : List (ℕ × Cell) × (ℕ → List LinkRow)). AreInside index len x.0) m.1.1
+      (record { left = b.0.left; right = b.0.right; are = m.1.0 })
 
-  inside_changes : (index len : ℕ) (narrowed : List (ℕ × Cell)) → Holds index → Holds len → AreInside index len narrowed → AreChanges narrowed
-  inside_changes index len narrowed hi hl a = turns.are_narrowed Types here below_held held (id index) (id len) hi hl a.left a.right narrowed a.are
+  inside_changes : (index len : ℕ) (narrowed : List (ℕ × Cell)) → Holds index → Holds len → AreInside index len narrowed
+      → AreChanges narrowed
+  inside_changes index len narrowed hi hl a = turns.are_narrowed Types here below_held held (id index) (id len) hi hl a.left a.right
+      narrowed a.are
 
   -- an id that is neither isn't narrowed
   one_other : (k index : ℕ) (cell : Cell) (rest : List (ℕ × Cell)) → (k ≡ index → ⊥) → cell_in ((index, cell) ∷ rest) k ≡ cell_in rest k
   one_other k index cell rest n = ap (λ (x : Bool). if x then Some cell else cell_in rest k) (ne_eqb index k (λ same. n (sym same)))
 
-  narrowed_other : (k index len : ℕ) → (k ≡ index → ⊥) → (k ≡ len → ⊥) → (same : Bool) (met : Option Bounds) (a b : Bounds) (list : List (ℕ × Cell))
-      → (if same then option_map (λ both. (index, cells.Int both) ∷ []) met else Some ((index, cells.Int a) ∷ (len, cells.Int b) ∷ [])) ≡ Some list
+  narrowed_other : (k index len : ℕ) → (k ≡ index → ⊥) → (k ≡ len → ⊥)
+      → (same : Bool) (met : Option Bounds) (a b : Bounds) (list : List (ℕ × Cell))
+      → (if same then option_map (λ both. (index, cells.Int both) ∷ []) met else Some
+      ((index, cells.Int a) ∷ (len, cells.Int b) ∷ [])) ≡ Some list
       → cell_in list k ≡ None
   narrowed_other k index len i l true None a b list e = absurd (none-some list e)
-  narrowed_other k index len i l true (Some both) a b list e = ap (λ (xs : List (ℕ × Cell)). cell_in xs k) (sym (some_is e)) ∙ one_other k index (cells.Int both) [] i
+  narrowed_other k index len i l true (Some both) a b list e = ap (λ (xs : List (ℕ × Cell)). cell_in xs k) (sym (some_is e))
+      ∙ one_other k index (cells.Int both) [] i
   narrowed_other k index len i l false met a b list e =
-      ap (λ (xs : List (ℕ × Cell)). cell_in xs k) (sym (some_is e)) ∙ one_other k index (cells.Int a) ((len, cells.Int b) ∷ []) i ∙ one_other k len (cells.Int b) [] l
+      ap (λ (xs : List (ℕ × Cell)). cell_in xs k) (sym (some_is e)) ∙ one_other k index (cells.Int a) ((len, cells.Int b) ∷ []) i
+      ∙ one_other k len (cells.Int b) [] l
 
-  inside_others : (index len : ℕ) (narrowed : List (ℕ × Cell)) → AreInside index len narrowed → (other : ℕ) → (other ≡ index → ⊥) → (other ≡ len → ⊥) → cell_in narrowed other ≡ None
-  inside_others index len narrowed a other i l = narrowed_other other index len i l (index == len) (meet_of a.left a.right) a.left a.right narrowed a.are
+  inside_others : (index len : ℕ) (narrowed : List (ℕ × Cell)) → AreInside index len narrowed → (other : ℕ) → (other ≡ index → ⊥)
+      → (other ≡ len → ⊥) → cell_in narrowed other ≡ None
+  inside_others index len narrowed a other i l = narrowed_other other index len i l (index == len) (meet_of a.left a.right) a.left
+      a.right narrowed a.are
 
   -- an index that isn't within the length
   abbrev past_turn : ℕ → ℕ → IntCase → List (ℕ × Cell) → Turn
-  past_turn index len case narrowed = throws_after here narrowed (rows_over (id index) (id len) case.rows) array_index_out_of_bounds_exception
+  past_turn index len case narrowed = throws_after here narrowed (rows_over (id index) (id len) case.rows)
+      array_index_out_of_bounds_exception
 
   abbrev past_of_case : ℕ → ℕ → IntCase → Option Turn
   past_of_case index len case = option_map (past_turn index len case) (narrowings (id index) case.left (id len) case.right)
 
-  past_good : (index len : ℕ) → Holds index → Holds len → (cases : Option IntCase) (turn : Turn) → option_and_then (past_of_case index len) cases ≡ Some turn → Good turn
+  past_good : (index len : ℕ) → Holds index → Holds len → (cases : Option IntCase) (turn : Turn)
+      → option_and_then (past_of_case index len) cases ≡ Some turn → Good turn
   past_good index len hi hl cases turn e =
       let a = then_some (past_of_case index len) cases turn e in
       let m = map_some (past_turn index len a.0) (narrowings (id index) a.0.left (id len) a.0.right) turn a.1.1 in
       let changes = turns.are_narrowed Types here below_held held (id index) (id len) hi hl a.0.left a.0.right m.0 m.1.0 in
-      subst Good m.1.1 (turns.throws_good Types here below_held held m.0 (rows_over (id index) (id len) a.0.rows) array_index_out_of_bounds_exception changes)
+      subst Good m.1.1 (turns.throws_good Types here below_held held m.0 (rows_over (id index) (id len) a.0.rows)
+      array_index_out_of_bounds_exception changes)
 
   outside_good : (index len : ℕ) → Holds index → Holds len → AllByRecursion Good (out_of_bounds here index len)
   outside_good index len hi hl =
       all_joined Good _ _
       (narrowed_thrown index array_index_out_of_bounds_exception hi (meet_of (interval_of_id here.state index) negative))
-      (if_there Good _ (past_good index len hi hl (related AtLeast Taken (interval_of_id here.state index) (interval_of_id here.state len))))
+      (if_there Good _ (past_good index len hi hl
+      (related AtLeast Taken (interval_of_id here.state index) (interval_of_id here.state len))))
 
   access_fine : (depth k index : ℕ) (length : Option ℕ) (good_turns : List (ℕ × Cell) → (ℕ → List LinkRow) → List Turn) → Holds index
       → ((len : ℕ) → length ≡ Some len → Holds len)
       → ((len : ℕ) → length ≡ Some len → (narrowed : List (ℕ × Cell)) (rows : ℕ → List LinkRow) → AreChanges narrowed
-      → ((other : ℕ) → (other ≡ index → ⊥) → (other ≡ len → ⊥) → cell_in narrowed other ≡ None) → AllByRecursion Good (good_turns narrowed rows))
+      → ((other : ℕ) → (other ≡ index → ⊥) → (other ≡ len → ⊥) → cell_in narrowed other ≡ None)
+      → AllByRecursion Good (good_turns narrowed rows))
       → Fine (access_of here depth k index length good_turns)
   access_fine depth k index length good_turns hi hl h =
       accessed_fine depth k _ (may_be Fine _ length (λ len e.
@@ -522,14 +452,16 @@ module _ (here : Here) (sound : IsSound (types_here here) here.state) (below_hel
   items_are k len (Some (cells.Refs element n shape)) e f = record {
     there = subst Holds (some_is f) (named k (cells.Refs element n shape) e).0;
     array = record { cell = cells.Refs element n shape; is = e; sort_is = refl };
-    apart = λ same. not_int k n (cells.Refs element n shape) e refl (cell_sound Types here.state sound k (cells.Refs element n shape) e).0 (same ∙ sym (some_is f));
+    apart = λ same. not_int k n (cells.Refs element n shape) e refl
+        (cell_sound Types here.state sound k (cells.Refs element n shape) e).0 (same ∙ sym (some_is f));
   }
   items_are k len (Some (cells.Unk bound nullable shape)) e f = absurd (none-some len f)
 
   items_at : (k index len : ℕ) → items_of here k index ≡ Some len → (k ≡ index → ⊥) × IsItems k len
   items_at k index len e = at (k == index) refl e
     where
-      at : (b : Bool) → eqb k index ≡ b → (if b then None else items_length_id (cell_here here k)) ≡ Some len → (k ≡ index → ⊥) × IsItems k len
+      at : (b : Bool) → eqb k index ≡ b → (if b then None else items_length_id (cell_here here k)) ≡ Some len
+          → (k ≡ index → ⊥) × IsItems k len
       at true f h = absurd (none-some len h)
       at false f h = (eqb-false k index f, items_are k len (cell_here here k) refl h)
 
@@ -551,7 +483,8 @@ module _ (here : Here) (sound : IsSound (types_here here) here.state) (below_hel
   aaload_fine : (stack : List ℕ) → AllByRecursion Holds stack → Fine (aaload_plan here stack)
   aaload_fine [] s = tt
   aaload_fine (index ∷ []) s = tt
-  aaload_fine (index ∷ k ∷ stack) s = access_fine 1 k index (items_of here k index) _ s.0 (λ len e. (items_at k index len e).1.there) (λ len e narrowed rows n o.
+  aaload_fine (index ∷ k ∷ stack) s = access_fine 1 k index (items_of here k index) _ s.0
+      (λ len e. (items_at k index len e).1.there) (λ len e narrowed rows n o.
       let i = items_at k index len e in
       (record { changed = n; frames = stack_fine here.next stack s.1.1; thrown = tt; act = (i.1.array, o k i.0 i.1.apart) }, tt))
 
@@ -563,10 +496,11 @@ module _ (here : Here) (sound : IsSound (types_here here) here.state) (below_hel
   aastore_fine [] s = tt
   aastore_fine (value ∷ []) s = tt
   aastore_fine (value ∷ index ∷ []) s = tt
-  aastore_fine (value ∷ index ∷ k ∷ stack) s = access_fine 2 k index (length_id (cell_here here k)) _ s.1.0 (any_length k) (λ len e narrowed rows n o. (
-    record { changed = n; frames = stack_fine here.next stack s.1.1.1; thrown = tt; act = (s.1.1.0, s.0) },
-    if_good (is_null_here here value) _ (turns.throws_good Types here below_held held narrowed rows _ n),
-  ))
+  aastore_fine (value ∷ index ∷ k ∷ stack) s = access_fine 2 k index (length_id (cell_here here k)) _ s.1.0 (any_length k)
+      (λ len e narrowed rows n o. (
+        record { changed = n; frames = stack_fine here.next stack s.1.1.1; thrown = tt; act = (s.1.1.0, s.0) },
+        if_good (is_null_here here value) _ (turns.throws_good Types here below_held held narrowed rows _ n),
+      ))
 
   -- ---- casts
 
@@ -579,15 +513,19 @@ module _ (here : Here) (sound : IsSound (types_here here) here.state) (below_hel
   bound_good : (x : ℕ) (cell : Option Cell) (turn : Turn) → ((c : Cell) → cell ≡ Some c → IsChange here.state (x, c)) → Good turn
       → ((changed : List (ℕ × Cell)) → IsGoodAct Types here.state changed turn.act turn.goal) → Good (with_bound x cell turn)
   bound_good x None turn h g a = g
-  bound_good x (Some cell) turn h g a = record { changed = (h cell refl, tt); frames = g.frames; thrown = g.thrown; act = a ((x, cell) ∷ []) }
+  bound_good x (Some cell) turn h g a = record
+      { changed = (h cell refl, tt); frames = g.frames; thrown = g.thrown; act = a ((x, cell) ∷ []) }
 
-  unknown_bounded : (t : Ty) (b : Bool) (x : ℕ) (bound : Ty) (nullable : Bool) (shape : Shape) (c : Cell) → cell_at here.state x ≡ Some (cells.Unk bound nullable shape)
+  unknown_bounded : (t : Ty) (b : Bool) (x : ℕ) (bound : Ty) (nullable : Bool) (shape : Shape) (c : Cell)
+      → cell_at here.state x ≡ Some (cells.Unk bound nullable shape)
       → (if b then Some (cells.Unk t nullable shape) else None) ≡ Some c → IsChange here.state (x, c)
   unknown_bounded t true x bound nullable shape c e f =
-      subst (λ (d : Cell). IsChange here.state (x, d)) (some_is f) (record { old = record { cell = cells.Unk bound nullable shape; is = e; sort_is = refl }; names = tt })
+      subst (λ (d : Cell). IsChange here.state (x, d)) (some_is f)
+      (record { old = record { cell = cells.Unk bound nullable shape; is = e; sort_is = refl }; names = tt })
   unknown_bounded t false x bound nullable shape c e f = absurd (none-some c f)
 
-  bounded_change : (t : Ty) (x : ℕ) (found : Option Cell) (c : Cell) → cell_at here.state x ≡ found → option_and_then (bounded Types t) found ≡ Some c → IsChange here.state (x, c)
+  bounded_change : (t : Ty) (x : ℕ) (found : Option Cell) (c : Cell) → cell_at here.state x ≡ found
+      → option_and_then (bounded Types t) found ≡ Some c → IsChange here.state (x, c)
   bounded_change t x None c e f = absurd (none-some c f)
   bounded_change t x (Some (cells.Int interval)) c e f = absurd (none-some c f)
   bounded_change t x (Some cells.Null) c e f = absurd (none-some c f)
@@ -612,7 +550,8 @@ module _ (here : Here) (sound : IsSound (types_here here) here.state) (below_hel
       either Fine (is_null_here here x) _ _ (λ e. (g.null, tt)) (λ e.
       either Fine (is_bound_below here t (cell_bound (cell_here here x))) _ _ (λ f.
       either Fine asks _ _ (λ a. need_null_good Types here.state x _ (g.passed, tt)) (λ a. (g.passed, tt))) (λ f.
-      need_null_good Types here.state x _ (either Fine (is_known_cell (cell_here here x)) _ _ (λ k. (g.failed, tt)) (λ k. undecided_good t x cast g))))
+      need_null_good Types here.state x _
+      (either Fine (is_known_cell (cell_here here x)) _ _ (λ k. (g.failed, tt)) (λ k. undecided_good t x cast g))))
 
   checkcast_fine : (t : Ty) (stack : List ℕ) → AllByRecursion Holds stack → Fine (checkcast_plan here t stack)
   checkcast_fine t [] s = tt
@@ -641,7 +580,8 @@ module _ (here : Here) (sound : IsSound (types_here here) here.state) (below_hel
       may_be Fine _ (slice_get here.program.methods number) (λ m e. (
         turns.moves_good Types here below_held held _ (
           record {
-            locals = given_set Holds (reverse (take count here.frame.stack)) _ (all_turned Holds (take count here.frame.stack) (all_taken Holds count here.frame.stack held.stack));
+            locals = given_set Holds (reverse (take count here.frame.stack)) _
+                (all_turned Holds (take count here.frame.stack) (all_taken Holds count here.frame.stack held.stack));
             stack = tt;
           },
           stack_fine here.frame.pc (drop count here.frame.stack) (all_dropped Holds count here.frame.stack held.stack),
@@ -654,7 +594,8 @@ module _ (here : Here) (sound : IsSound (types_here here) here.state) (below_hel
   runs_fine count (Some number) = invokes_fine count number
 
   special_fine : (call : Call) → Fine (special_plan here call)
-  special_fine call = may_be Fine _ (receiver_of here call) (λ x e. need_null_good Types here.state x _ (unless_null_fine x _ (runs_fine (length call.params + 1) call.target))) tt
+  special_fine call = may_be Fine _ (receiver_of here call)
+      (λ x e. need_null_good Types here.state x _ (unless_null_fine x _ (runs_fine (length call.params + 1) call.target))) tt
 
   answered_fine : (count : ℕ) (answer : Option Selected) → Fine (answered here count answer)
   answered_fine count None = tt
@@ -663,20 +604,24 @@ module _ (here : Here) (sound : IsSound (types_here here) here.state) (below_hel
   answered_fine count (Some answers.NoInterface) = thrown_one _
 
   selecting_fine : (op : Op) (call : Call) → Fine (selecting_plan here op call)
-  selecting_fine op call = may_be Fine _ (receiver_of here call) (λ x e. accessed_fine (length call.params) x _ (answered_fine (length call.params + 1) _)) tt
+  selecting_fine op call = may_be Fine _ (receiver_of here call)
+      (λ x e. accessed_fine (length call.params) x _ (answered_fine (length call.params + 1) _)) tt
 
-  value_held : (value : Option ℕ) (stack : List ℕ) → ((x : ℕ) → value ≡ Some x → Holds x) → AllByRecursion Holds stack → AllByRecursion Holds (option_to_list value ++ stack)
+  value_held : (value : Option ℕ) (stack : List ℕ) → ((x : ℕ) → value ≡ Some x → Holds x) → AllByRecursion Holds stack
+      → AllByRecursion Holds (option_to_list value ++ stack)
   value_held None stack h s = s
   value_held (Some x) stack h s = (h x refl, s)
 
-  returned_fine : (value : Option ℕ) → ((x : ℕ) → value ≡ Some x → Holds x) → (below : List AbstractFrame) → AllByRecursion (HoldsIds here.state) below
+  returned_fine : (value : Option ℕ) → ((x : ℕ) → value ≡ Some x → Holds x) → (below : List AbstractFrame)
+      → AllByRecursion (HoldsIds here.state) below
       → Fine (returned_to here value below)
   returned_fine value h [] b = tt
   returned_fine value h (caller ∷ below) b =
       if_there Good _ (λ turn e.
       let m = map_some (λ (place : ℕ). moves (record caller { pc = place; stack = option_to_list value ++ caller.stack } ∷ below))
       (option_and_then (λ found. found.1) (insn_at here.program.methods caller.method caller.pc)) turn e in
-      subst Good m.1.1 (turns.moves_good Types here below_held held _ (record { locals = b.0.locals; stack = value_held value caller.stack h b.0.stack }, b.1)))
+      subst Good m.1.1 (turns.moves_good Types here below_held held _
+      (record { locals = b.0.locals; stack = value_held value caller.stack h b.0.stack }, b.1)))
 
   value_fine : (stack : List ℕ) → AllByRecursion Holds stack → Fine (value_plan here stack)
   value_fine [] s = tt
@@ -685,7 +630,8 @@ module _ (here : Here) (sound : IsSound (types_here here) here.state) (below_hel
   athrow_fine : (stack : List ℕ) → AllByRecursion Holds stack → Fine (athrow_plan here stack)
   athrow_fine [] s = tt
   athrow_fine (x ∷ stack) s =
-      need_null_good Types here.state x _ (unless_null_fine x _ (record { changed = tt; frames = stack_fine here.frame.pc [] tt; thrown = (s.0, tt); act = tt }, tt))
+      need_null_good Types here.state x _
+      (unless_null_fine x _ (record { changed = tt; frames = stack_fine here.frame.pc [] tt; thrown = (s.0, tt); act = tt }, tt))
 
   -- ---- the table
 
@@ -701,14 +647,17 @@ module _ (here : Here) (sound : IsSound (types_here here) here.state) (below_hel
   row_fine (Shuffle shuffle) n = shuffle_fine shuffle
   row_fine (Arith op) n =
       binary_fine here.frame.stack _ held.stack
-      (λ a b rest ha hb s. turns.operator_good Types here below_held held op (id a) (id b) (with_stack here here.next rest) on_stack ha hb (stack_fine here.next rest s)
+      (λ a b rest ha hb s. turns.operator_good Types here below_held held op (id a) (id b) (with_stack here here.next rest) on_stack
+      ha hb (stack_fine here.next rest s)
       (λ r narrowed. refl))
   row_fine Ineg n = negation_fine here.frame.stack held.stack
   row_fine (Narrow kind) n = narrow_fine kind here.frame.stack held.stack
   row_fine (If cond place) n =
-      unary_fine here.frame.stack _ held.stack (λ a rest ha s. turns.branches_good Types here below_held held cond (id a) (known (pos 0)) place rest false ha tt s)
+      unary_fine here.frame.stack _ held.stack
+      (λ a rest ha s. turns.branches_good Types here below_held held cond (id a) (known (pos 0)) place rest false ha tt s)
   row_fine (IfIcmp cond place) n =
-      binary_fine here.frame.stack _ held.stack (λ a b rest ha hb s. turns.branches_good Types here below_held held cond (id a) (id b) place rest true ha hb s)
+      binary_fine here.frame.stack _ held.stack
+      (λ a b rest ha hb s. turns.branches_good Types here below_held held cond (id a) (id b) place rest true ha hb s)
   row_fine (IfAcmpeq place) n = equal_fine true place here.frame.stack held.stack
   row_fine (IfAcmpne place) n = equal_fine false place here.frame.stack held.stack
   row_fine (Ifnull place) n = null_fine true place here.frame.stack held.stack
@@ -740,15 +689,20 @@ module _ (here : Here) (sound : IsSound (types_here here) here.state) (below_hel
   row_fine (Instanceof t) n = instanceof_fine t here.frame.stack held.stack
 
   pub form_fine : (form : Form) → NamesClasses Types form → Fine (plan_of_form here form)
-  form_fine form n = tested_good Types here.state (operands_of (taken_by form) here.places here.frame.stack) (row_of here form) (row_fine form n)
+  form_fine form n = tested_good Types here.state (operands_of (taken_by form) here.places here.frame.stack) (row_of here form)
+      (row_fine form n)
 
 -- ---- throwing
 
-module _ (types : WorldTypes) (state : AbstractState) (x : ℕ) (there : IsThere state x) (frame : AbstractFrame) (held : HoldsIds state frame) (below : List AbstractFrame) (below_held : AllByRecursion (HoldsIds state) below) where
-  handled_fine : (rest : List AbstractFrame) → AllByRecursion (HoldsIds state) rest → (range : Option CatchRange) → IsGoodPlan types state (handled x frame rest range)
-  handled_fine rest b (Some range) = (record { changed = tt; frames = (record { locals = held.locals; stack = (there, tt) }, b); thrown = tt; act = tt }, tt)
+module _ (types : WorldTypes) (state : AbstractState) (x : ℕ) (there : IsThere state x) (frame : AbstractFrame)
+    (held : HoldsIds state frame) (below : List AbstractFrame) (below_held : AllByRecursion (HoldsIds state) below) where
+  handled_fine : (rest : List AbstractFrame) → AllByRecursion (HoldsIds state) rest → (range : Option CatchRange)
+      → IsGoodPlan types state (handled x frame rest range)
+  handled_fine rest b (Some range) =
+      (record { changed = tt; frames = (record { locals = held.locals; stack = (there, tt) }, b); thrown = tt; act = tt }, tt)
   handled_fine [] b None = tt
-  handled_fine (caller ∷ rest) b None = (record { changed = tt; frames = (record { locals = b.0.locals; stack = tt }, b.1); thrown = (there, tt); act = tt }, tt)
+  handled_fine (caller ∷ rest) b None =
+      (record { changed = tt; frames = (record { locals = b.0.locals; stack = tt }, b.1); thrown = (there, tt); act = tt }, tt)
 
   caught_fine : (ranges : List CatchRange) → IsGoodPlan types state (caught_plan types state x frame below ranges)
   caught_fine ranges =

@@ -11,14 +11,16 @@ use Rattle.op_forms.specs.Forms.{shuffled}
 
 -- ---- locals
 
-pub local_held : (P : ℕ → Type 0) (locals : List (Option ℕ)) (n x : ℕ) → AllByRecursion P (given_ids locals) → slice_get locals n ≡ Some (Some x) → P x
+pub local_held : (P : ℕ → Type 0) (locals : List (Option ℕ)) (n x : ℕ) → AllByRecursion P (given_ids locals)
+    → slice_get locals n ≡ Some (Some x) → P x
 local_held P [] n x h e = absurd (none-some (Some x) e)
 local_held P (None ∷ locals) zero x h e = absurd (none-some x (some_is e))
 local_held P (Some y ∷ locals) zero x h e = subst P (some_is (some_is e)) h.0
 local_held P (None ∷ locals) (suc n) x h e = local_held P locals n x h e
 local_held P (Some y ∷ locals) (suc n) x h e = local_held P locals n x h.1 e
 
-pub set_held : (P : ℕ → Type 0) (locals : List (Option ℕ)) (n x : ℕ) → AllByRecursion P (given_ids locals) → P x → AllByRecursion P (given_ids (slice_set locals n (Some x)))
+pub set_held : (P : ℕ → Type 0) (locals : List (Option ℕ)) (n x : ℕ) → AllByRecursion P (given_ids locals) → P x
+    → AllByRecursion P (given_ids (slice_set locals n (Some x)))
 set_held P [] n x h p = tt
 set_held P (None ∷ locals) zero x h p = (p, h)
 set_held P (Some y ∷ locals) zero x h p = (p, h.1)
@@ -27,7 +29,8 @@ set_held P (Some y ∷ locals) (suc n) x h p = (h.0, set_held P locals n x h.1 p
 
 -- ---- stacks
 
-pub reordered : (P : ℕ → Type 0) (shuffle : StackShuffle) (stack rest : List ℕ) → AllByRecursion P stack → shuffled shuffle stack ≡ Some rest → AllByRecursion P rest
+pub reordered : (P : ℕ → Type 0) (shuffle : StackShuffle) (stack rest : List ℕ) → AllByRecursion P stack
+    → shuffled shuffle stack ≡ Some rest → AllByRecursion P rest
 reordered P Pop [] rest h e = absurd (none-some rest e)
 reordered P Pop (a ∷ below) rest h e = subst (AllByRecursion P) (some_is e) h.1
 reordered P Pop2 [] rest h e = absurd (none-some rest e)
@@ -53,7 +56,8 @@ reordered P Dup2X2 [] rest h e = absurd (none-some rest e)
 reordered P Dup2X2 (a ∷ []) rest h e = absurd (none-some rest e)
 reordered P Dup2X2 (a ∷ b ∷ []) rest h e = absurd (none-some rest e)
 reordered P Dup2X2 (a ∷ b ∷ c ∷ []) rest h e = absurd (none-some rest e)
-reordered P Dup2X2 (a ∷ b ∷ c ∷ d ∷ below) rest h e = subst (AllByRecursion P) (some_is e) (h.0, (h.1.0, (h.1.1.0, (h.1.1.1.0, (h.0, (h.1.0, h.1.1.1.1))))))
+reordered P Dup2X2 (a ∷ b ∷ c ∷ d ∷ below) rest h e = subst (AllByRecursion P) (some_is e)
+    (h.0, (h.1.0, (h.1.1.0, (h.1.1.1.0, (h.0, (h.1.0, h.1.1.1.1))))))
 reordered P Swap [] rest h e = absurd (none-some rest e)
 reordered P Swap (a ∷ []) rest h e = absurd (none-some rest e)
 reordered P Swap (a ∷ b ∷ below) rest h e = subst (AllByRecursion P) (some_is e) (h.1.0, (h.0, h.1.1))

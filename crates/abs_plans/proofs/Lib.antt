@@ -1,5 +1,6 @@
 pub mod Calling
 pub mod GoodPlans
+pub mod SplitPlans
 pub mod GoodRows
 pub mod GoodTurns
 pub mod Holding

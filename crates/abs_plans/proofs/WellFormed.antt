@@ -1,5 +1,6 @@
 -- States that are given by their cells and wanted pairs are well-formed.
-use Rattle.std.proofs.Common.{◌≡◌, ◌∙◌, ◌==◌, ◌&&◌, ◌⊎◌, inl, inr, ℕ, Bool, true, false, not, List, [], ◌∷◌, ◌++◌, Option, Some, None, refl, sym, ap, subst, arith}
+use Rattle.std.proofs.Common.{◌≡◌, ◌∙◌, ◌==◌, ◌&&◌, ◌⊎◌, inl, inr, ℕ, Bool, true, false, not, List, [], ◌∷◌, ◌++◌, Option, Some}
+use Rattle.std.proofs.Common.{None, refl, sym, ap, subst, arith}
 use Rattle.std.specs.List.{AllByRecursion, flat_map}
 use Rattle.std.proofs.lemmas.Bool.{false≢true, and_parts}
 use Rattle.std.proofs.lemmas.List.Elements.{All-from_recursion, recursion_from_All}
@@ -18,20 +19,26 @@ pub record IsIn (cell : ℕ → Option Cell) (id : ℕ) : Type 0 where
 
 -- ---- lists
 
-pub flat_from : {X Y : Type 0} (P : Y → Type 0) (f : X → List Y) (xs : List X) → AllByRecursion P (flat_map f xs) → AllByRecursion (λ x. AllByRecursion P (f x)) xs
+pub flat_from : {X Y : Type 0} (P : Y → Type 0) (f : X → List Y) (xs : List X) → AllByRecursion P (flat_map f xs)
+    → AllByRecursion (λ x. AllByRecursion P (f x)) xs
 flat_from P f [] a = tt
 flat_from P f (x ∷ xs) a = (all_front P (f x) (flat_map f xs) a, flat_from P f xs (all_back P (f x) (flat_map f xs) a))
 
-pub flat_to : {X Y : Type 0} (P : Y → Type 0) (f : X → List Y) (xs : List X) → AllByRecursion (λ x. AllByRecursion P (f x)) xs → AllByRecursion P (flat_map f xs)
+pub flat_to : {X Y : Type 0} (P : Y → Type 0) (f : X → List Y) (xs : List X) → AllByRecursion (λ x. AllByRecursion P (f x)) xs
+    → AllByRecursion P (flat_map f xs)
 flat_to P f [] a = tt
 flat_to P f (x ∷ xs) a = all_joined P (f x) (flat_map f xs) a.0 (flat_to P f xs a.1)
 
 -- what holds of the cell of each id holds of each listed cell, where ids rise
-each_cell : (P : Cell → Type 0) (low : ℕ) (list : List (ℕ × Cell)) → AreIdsRising low list → ((id : ℕ) (c : Cell) → cell_in list id ≡ Some c → P c)
+each_cell : (P : Cell → Type 0) (low : ℕ) (list : List (ℕ × Cell)) → AreIdsRising low list
+    → ((id : ℕ) (c : Cell) → cell_in list id ≡ Some c → P c)
     → AllByRecursion (λ (c : ℕ × Cell). P c.1) list
 each_cell P low [] r h = tt
-each_cell P low (c ∷ list) r h =
-    (h c.0 c.1 (first_cell_is c list), each_cell P (ℕ.suc c.0) list r.1.1 (λ id cell e. h id cell (past_first_cell c list id (apart id cell e) ∙ e)))
+each_cell P low (c ∷ list) r h = (
+  h c.0 c.1 (first_cell_is c list),
+  each_cell P (ℕ.suc c.0) list r.1.1
+      (λ id cell e. h id cell (past_first_cell c list id (apart id cell e) ∙ e)),
+)
   where
     apart : (id : ℕ) (cell : Cell) → cell_in list id ≡ Some cell → (c.0 == id) ≡ false
     apart id cell e = search (arith, low_of_cell (ℕ.suc c.0) id list cell r.1.1 e)
@@ -48,7 +55,8 @@ not_true false e f = false≢true f
 
 -- ---- the state
 
-module _ (frames : List AbstractFrame) (throwing : Option ℕ) (cell : ℕ → Option Cell) (equal sharing : ℕ → ℕ → Type 0) (child : AbstractState) (g : IsGiven frames throwing cell equal sharing child) where
+module _ (frames : List AbstractFrame) (throwing : Option ℕ) (cell : ℕ → Option Cell) (equal sharing : ℕ → ℕ → Type 0)
+    (child : AbstractState) (g : IsGiven frames throwing cell equal sharing child) where
   abbrev There : ℕ → Type 0
   There = HasCell (λ _. true) child
 
@@ -60,7 +68,8 @@ module _ (frames : List AbstractFrame) (throwing : Option ℕ) (cell : ℕ → O
 
   joined : (a b : ℕ) → Share child a b
       → (is_of_sort is_reference (cell_in child.cells a) ≡ true)
-      × ((is_of_sort is_reference (cell_in child.cells b) ≡ true) × (not (is_of_sort is_known (cell_in child.cells a) && is_of_sort is_known (cell_in child.cells b)) ≡ true))
+      × ((is_of_sort is_reference (cell_in child.cells b) ≡ true)
+      × (not (is_of_sort is_known (cell_in child.cells a) && is_of_sort is_known (cell_in child.cells b)) ≡ true))
   joined a b s =
       let p = (g.share a b).0 s in
       let both = and_parts (is_of_sort is_reference (cell_in child.cells a) && is_of_sort is_reference (cell_in child.cells b)) _ p.1.0 in
@@ -75,22 +84,30 @@ module _ (frames : List AbstractFrame) (throwing : Option ℕ) (cell : ℕ → O
   known_at : (id : ℕ) → HasCell is_known child id → is_of_sort is_known (cell_in child.cells id) ≡ true
   known_at id h = ap (is_of_sort is_known) h.is ∙ h.sort_is
 
-  placed_there : AllByRecursion (λ frame. AllByRecursion (IsIn cell) (ids_of_frame frame)) frames → AllByRecursion (λ frame. AllByRecursion There (ids_of_frame frame)) frames
+  placed_there : AllByRecursion (λ frame. AllByRecursion (IsIn cell) (ids_of_frame frame)) frames
+      → AllByRecursion (λ frame. AllByRecursion There (ids_of_frame frame)) frames
   placed_there placed =
-      all_weaker (λ frame. AllByRecursion (IsIn cell) (ids_of_frame frame)) (λ frame. AllByRecursion There (ids_of_frame frame)) (λ frame. all_there (ids_of_frame frame)) frames placed
+      all_weaker (λ frame. AllByRecursion (IsIn cell) (ids_of_frame frame)) (λ frame. AllByRecursion There (ids_of_frame frame))
+      (λ frame. all_there (ids_of_frame frame)) frames placed
 
-  named_there : ((id : ℕ) (c : Cell) → cell id ≡ Some c → AllByRecursion (IsIn cell) (ids_in c)) → AllByRecursion (λ (x : ℕ × Cell). AllByRecursion There (ids_in x.1)) child.cells
-  named_there named = each_cell (λ c. AllByRecursion There (ids_in c)) 0 child.cells g.rising (λ id c e. all_there (ids_in c) (named id c (sym (g.cells id) ∙ e)))
+  named_there : ((id : ℕ) (c : Cell) → cell id ≡ Some c → AllByRecursion (IsIn cell) (ids_in c))
+      → AllByRecursion (λ (x : ℕ × Cell). AllByRecursion There (ids_in x.1)) child.cells
+  named_there named = each_cell (λ c. AllByRecursion There (ids_in c)) 0 child.cells g.rising
+      (λ id c e. all_there (ids_in c) (named id c (sym (g.cells id) ∙ e)))
 
   pub well_given : ((a b : ℕ) → equal a b → sharing a b) → AllByRecursion (λ frame. AllByRecursion (IsIn cell) (ids_of_frame frame)) frames
-      → AllByRecursion (IsIn cell) (given_ids (throwing ∷ [])) → ((id : ℕ) (c : Cell) → cell id ≡ Some c → AllByRecursion (IsIn cell) (ids_in c)) → IsWellFormed child
+      → AllByRecursion (IsIn cell) (given_ids (throwing ∷ []))
+      → ((id : ℕ) (c : Cell) → cell id ≡ Some c → AllByRecursion (IsIn cell) (ids_in c)) → IsWellFormed child
   well_given both placed thrown named = record {
     rising = g.rising;
     used = All-from_recursion There (ids_used child)
-        (all_joined There (flat_map ids_of_frame child.frames) (given_ids (child.throwing ∷ []) ++ flat_map (λ (x : ℕ × Cell). ids_in x.1) child.cells)
-        (flat_to There ids_of_frame child.frames (subst (AllByRecursion (λ frame. AllByRecursion There (ids_of_frame frame))) (sym g.frames_are) (placed_there placed)))
+        (all_joined There (flat_map ids_of_frame child.frames)
+        (given_ids (child.throwing ∷ []) ++ flat_map (λ (x : ℕ × Cell). ids_in x.1) child.cells)
+        (flat_to There ids_of_frame child.frames
+        (subst (AllByRecursion (λ frame. AllByRecursion There (ids_of_frame frame))) (sym g.frames_are) (placed_there placed)))
         (all_joined There (given_ids (child.throwing ∷ [])) (flat_map (λ (x : ℕ × Cell). ids_in x.1) child.cells)
-        (subst (λ (t : Option ℕ). AllByRecursion There (given_ids (t ∷ []))) (sym g.throwing_is) (all_there (given_ids (throwing ∷ [])) thrown))
+        (subst (λ (t : Option ℕ). AllByRecursion There (given_ids (t ∷ []))) (sym g.throwing_is)
+        (all_there (given_ids (throwing ∷ [])) thrown))
         (flat_to There (λ (x : ℕ × Cell). ids_in x.1) child.cells (named_there named))));
     shared = λ a b e.
         let p = (g.eq a b).0 e in
@@ -128,7 +145,8 @@ module _ (state : AbstractState) (good : IsWellFormed state) where
   pub names_there : (id : ℕ) (c : Cell) → cell_at state id ≡ Some c → AllByRecursion (HasCell (λ _. true) state) (ids_in c)
   names_there id c e =
       let place = place_of_cell state.cells id c e in
-      let listed = All-from_recursion (λ (x : ℕ × Cell). AllByRecursion (HasCell (λ _. true) state) (ids_in x.1)) state.cells cells_there in
+      let listed = All-from_recursion (λ (x : ℕ × Cell). AllByRecursion (HasCell (λ _. true) state) (ids_in x.1)) state.cells
+      cells_there in
       all_at (λ (x : ℕ × Cell). AllByRecursion (HasCell (λ _. true) state) (ids_in x.1)) state.cells place.0 (id, c) listed place.1
 
 -- ---- cells that come or change
@@ -159,7 +177,8 @@ module _ (state : AbstractState) (good : IsWellFormed state) (news : List (ℕ �
       → ((id : ℕ) (c : Cell) → cell_in news id ≡ Some c → AllByRecursion (IsIn (with_cells news state)) (ids_in c)) → IsWellFormed child
   well_with frames throwing equal sharing child g both placed thrown named =
       well_given frames throwing (with_cells news state) equal sharing child g both
-      (all_weaker (λ frame. AllByRecursion (HasCell (λ _. true) state) (ids_of_frame frame)) (λ frame. AllByRecursion (IsIn (with_cells news state)) (ids_of_frame frame))
+      (all_weaker (λ frame. AllByRecursion (HasCell (λ _. true) state) (ids_of_frame frame))
+      (λ frame. AllByRecursion (IsIn (with_cells news state)) (ids_of_frame frame))
       (λ frame. all_still (ids_of_frame frame)) frames placed)
       (all_still (given_ids (throwing ∷ [])) thrown)
       (λ id c e. elim (from_either (cell_in news id) (cell_at state id) c e) [
@@ -168,7 +187,10 @@ module _ (state : AbstractState) (good : IsWellFormed state) (news : List (ℕ �
       ])
 
   -- the same frames and the same thrown id
-  pub well_new : (equal sharing : ℕ → ℕ → Type 0) (child : AbstractState) → IsGiven state.frames state.throwing (with_cells news state) equal sharing child
-      → ((a b : ℕ) → equal a b → sharing a b) → ((id : ℕ) (c : Cell) → cell_in news id ≡ Some c → AllByRecursion (IsIn (with_cells news state)) (ids_in c))
+  pub well_new : (equal sharing : ℕ → ℕ → Type 0) (child : AbstractState)
+      → IsGiven state.frames state.throwing (with_cells news state) equal sharing child
+      → ((a b : ℕ) → equal a b → sharing a b)
+      → ((id : ℕ) (c : Cell) → cell_in news id ≡ Some c → AllByRecursion (IsIn (with_cells news state)) (ids_in c))
       → IsWellFormed child
-  well_new equal sharing child g both named = well_with state.frames state.throwing equal sharing child g both (frames_there state good) (thrown_there state good) named
+  well_new equal sharing child g both named = well_with state.frames state.throwing equal sharing child g both
+      (frames_there state good) (thrown_there state good) named

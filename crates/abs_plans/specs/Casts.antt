@@ -9,7 +9,8 @@ use Rattle.abs_plans.specs.declared.casts.Verdict.TheVariants as verdicts
 use Rattle.abs_turns.specs.Plans.{Plan, steps, by_null}
 use Rattle.abs_turns.specs.Needs.{may_be_null}
 use Rattle.abs_turns.specs.Turns.{Here}
-use Rattle.abs_turns.specs.Table.{Cast, checkcast_of, instanceof_of, one_step, cell_here, is_null_here, cell_bound, is_bound_below, is_known_cell, undecided}
+use Rattle.abs_turns.specs.Table.{Cast, checkcast_of, instanceof_of, one_step, cell_here, is_null_here, cell_bound, is_bound_below}
+use Rattle.abs_turns.specs.Table.{is_known_cell, undecided}
 
 -- what a form does: a cast leaves the whole stack as it is, a test puts a number on the rest of it
 abbrev pub cast_of : Here → CastForm → List ℕ → List ℕ → Cast
@@ -23,7 +24,8 @@ asks forms.Test = true
 abbrev pub verdict_of : Here → Ty → ℕ → Bool → Verdict
 verdict_of here t x asked =
     if is_null_here here x then verdicts.Null
-    else if is_bound_below here t (cell_bound (cell_here here x)) then (if asked && may_be_null (cell_at here.state x) then verdicts.Split else verdicts.Passed)
+    else if is_bound_below here t (cell_bound (cell_here here x)) then
+    (if asked && may_be_null (cell_at here.state x) then verdicts.Split else verdicts.Passed)
     else if may_be_null (cell_at here.state x) then verdicts.Split
     else if is_known_cell (cell_here here x) then verdicts.Failed
     else verdicts.Open

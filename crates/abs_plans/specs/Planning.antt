@@ -14,14 +14,27 @@ use Rattle.abs_turns.specs.Throwing.{throwing_plan}
 
 -- in normal mode by the form of the instruction, with the typing's types there and the place of the next instruction. Where none
 -- comes after it, which no place of a typing leads to, its own place stands for that
-abbrev pub plan_here : Program → (ℕ → CodeTypes) → AbstractState → AbstractFrame → List AbstractFrame → Option Form → Option ℕ → Option PlaceTypes → Plan
-plan_here p typing state frame below (Some form) next (Some there) = plan_of_form (record { program = p; state = state; frame = frame; below = below; places = there.stack; next = option_map_or (λ place. place) next frame.pc }) form
+abbrev pub plan_here : Program → (ℕ → CodeTypes) → AbstractState → AbstractFrame → List AbstractFrame → Option Form → Option ℕ
+    → Option PlaceTypes → Plan
+plan_here p typing state frame below (Some form) next (Some there) = plan_of_form
+    (record {
+      program = p;
+      state = state;
+      frame = frame;
+      below = below;
+      places = there.stack;
+      next = option_map_or (λ place. place)
+          next frame.pc;
+    }) form
 plan_here p typing state frame below _ next _ = no_child
 
 abbrev pub plan_in : Program → (ℕ → CodeTypes) → AbstractState → Option ℕ → List AbstractFrame → Plan
 plan_in p typing state thrown [] = no_child
-plan_in p typing state (Some x) (frame ∷ below) = throwing_plan (types_of p.world) state x frame below (option_map_or (λ (m : Method). m.table) (slice_get p.methods frame.method) [])
-plan_in p typing state None (frame ∷ below) = plan_here p typing state frame below (option_map_or (λ found. form_of found.0) (insn_at p.methods frame.method frame.pc) None) (option_map_or (λ found. found.1) (insn_at p.methods frame.method frame.pc) None) (typing frame.method frame.pc)
+plan_in p typing state (Some x) (frame ∷ below) = throwing_plan (types_of p.world) state x frame below
+    (option_map_or (λ (m : Method). m.table) (slice_get p.methods frame.method) [])
+plan_in p typing state None (frame ∷ below) = plan_here p typing state frame below
+    (option_map_or (λ found. form_of found.0) (insn_at p.methods frame.method frame.pc) None)
+    (option_map_or (λ found. found.1) (insn_at p.methods frame.method frame.pc) None) (typing frame.method frame.pc)
 
 abbrev pub plan_of : Program → (ℕ → CodeTypes) → AbstractState → Plan
 plan_of p typing state = plan_in p typing state state.throwing state.frames

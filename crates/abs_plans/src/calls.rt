@@ -1,10 +1,12 @@
 //! Calls and returns.
-ghost use Rattle.std.specs.Prelude.{◌≡◌, ◌<◌, ◌-◌, ◌+◌, ◌++◌, ◌∷◌, [], length, map, take, drop, reverse, replicate, slice_get, IfOk, OnOk, Some, None};
+ghost use Rattle.std.specs.Prelude.{◌≡◌, ◌<◌, ◌-◌, ◌+◌, ◌++◌, ◌∷◌, [], length, map, take, drop, reverse, replicate, slice_get, IfOk};
+ghost use Rattle.std.specs.Prelude.{OnOk, Some, None};
 ghost use Rattle.std.specs.Option.{option_map, option_and_then, option_map_or, option_to_list};
 ghost use Rattle.jvm_values.specs.States.{locals_from};
 ghost use Rattle.class_program.specs.Views.{program_of};
 ghost use Rattle.abs_turns.specs.Turns.{moves, with_stack};
-ghost use Rattle.abs_turns.specs.Table.{one_step, called_frame, invokes, runs_or_lacks, static_plan, special_plan, answered, selecting_plan, class_of_cell, cell_here, returned_to, value_plan, athrow_plan};
+ghost use Rattle.abs_turns.specs.Table.{one_step, called_frame, invokes, runs_or_lacks, static_plan, special_plan, answered};
+ghost use Rattle.abs_turns.specs.Table.{selecting_plan, class_of_cell, cell_here, returned_to, value_plan, athrow_plan};
 ghost use Rattle.class_program.specs.Programs.{insn_at};
 ghost use Rattle.jvm_step.specs.Effects.{answer_of};
 ghost use Rattle.abs_turns.specs.PlansSeen.{plan_seen};
@@ -99,7 +101,8 @@ fn begins<P: Pairs>(
     called: AbsFrame,
 ) -> Result<Plan, AllocError>
     requires { stack.0 ≡ spot.now.frame.stack }
-    ensures { IfOk result (λ plan. plan_seen plan ≡ one_step (moves (called ∷ with_stack spot.now spot.now.frame.pc (drop count spot.now.frame.stack)))) }
+    ensures { IfOk result
+        (λ plan. plan_seen plan ≡ one_step (moves (called ∷ with_stack spot.now spot.now.frame.pc (drop count spot.now.frame.stack)))) }
 {
     drop_top(&mut stack, count);
     let mut frames = spot.with_stack(alloc, spot.place(), &stack)?;
@@ -117,7 +120,10 @@ fn runs<P: Pairs>(
     method: &Method<'_>,
 ) -> Result<Plan, AllocError>
     requires { stack.0 ≡ spot.now.frame.stack }
-    ensures { IfOk result (λ plan. plan_seen plan ≡ one_step (moves (called_frame number method.now (reverse (take count spot.now.frame.stack)) ∷ with_stack spot.now spot.now.frame.pc (drop count spot.now.frame.stack)))) }
+    ensures { IfOk result
+        (λ plan. plan_seen plan ≡ one_step
+        (moves (called_frame number method.now (reverse (take count spot.now.frame.stack)) ∷ with_stack spot.now
+        spot.now.frame.pc (drop count spot.now.frame.stack)))) }
 {
     let called = called_frame(alloc, number, method, &stack, count)?;
     begins(alloc, spot, stack, count, called)
@@ -301,7 +307,9 @@ fn goes_on_at(
     place: u16,
     value: Option<Id>,
 ) -> Result<Plan, AllocError>
-    ensures { IfOk result (λ plan. plan_seen plan ≡ one_step (moves (record caller.now { pc = place; stack = option_to_list value ++ caller.now.stack } ∷ reverse below.now))) }
+    ensures { IfOk result
+        (λ plan. plan_seen plan ≡ one_step
+        (moves (record caller.now { pc = place; stack = option_to_list value ++ caller.now.stack } ∷ reverse below.now))) }
 {
     let mut frames = copied_frames(alloc, below)?;
     frames.push(resumed(alloc, caller, place, value)?)?;

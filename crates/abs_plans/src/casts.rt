@@ -2,7 +2,8 @@
 ghost use Rattle.std.specs.Prelude.{◌≡◌, [], ◌∷◌, if◌then◌else◌, map, IfOk};
 ghost use Rattle.std.specs.Option.{option_map, option_and_then, option_to_list};
 ghost use Rattle.abs_turns.specs.Turns.{pushes};
-ghost use Rattle.abs_turns.specs.Table.{types_here, number_cell, with_bound, undecided, cell_here, cell_bound, is_bound_below, may_be_below, is_known_cell, bounded, cast_plan, checkcast_plan, instanceof_plan};
+ghost use Rattle.abs_turns.specs.Table.{types_here, number_cell, with_bound, undecided, cell_here, cell_bound, is_bound_below};
+ghost use Rattle.abs_turns.specs.Table.{may_be_below, is_known_cell, bounded, cast_plan, checkcast_plan, instanceof_plan};
 ghost use Rattle.abs_plans.specs.Casts.{cast_of, asks, verdict_of, verdict_plan};
 ghost use Rattle.abs_turns.specs.PlansSeen.{turn_seen, plan_seen};
 
@@ -213,7 +214,9 @@ fn lowered<P: Pairs>(
     whole: &Stack<Id>,
     rest: &Stack<Id>,
 ) -> Result<Turn, AllocError>
-    ensures { IfOk result (λ turn. turn_seen turn ≡ with_bound x (option_and_then (bounded (types_here spot.now) ((types_here spot.now).erase t)) (cell_here spot.now x)) (cast_of spot.now form whole.now.0 rest.now.0).passed) }
+    ensures { IfOk result
+        (λ turn. turn_seen turn ≡ with_bound x (option_and_then (bounded (types_here spot.now) ((types_here spot.now).erase t))
+        (cell_here spot.now x)) (cast_of spot.now form whole.now.0 rest.now.0).passed) }
 {
     let turn = passed(alloc, spot, form, whole, rest)?;
     with_bound(alloc, x, bounded(spot, erased(spot, t), x), turn)
@@ -229,7 +232,11 @@ fn lowered_if<P: Pairs>(
     whole: &Stack<Id>,
     rest: &Stack<Id>,
 ) -> Result<Option<Turn>, AllocError>
-    ensures { IfOk result (λ turn. option_to_list (option_map turn_seen turn) ≡ (if may_be_below spot.now t (cell_bound (cell_here spot.now x)) then with_bound x (option_and_then (bounded (types_here spot.now) ((types_here spot.now).erase t)) (cell_here spot.now x)) (cast_of spot.now form whole.now.0 rest.now.0).passed ∷ [] else [])) }
+    ensures { IfOk result
+        (λ turn. option_to_list (option_map turn_seen turn)
+        ≡ (if may_be_below spot.now t (cell_bound (cell_here spot.now x)) then with_bound x
+        (option_and_then (bounded (types_here spot.now) ((types_here spot.now).erase t)) (cell_here spot.now x))
+        (cast_of spot.now form whole.now.0 rest.now.0).passed ∷ [] else [])) }
 {
     if !may_be_below(spot, t, x) {
         return Ok(None);
@@ -267,7 +274,8 @@ fn cast<P: Pairs>(
     whole: &Stack<Id>,
     rest: &Stack<Id>,
 ) -> Result<Plan, AllocError>
-    ensures { IfOk result (λ plan. plan_seen plan ≡ verdict_plan spot.now t x (cast_of spot.now form whole.now.0 rest.now.0) (verdict_of spot.now t x (asks form))) }
+    ensures { IfOk result (λ plan. plan_seen plan ≡ verdict_plan spot.now t x (cast_of spot.now form whole.now.0 rest.now.0)
+        (verdict_of spot.now t x (asks form))) }
 {
     match judged(spot, t, x, matches!(form, CastForm::Test)) {
         Verdict::Null => one_step(alloc, null(alloc, spot, form, whole, rest)?),

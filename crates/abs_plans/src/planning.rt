@@ -140,7 +140,8 @@ fn plan_typed<P: Pairs>(
 ) -> Result<Plan, AllocError>
     requires sound { IsSound (types_of (program_of program.now).world) state.now }
     requires form { form_of op.now ≡ Some (form_seen form.now) }
-    ensures { IfOk result (λ plan. plan_seen plan ≡ plan_here (program_of program.now) (typing_at typing.now) state.now frame.now (reverse below.now) (Some (form_seen form.now)) next (typing_at typing.now frame.now.method frame.now.pc)) }
+    ensures { IfOk result (λ plan. plan_seen plan ≡ plan_here (program_of program.now) (typing_at typing.now) state.now frame.now
+        (reverse below.now) (Some (form_seen form.now)) next (typing_at typing.now frame.now.method frame.now.pc)) }
 {
     let place = frame.pc();
     match typing.at(frame.method(), place) {
@@ -165,7 +166,8 @@ fn plan_here<P: Pairs>(
     next: Option<u16>,
 ) -> Result<Plan, AllocError>
     requires { IsSound (types_of (program_of program.now).world) state.now }
-    ensures { IfOk result (λ plan. plan_seen plan ≡ plan_here (program_of program.now) (typing_at typing.now) state.now frame.now (reverse below.now) (form_of op.now) next (typing_at typing.now frame.now.method frame.now.pc)) }
+    ensures { IfOk result (λ plan. plan_seen plan ≡ plan_here (program_of program.now) (typing_at typing.now) state.now frame.now
+        (reverse below.now) (form_of op.now) next (typing_at typing.now frame.now.method frame.now.pc)) }
 {
     match form_of(op) {
         Some(form) => plan_typed(alloc, program, typing, state, frame, below, op, &form, next),
@@ -193,7 +195,9 @@ fn plan_thrown<P: Pairs>(
     x: Id,
 ) -> Result<Plan, AllocError>
     requires { IsSound (types_of (program_of program.now).world) state.now }
-    ensures { (typing : ℕ → CodeTypes) → IfOk result (λ plan. plan_seen plan ≡ plan_in (program_of program.now) typing state.now (Some x) (frame.now ∷ reverse below.now)) }
+    ensures { (typing : ℕ → CodeTypes)
+        → IfOk result (λ plan. plan_seen plan ≡ plan_in (program_of program.now) typing state.now (Some x)
+        (frame.now ∷ reverse below.now)) }
 {
     let types = FrameType {
         locals: Seq::new(alloc),
@@ -213,7 +217,8 @@ fn plan_normal<P: Pairs>(
     below: &[AbsFrame],
 ) -> Result<Plan, AllocError>
     requires { IsSound (types_of (program_of program.now).world) state.now }
-    ensures { IfOk result (λ plan. plan_seen plan ≡ plan_in (program_of program.now) (typing_at typing.now) state.now None (frame.now ∷ reverse below.now)) }
+    ensures { IfOk result (λ plan. plan_seen plan ≡ plan_in (program_of program.now) (typing_at typing.now) state.now None
+        (frame.now ∷ reverse below.now)) }
 {
     match program.at(frame.method(), frame.pc()) {
         Some((op, next)) => plan_here(alloc, program, typing, state, frame, below, op, next),
@@ -231,7 +236,8 @@ fn plan_running<P: Pairs>(
     below: &[AbsFrame],
 ) -> Result<Plan, AllocError>
     requires { IsSound (types_of (program_of program.now).world) state.now }
-    ensures { IfOk result (λ plan. plan_seen plan ≡ plan_in (program_of program.now) (typing_at typing.now) state.now state.now.throwing (frame.now ∷ reverse below.now)) }
+    ensures { IfOk result (λ plan. plan_seen plan ≡ plan_in (program_of program.now) (typing_at typing.now) state.now
+        state.now.throwing (frame.now ∷ reverse below.now)) }
 {
     match state.throwing() {
         Some(x) => plan_thrown(alloc, program, state, frame, below, x),

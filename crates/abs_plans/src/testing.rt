@@ -110,7 +110,8 @@ pub fn first_stop<P: Pairs>(
     stack: &Stack<Id>,
 ) -> Option<Plan>
     requires { stack.now.0 ≡ spot.now.frame.stack }
-    ensures { option_map plan_seen result ≡ first_stop (types_here spot.now) spot.now.state (operands_of count spot.now.places stack.now.0) }
+    ensures { option_map plan_seen result ≡ first_stop (types_here spot.now) spot.now.state
+        (operands_of count spot.now.places stack.now.0) }
 {
     let mut depth = spot.depth_of(count, stack);
     while depth > 0 {

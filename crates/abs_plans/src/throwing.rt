@@ -71,8 +71,11 @@ pub(crate) struct Taking {
 
 /// The first range that takes an object, and whether one before it may, where one more range comes first.
 fn with_range<P: Pairs>(spot: &Spot<'_, '_, P>, x: Id, range: CatchRange, rest: Taking) -> Taking
-    ensures may { (ranges : List CatchRange) → rest.may ≡ may_of (types_here spot.now) spot.now.state x (covers spot.now.frame.pc) ranges → result.may ≡ may_of (types_here spot.now) spot.now.state x (covers spot.now.frame.pc) (range ∷ ranges) }
-    ensures taker { (ranges : List CatchRange) → rest.taker ≡ taker_of (types_here spot.now) spot.now.state x (covers spot.now.frame.pc) ranges → result.taker ≡ taker_of (types_here spot.now) spot.now.state x (covers spot.now.frame.pc) (range ∷ ranges) }
+    ensures may { (ranges : List CatchRange) → rest.may ≡ may_of (types_here spot.now) spot.now.state x (covers spot.now.frame.pc)
+        ranges → result.may ≡ may_of (types_here spot.now) spot.now.state x (covers spot.now.frame.pc) (range ∷ ranges) }
+    ensures taker { (ranges : List CatchRange)
+        → rest.taker ≡ taker_of (types_here spot.now) spot.now.state x (covers spot.now.frame.pc) ranges
+        → result.taker ≡ taker_of (types_here spot.now) spot.now.state x (covers spot.now.frame.pc) (range ∷ ranges) }
 {
     if !covers(spot.place(), range) {
         return rest;
@@ -163,7 +166,8 @@ fn caught<P: Pairs>(
     x: Id,
     table: &[CatchRange],
 ) -> Result<Plan, AllocError>
-    ensures { IfOk result (λ plan. plan_seen plan ≡ caught_plan (types_here spot.now) spot.now.state x spot.now.frame spot.now.below (filter (covers spot.now.frame.pc) table.now)) }
+    ensures { IfOk result (λ plan. plan_seen plan ≡ caught_plan (types_here spot.now) spot.now.state x spot.now.frame spot.now.below
+        (filter (covers spot.now.frame.pc) table.now)) }
 {
     let Taking { may, taker } = first_taker(spot, x, table);
     if spot.is_unknown(x) && (may || taker.is_none()) {
@@ -183,7 +187,8 @@ pub fn thrown<P: Pairs>(
     x: Id,
     table: &[CatchRange],
 ) -> Result<Plan, AllocError>
-    ensures { IfOk result (λ plan. plan_seen plan ≡ throwing_plan (types_here spot.now) spot.now.state x spot.now.frame spot.now.below table.now) }
+    ensures { IfOk result (λ plan. plan_seen plan ≡ throwing_plan (types_here spot.now) spot.now.state x spot.now.frame
+        spot.now.below table.now) }
 {
     let place = PlaceType::Ref(class_type(THROWABLE));
     match passing_id(spot, place, x) {

@@ -20,11 +20,14 @@ use Rattle.abs_reach.proofs.Walks.{counted_reaches}
 
 -- ---- patterns of ids that give the same
 
-same_patterns : (f g : ℕ → Option (Option Pattern)) (ids : List ℕ) → ((i id : ℕ) → slice_get ids i ≡ Some id → f id ≡ g id) → patterns_by f ids ≡ patterns_by g ids
+same_patterns : (f g : ℕ → Option (Option Pattern)) (ids : List ℕ) → ((i id : ℕ) → slice_get ids i ≡ Some id → f id ≡ g id)
+    → patterns_by f ids ≡ patterns_by g ids
 same_patterns f g [] h = refl
-same_patterns f g (id ∷ ids) h = ap (λ (first : Option (Option Pattern)). with_first first (patterns_by f ids)) (h 0 id refl) ∙ ap (with_first (g id)) (same_patterns f g ids (λ i x e. h (suc i) x e))
+same_patterns f g (id ∷ ids) h = ap (λ (first : Option (Option Pattern)). with_first first (patterns_by f ids)) (h 0 id refl)
+    ∙ ap (with_first (g id)) (same_patterns f g ids (λ i x e. h (suc i) x e))
 
-same_of_cell : (f g : ℕ → Option (Option Pattern)) (id : ℕ) (cell : Cell) → ((i y : ℕ) → slice_get (ids_of cell) i ≡ Some y → f y ≡ g y) → pattern_of_cell f id cell ≡ pattern_of_cell g id cell
+same_of_cell : (f g : ℕ → Option (Option Pattern)) (id : ℕ) (cell : Cell)
+    → ((i y : ℕ) → slice_get (ids_of cell) i ≡ Some y → f y ≡ g y) → pattern_of_cell f id cell ≡ pattern_of_cell g id cell
 same_of_cell f g id (Int interval) h = refl
 same_of_cell f g id Null h = refl
 same_of_cell f g id (Obj class ids) h = ap (option_map (λ (children : Patterns). Some (node class children))) (same_patterns f g ids h)
@@ -47,12 +50,20 @@ module _ (whole part : AbstractState) (d : IsDropped whole part) where
   next : (x i y : ℕ) → IsReached whole x → cell_steps whole x i ≡ Some y → IsReached whole y
   next x i y r e =
       let p = then_some (λ (cell : Cell). slice_get (ids_of cell) i) (cell_at whole x) y e in
-      let step : named_steps whole x i ≡ Some y = ap (option_and_then (λ (cell : Cell). slice_get (ids_in cell) i)) p.1.0 ∙ known_are_named p.0 i y p.1.1 in
-      record { place = r.place; start = r.start; stands = r.stands; reaches = onward (named_steps whole) r.start x y r.reaches (one_more (named_steps whole) x i y y step (here (named_steps whole) y y refl)) }
+      let step : named_steps whole x i ≡ Some y = ap (option_and_then (λ (cell : Cell). slice_get (ids_in cell) i)) p.1.0
+      ∙ known_are_named p.0 i y p.1.1 in
+      record {
+        place = r.place;
+        start = r.start;
+        stands = r.stands;
+        reaches = onward (named_steps whole) r.start x y r.reaches
+            (one_more (named_steps whole) x i y y step (here (named_steps whole) y y refl));
+      }
 
   along : (path : List ℕ) (x y : ℕ) → IsReached whole x → follow (cell_steps whole) path x ≡ Some y → IsReached whole y
   along [] x y r e = subst (IsReached whole) (some_is e) r
-  along (i ∷ path) x y r e = let p = then_some (follow (cell_steps whole) path) (cell_steps whole x i) y e in along path p.0 y (next x i p.0 r p.1.0) p.1.1
+  along (i ∷ path) x y r e = let p = then_some (follow (cell_steps whole) path) (cell_steps whole x i) y e in along path p.0 y
+      (next x i p.0 r p.1.0) p.1.1
 
   same_steps : (x i : ℕ) → IsReached whole x → cell_steps part x i ≡ cell_steps whole x i
   same_steps x i r = ap (option_and_then (λ (cell : Cell). slice_get (ids_of cell) i)) (d.kept x r)
@@ -61,7 +72,8 @@ module _ (whole part : AbstractState) (d : IsDropped whole part) where
   same_follow [] x r = refl
   same_follow (i ∷ path) x r =
       ap (option_and_then (follow (cell_steps part) path)) (same_steps x i r)
-      ∙ same_answer (follow (cell_steps part) path) (follow (cell_steps whole) path) (cell_steps whole x i) (λ y e. same_follow path y (next x i y r e))
+      ∙ same_answer (follow (cell_steps part) path) (follow (cell_steps whole) path) (cell_steps whole x i)
+      (λ y e. same_follow path y (next x i y r e))
 
   same_counted : (x : ℕ) → IsReached whole x → counted part x ≡ counted whole x
   same_counted x r = ap (option_and_then (λ (cell : Cell). if is_reference cell then Some x else None)) (d.kept x r)
@@ -74,7 +86,8 @@ module _ (whole part : AbstractState) (d : IsDropped whole part) where
   along_counted : (path : List ℕ) (x y : ℕ) → IsReached whole x → follow (counted_steps whole) path x ≡ Some y → IsReached whole y
   along_counted path x y r e = let k = counted_reaches whole path x y e in along k.path x y r k.leads
 
-  same_counted_paths : (path : List ℕ) (x : ℕ) → IsReached whole x → follow (counted_steps part) path x ≡ follow (counted_steps whole) path x
+  same_counted_paths : (path : List ℕ) (x : ℕ) → IsReached whole x
+      → follow (counted_steps part) path x ≡ follow (counted_steps whole) path x
   same_counted_paths [] x r = refl
   same_counted_paths (i ∷ path) x r =
       ap (option_and_then (follow (counted_steps part) path)) (same_counted_steps x i r)
@@ -103,13 +116,15 @@ module _ (whole part : AbstractState) (d : IsDropped whole part) where
   finite_before : (x : ℕ) → IsReached whole x → IsFiniteId part x → IsFiniteId whole x
   finite_before x r h = record {
     acyclic = dag_before x r h.acyclic;
-    hazy = λ q cell k c. h.hazy q cell (record { path = k.path; leads = same_follow k.path x r ∙ k.leads }) (d.kept q (along k.path x q r k.leads) ∙ c);
+    hazy = λ q cell k c. h.hazy q cell (record { path = k.path; leads = same_follow k.path x r ∙ k.leads })
+        (d.kept q (along k.path x q r k.leads) ∙ c);
   }
 
   finite_after : (x : ℕ) → IsReached whole x → IsFiniteId whole x → IsFiniteId part x
   finite_after x r h = record {
     acyclic = dag_after x r h.acyclic;
-    hazy = λ q cell k c. let before = known_before x q r k in h.hazy q cell before (sym (d.kept q (along before.path x q r before.leads)) ∙ c);
+    hazy = λ q cell k c. let before = known_before x q r k in h.hazy q cell before
+        (sym (d.kept q (along before.path x q r before.leads)) ∙ c);
   }
 
 pub sized_alike : DroppedIdsKeepSizes
@@ -124,9 +139,11 @@ sized_alike whole part id d there =
     }
 
 -- an id that has a pattern has a cell
-pattern_has_cell : (state : AbstractState) (id depth : ℕ) (given : Option Pattern) → pattern_within depth state id ≡ Some given → HasCell (λ _. true) state id
+pattern_has_cell : (state : AbstractState) (id depth : ℕ) (given : Option Pattern) → pattern_within depth state id ≡ Some given
+    → HasCell (λ _. true) state id
 pattern_has_cell state id zero given e = absurd (none-some given e)
-pattern_has_cell state id (suc depth) given e = let p = then_some (pattern_of_cell (pattern_within depth state) id) (cell_at state id) given e in record { cell = p.0; is = p.1.0; sort_is = refl }
+pattern_has_cell state id (suc depth) given e = let p = then_some (pattern_of_cell (pattern_within depth state) id)
+    (cell_at state id) given e in record { cell = p.0; is = p.1.0; sort_is = refl }
 
 -- an id that is sized after was sized before, by the same pattern
 pub sized_before : (whole part : AbstractState) (id : ℕ) → IsDropped whole part → IsSized part id → IsSized whole id

@@ -14,11 +14,13 @@ use Rattle.abs_reach.proofs.Walks.{some_cell}
 
 pub restricted : RestrictedStatesFit
 restricted types whole part machine meaning r h = record {
-  positions = subst (λ (frames : List AbstractFrame). AllZip (FitsFrame meaning) frames (with_statics machine.statics machine.frames)) (sym r.frames) h.positions;
+  positions = subst (λ (frames : List AbstractFrame). AllZip (FitsFrame meaning) frames
+      (with_statics machine.statics machine.frames)) (sym r.frames) h.positions;
   mode = subst (λ (id : Option ℕ). FitsMode meaning id machine.mode) (sym r.throwing) h.mode;
   cells = λ id cell e. h.cells id cell (sym (r.cells id (record { cell = cell; is = e; sort_is = refl })) ∙ e);
   aliases = λ a b o ca cb d ta tb. r.eq a b ca cb (h.aliases a b o (lifted a ca) (lifted b cb) d ta tb);
-  meeting = λ a b o ca cb d ra rb. r.share a b (some_cell part a ca) (some_cell part b cb) (h.meeting a b o (lifted a ca) (lifted b cb) d ra rb);
+  meeting = λ a b o ca cb d ra rb. r.share a b (some_cell part a ca) (some_cell part b cb)
+      (h.meeting a b o (lifted a ca) (lifted b cb) d ra rb);
   inside = λ k b o ck cb t rb. r.share k b (some_cell part k ck) (some_cell part b cb) (h.inside k b o (lifted k ck) (lifted b cb) t rb);
   shapes = λ id cell shape e f. h.shapes id cell shape (sym (r.cells id (record { cell = cell; is = e; sort_is = refl })) ∙ e) f;
 }
@@ -36,5 +38,6 @@ dropped_restricted whole part d = record {
   share = λ a b ha hb s. (d.share a b).1 (s, (d.gone a ha, d.gone b hb));
 }
 
-pub dropped_fits : (types : WorldTypes) (whole part : AbstractState) (machine : MachineState) (meaning : Meaning) → IsDropped whole part → Fits types whole machine meaning → Fits types part machine meaning
+pub dropped_fits : (types : WorldTypes) (whole part : AbstractState) (machine : MachineState) (meaning : Meaning)
+    → IsDropped whole part → Fits types whole machine meaning → Fits types part machine meaning
 dropped_fits types whole part machine meaning d f = restricted types whole part machine meaning (dropped_restricted whole part d) f

@@ -1,5 +1,6 @@
 -- How much of a walk is left: it ends, and its trail is never longer than there are cells.
-use Rattle.std.proofs.Common.{◌≡◌, ℕ, zero, suc, ◌+◌, ◌-◌, ◌<◌, ◌≤◌, eqb, Bool, true, false, cond, List, [], ◌∷◌, length, Option, Some, None, inl, inr, refl, sym, ap, subst, ◌∙◌, arith, if◌then◌else◌}
+use Rattle.std.proofs.Common.{◌≡◌, ℕ, zero, suc, ◌+◌, ◌-◌, ◌<◌, ◌≤◌, eqb, Bool, true, false, cond, List, [], ◌∷◌, length, Option}
+use Rattle.std.proofs.Common.{Some, None, inl, inr, refl, sym, ap, subst, ◌∙◌, arith, if◌then◌else◌}
 use Rattle.std.specs.Option.{option_and_then}
 use Rattle.std.specs.Prelude.{slice_get}
 use Rattle.std.proofs.lemmas.Bool.{false≢true, cases_Bool, eqb-true, cond-true, cond-false}
@@ -26,21 +27,25 @@ fewer_here : (n : ℕ) (b d : Bool) → (d ≡ true → b ≡ true) → cond b 0
 fewer_here n b true h = let e : cond b 0 n ≡ 0 = cond-true b 0 n (h refl) in omega (arith, e)
 fewer_here n b false h = cond_most b n
 
-pub fewer : (weight : Cell → ℕ) (cells : List (ℕ × Cell)) (now met : List ℕ) → ((n : ℕ) → IsIn met n → IsIn now n) → still weight cells now ≤ still weight cells met
+pub fewer : (weight : Cell → ℕ) (cells : List (ℕ × Cell)) (now met : List ℕ) → ((n : ℕ) → IsIn met n → IsIn now n)
+    → still weight cells now ≤ still weight cells met
 fewer weight [] now met h = omega arith
 fewer weight (c ∷ cells) now met h =
     let here = fewer_here (weight c.1) (has_id now c.0) (has_id met c.0) (h c.0) in
     let rest = fewer weight cells now met h in
     omega (arith, here, rest)
 
-pub one_fewer : (weight : Cell → ℕ) (cells : List (ℕ × Cell)) (now met : List ℕ) (id : ℕ) (cell : Cell) → IsWith now met id → has_id met id ≡ false → cell_in cells id ≡ Some cell → still weight cells now + weight cell ≤ still weight cells met
+pub one_fewer : (weight : Cell → ℕ) (cells : List (ℕ × Cell)) (now met : List ℕ) (id : ℕ) (cell : Cell) → IsWith now met id
+    → has_id met id ≡ false → cell_in cells id ≡ Some cell → still weight cells now + weight cell ≤ still weight cells met
 one_fewer weight [] now met id cell w m e = absurd (none-some cell e)
 one_fewer weight (c ∷ cells) now met id cell w m e = elim (cases_Bool (eqb c.0 id)) [
   | inl t ↦
       let is : c.1 ≡ cell = some_is (sym (ap (λ (b : Bool). if b then Some c.1 else cell_in cells id) t) ∙ e) in
       let at : c.0 ≡ id = eqb-true c.0 id t in
-      let gone : cond (has_id now c.0) 0 (weight c.1) ≡ 0 = cond-true (has_id now c.0) 0 (weight c.1) (ap (has_id now) at ∙ put_here now met id w) in
-      let was : cond (has_id met c.0) 0 (weight c.1) ≡ weight cell = cond-false (has_id met c.0) 0 (weight c.1) (ap (has_id met) at ∙ m) ∙ ap weight is in
+      let gone : cond (has_id now c.0) 0 (weight c.1) ≡ 0 = cond-true (has_id now c.0) 0 (weight c.1)
+      (ap (has_id now) at ∙ put_here now met id w) in
+      let was : cond (has_id met c.0) 0 (weight c.1) ≡ weight cell = cond-false (has_id met c.0) 0 (weight c.1)
+      (ap (has_id met) at ∙ m) ∙ ap weight is in
       let rest = fewer weight cells now met (λ n k. put_keeps now met id n w k) in
       omega (arith, gone, was, rest)
   | inr t ↦
@@ -50,7 +55,8 @@ one_fewer weight (c ∷ cells) now met id cell w m e = elim (cases_Bool (eqb c.0
       omega (arith, here, rest)
 ]
 
-pub not_none : (cells : List (ℕ × Cell)) (met : List ℕ) (id : ℕ) (cell : Cell) → has_id met id ≡ false → cell_in cells id ≡ Some cell → 1 ≤ still one cells met
+pub not_none : (cells : List (ℕ × Cell)) (met : List ℕ) (id : ℕ) (cell : Cell) → has_id met id ≡ false
+    → cell_in cells id ≡ Some cell → 1 ≤ still one cells met
 not_none [] met id cell m e = absurd (none-some cell e)
 not_none (c ∷ cells) met id cell m e = elim (cases_Bool (eqb c.0 id)) [
   | inl t ↦
@@ -88,7 +94,9 @@ has_cell_low cells id r e = let c = the_cell (cell_in cells id) e in id_low 0 ce
 
 module _ (names : Names) where
   -- ids that are reached have cells
-  pub reached_there : (cells : List (ℕ × Cell)) → AreNamedThere names cells → (path : List ℕ) (x y : ℕ) → is_of_sort (λ _. true) (cell_in cells x) ≡ true → follow (steps_in names cells) path x ≡ Some y → is_of_sort (λ _. true) (cell_in cells y) ≡ true
+  pub reached_there : (cells : List (ℕ × Cell)) → AreNamedThere names cells → (path : List ℕ) (x y : ℕ)
+      → is_of_sort (λ _. true) (cell_in cells x) ≡ true → follow (steps_in names cells) path x ≡ Some y
+      → is_of_sort (λ _. true) (cell_in cells y) ≡ true
   reached_there cells named [] x y h e = subst (λ (z : ℕ). is_of_sort (λ _. true) (cell_in cells z) ≡ true) (some_is e) h
   reached_there cells named (i ∷ path) x y h e =
       let p = then_some (follow (steps_in names cells) path) (steps_in names cells x i) y e in
@@ -107,7 +115,8 @@ module _ (names : Names) where
   abbrev pub work : Cell → ℕ
   work cell = length (names_by names cell) + 2
 
-  pub step_within : (o : Option Cell) (i c : ℕ) → option_and_then (λ cell. slice_get (names_by names cell) i) o ≡ Some c → i < length (names_of o)
+  pub step_within : (o : Option Cell) (i c : ℕ) → option_and_then (λ cell. slice_get (names_by names cell) i) o ≡ Some c
+      → i < length (names_of o)
   step_within None i c e = absurd (none-some c e)
   step_within (Some cell) i c e = slice_get_within (names_by names cell) i c e
 
@@ -117,6 +126,7 @@ module _ (names : Names) where
   get_past (x ∷ xs) (suc i) zero e l = absurd (omega (arith, l))
   get_past (x ∷ xs) (suc i) (suc j) e l = get_past xs i j e (omega (arith, l))
 
-  pub no_step_past : (o : Option Cell) (i j : ℕ) → option_and_then (λ cell. slice_get (names_by names cell) i) o ≡ None → i ≤ j → option_and_then (λ cell. slice_get (names_by names cell) j) o ≡ None
+  pub no_step_past : (o : Option Cell) (i j : ℕ) → option_and_then (λ cell. slice_get (names_by names cell) i) o ≡ None → i ≤ j
+      → option_and_then (λ cell. slice_get (names_by names cell) j) o ≡ None
   no_step_past None i j e l = refl
   no_step_past (Some cell) i j e l = get_past (names_by names cell) i j e l

@@ -1,5 +1,6 @@
 -- Going along steps, deepest first: what holds between two turns.
-use Rattle.std.proofs.Common.{◌≡◌, ℕ, ◌+◌, ◌<◌, ◌≤◌, eqb, false, List, [], ◌∷◌, ◌++◌, Option, Some, None, ◌⊎◌, inl, inr, refl, sym, ap, subst, ◌∙◌, arith, eq-eqb}
+use Rattle.std.proofs.Common.{◌≡◌, ℕ, ◌+◌, ◌<◌, ◌≤◌, eqb, false, List, [], ◌∷◌, ◌++◌, Option, Some, None, ◌⊎◌, inl, inr, refl, sym}
+use Rattle.std.proofs.Common.{ap, subst, ◌∙◌, arith, eq-eqb}
 use Rattle.std.specs.Prelude.{◌↔◌}
 use Rattle.std.specs.Option.{option_and_then}
 use Rattle.std.proofs.lemmas.Bool.{false≢true, cases_lt, or_cases, or_left, or_right, eqb-true}
@@ -60,7 +61,9 @@ further steps start a b r s = record { from = r.from; starts = r.starts; reaches
 
 -- ---- the beginning
 
-pub begin : (steps : Steps) (met left : List ℕ) (trail : List (ℕ × ℕ)) → ((n : ℕ) → has_id left n ≡ false) → ((a : ℕ) → IsIn met a → IsOpen trail a) → ((a : ℕ) → IsOpen trail a → IsIn met a) → AreApart trail → ((a i : ℕ) → IsPassed trail a i → ⊥) → IsSearch steps met met left trail
+pub begin : (steps : Steps) (met left : List ℕ) (trail : List (ℕ × ℕ)) → ((n : ℕ) → has_id left n ≡ false)
+    → ((a : ℕ) → IsIn met a → IsOpen trail a) → ((a : ℕ) → IsOpen trail a → IsIn met a) → AreApart trail
+    → ((a i : ℕ) → IsPassed trail a i → ⊥) → IsSearch steps met met left trail
 begin steps met left trail none on off apart fresh = record {
   sound = λ b h. record { from = b; starts = h; reaches = here steps b b refl };
   begun = λ a h. h;
@@ -79,7 +82,8 @@ begin steps met left trail none on off apart fresh = record {
 
 -- ---- one turn
 
-module _ (steps : Steps) (start met left : List ℕ) (rest : List (ℕ × ℕ)) (a i : ℕ) (h : IsSearch steps start met left ((a, i) ∷ rest)) where
+module _ (steps : Steps) (start met left : List ℕ) (rest : List (ℕ × ℕ)) (a i : ℕ)
+    (h : IsSearch steps start met left ((a, i) ∷ rest)) where
   -- the step that comes next was not gone
   pub not_gone : IsGone left ((a, i) ∷ rest) a i → ⊥
   not_gone (inl k) = h.not_left a (inl refl) k
@@ -179,7 +183,8 @@ module _ (steps : Steps) (start met left : List ℕ) (rest : List (ℕ × ℕ)) 
   gone_above : (c b j : ℕ) → IsGone left ((a, i) ∷ rest) b j → IsGone left ((c, 0) ∷ (a, i + 1) ∷ rest) b j
   gone_above c b j k = elim (gone_on b j k) [ inl d ↦ inl d | inr p ↦ inr (inr p) ]
 
-  pub enter : (c : ℕ) (now : List ℕ) → steps a i ≡ Some c → has_id met c ≡ false → IsWith now met c → IsSearch steps start now left ((c, 0) ∷ (a, i + 1) ∷ rest)
+  pub enter : (c : ℕ) (now : List ℕ) → steps a i ≡ Some c → has_id met c ≡ false → IsWith now met c
+      → IsSearch steps start now left ((c, 0) ∷ (a, i + 1) ∷ rest)
   enter c now s m w =
       let fresh : IsIn met c → ⊥ = λ k. false≢true (sym m ∙ k) in
       record {
@@ -263,14 +268,16 @@ no_cycle_yet steps x left f = record {
   chain = (λ i c l s. absurd (omega (arith, l)), tt);
 }
 
-linked_still : (steps : Steps) (left now : List ℕ) → ((n : ℕ) → IsIn left n → IsIn now n) → (b : ℕ) (trail : List (ℕ × ℕ)) → AreLinked steps left b trail → AreLinked steps now b trail
+linked_still : (steps : Steps) (left now : List ℕ) → ((n : ℕ) → IsIn left n → IsIn now n) → (b : ℕ) (trail : List (ℕ × ℕ))
+    → AreLinked steps left b trail → AreLinked steps now b trail
 linked_still steps left now keeps b [] l = tt
 linked_still steps left now keeps b (e ∷ trail) l = (
   record { place = l.0.place; next = l.0.next; leads = l.0.leads; past = λ i c m s. keeps c (l.0.past i c m s) },
   linked_still steps left now keeps e.0 trail l.1,
 )
 
-along_left : (steps : Steps) (left : List ℕ) → ((a i c : ℕ) → IsIn left a → steps a i ≡ Some c → IsIn left c) → (path : List ℕ) (a b : ℕ) → IsIn left a → follow steps path a ≡ Some b → IsIn left b
+along_left : (steps : Steps) (left : List ℕ) → ((a i c : ℕ) → IsIn left a → steps a i ≡ Some c → IsIn left c)
+    → (path : List ℕ) (a b : ℕ) → IsIn left a → follow steps path a ≡ Some b → IsIn left b
 along_left steps left down [] a b m e = subst (λ (y : ℕ). IsIn left y) (some_is e) m
 along_left steps left down (i ∷ path) a b m e =
     let p = then_some (follow steps path) (steps a i) b e in
@@ -279,8 +286,10 @@ along_left steps left down (i ∷ path) a b m e =
 -- from a place on the trail a path leads to its top
 up : (steps : Steps) (left : List ℕ) (trail : List (ℕ × ℕ)) (b c : ℕ) → AreLinked steps left b trail → IsOpen trail c → Reaches steps c b
 up steps left [] b c l o = absurd o
-up steps left (e ∷ trail) b c l (inl s) = one_more steps c l.0.place b b (step_at steps c e.0 l.0.place (Some b) s l.0.leads) (here steps b b refl)
-up steps left (e ∷ trail) b c l (inr o) = onward steps c e.0 b (up steps left trail e.0 c l.1 o) (one_more steps e.0 l.0.place b b l.0.leads (here steps b b refl))
+up steps left (e ∷ trail) b c l (inl s) = one_more steps c l.0.place b b (step_at steps c e.0 l.0.place (Some b) s l.0.leads)
+    (here steps b b refl)
+up steps left (e ∷ trail) b c l (inr o) = onward steps c e.0 b (up steps left trail e.0 c l.1 o)
+    (one_more steps e.0 l.0.place b b l.0.leads (here steps b b refl))
 
 module _ (steps : Steps) (left : List ℕ) (rest : List (ℕ × ℕ)) (a i : ℕ) (h : HasNoCycle steps left ((a, i) ∷ rest)) where
   module _ (now : List ℕ) (w : IsWith now left a) (fresh : IsIn left a → ⊥) (over : (j : ℕ) → i ≤ j → steps a j ≡ None) where
@@ -309,7 +318,8 @@ module _ (steps : Steps) (left : List ℕ) (rest : List (ℕ × ℕ)) (a i : ℕ
         | inl k ↦ put_keeps now left a c w (l.0.past j c k s)
         | inr k ↦
             let same : j ≡ l.0.place = omega (arith, k, m, l.0.next) in
-            subst (λ (y : ℕ). IsIn now y) (some_is (sym l.0.leads ∙ subst (λ (z : ℕ). steps e.0 z ≡ Some c) same s)) (put_here now left a w)
+            subst (λ (y : ℕ). IsIn now y) (some_is (sym l.0.leads ∙ subst (λ (z : ℕ). steps e.0 z ≡ Some c) same s))
+            (put_here now left a w)
       ],
       linked_still steps left now (λ n k. put_keeps now left a n w k) e.0 trail l.1,
     )
@@ -356,7 +366,8 @@ module _ (steps : Steps) (left : List ℕ) (rest : List (ℕ × ℕ)) (a i : ℕ
         | inl e ↦ here steps c a (sym e)
         | inr k ↦ up steps left rest a c h.chain.1 k
       ] in
-      let round : follow steps (back.path ++ i ∷ []) c ≡ Some c = joined steps back.path (i ∷ []) c a c back.leads (ap (option_and_then (follow steps [])) s) in
+      let round : follow steps (back.path ++ i ∷ []) c ≡ Some c = joined steps back.path (i ∷ []) c a c back.leads
+      (ap (option_and_then (follow steps [])) s) in
       nil_is_not_last back.path i (sym (dag r.path c r.leads (back.path ++ i ∷ []) round))
 
 -- ---- by one way
@@ -383,32 +394,43 @@ module _ (steps : Steps) (count : ℕ → Option ℕ) (same : (c d : ℕ) → co
       none a i (inr (inl h)) = absurd (omega (arith, h.1))
       none a i (inr (inr h)) = h
 
-  once_back : (left now : List ℕ) (trail next : List (ℕ × ℕ)) → ((b j d : ℕ) → IsGone now next b j → counting steps count b j ≡ Some d → IsGone left trail b j) → IsOnce (counting steps count) x left trail → IsOnce (counting steps count) x now next
+  once_back : (left now : List ℕ) (trail next : List (ℕ × ℕ))
+      → ((b j d : ℕ) → IsGone now next b j → counting steps count b j ≡ Some d → IsGone left trail b j)
+      → IsOnce (counting steps count) x left trail → IsOnce (counting steps count) x now next
   once_back left now trail next back o = record {
     one = λ b c j k d g h s t. o.one b c j k d (back b j d g s) (back c k d h t) s t;
     none_back = λ b j g s. o.none_back b j (back b j x g s) s;
   }
 
-  module _ (start met left : List ℕ) (begins : IsIn start x) (alone : (y : ℕ) → IsIn start y → y ≡ x) (rest : List (ℕ × ℕ)) (a i : ℕ) (h : IsSearch steps start met left ((a, i) ∷ rest)) where
-    pub leave_once : (now : List ℕ) → IsWith now left a → ((j : ℕ) → i ≤ j → steps a j ≡ None) → IsOnce (counting steps count) x left ((a, i) ∷ rest) → IsOnce (counting steps count) x now rest
-    leave_once now w over o = once_back left now ((a, i) ∷ rest) rest (λ b j d g s. left_back steps start met left rest a i h now w over b j d g (is_step b j d s)) o
+  module _ (start met left : List ℕ) (begins : IsIn start x) (alone : (y : ℕ) → IsIn start y → y ≡ x) (rest : List (ℕ × ℕ))
+      (a i : ℕ) (h : IsSearch steps start met left ((a, i) ∷ rest)) where
+    pub leave_once : (now : List ℕ) → IsWith now left a → ((j : ℕ) → i ≤ j → steps a j ≡ None)
+        → IsOnce (counting steps count) x left ((a, i) ∷ rest) → IsOnce (counting steps count) x now rest
+    leave_once now w over o = once_back left now ((a, i) ∷ rest) rest
+        (λ b j d g s. left_back steps start met left rest a i h now w over b j d g (is_step b j d s)) o
 
     -- a step to a place that doesn't count is no step that counts
-    pub meet_once : (c : ℕ) → steps a i ≡ Some c → count c ≡ None → IsOnce (counting steps count) x left ((a, i) ∷ rest) → IsOnce (counting steps count) x left ((a, i + 1) ∷ rest)
-    meet_once c s n o = once_back left left ((a, i) ∷ rest) ((a, i + 1) ∷ rest) (λ b j d g t. elim (gone_more steps start met left rest a i h b j g) [
-      | inl k ↦ k
-      | inr e ↦
-          let there : c ≡ d = step_is steps start met left rest a i h b j c d e s (is_step b j d t) in
-          let p = then_some count (steps b j) d t in
-          let at : p.0 ≡ c = same p.0 d p.1.1 ∙ sym there in
-          absurd (none-some d (sym n ∙ subst (λ (y : ℕ). count y ≡ Some d) at p.1.1))
-    ]) o
+    pub meet_once : (c : ℕ) → steps a i ≡ Some c → count c ≡ None → IsOnce (counting steps count) x left ((a, i) ∷ rest)
+        → IsOnce (counting steps count) x left ((a, i + 1) ∷ rest)
+    meet_once c s n o = once_back left left ((a, i) ∷ rest) ((a, i + 1) ∷ rest)
+        (λ b j d g t. elim (gone_more steps start met left rest a i h b j g) [
+          | inl k ↦ k
+          | inr e ↦
+              let there : c ≡ d = step_is steps start met left rest a i h b j c d e s (is_step b j d t) in
+              let p = then_some count (steps b j) d t in
+              let at : p.0 ≡ c = same p.0 d p.1.1 ∙ sym there in
+              absurd (none-some d (sym n ∙ subst (λ (y : ℕ). count y ≡ Some d) at p.1.1))
+        ]) o
 
-    pub enter_once : (c : ℕ) → steps a i ≡ Some c → has_id met c ≡ false → IsOnce (counting steps count) x left ((a, i) ∷ rest) → IsOnce (counting steps count) x left ((c, 0) ∷ (a, i + 1) ∷ rest)
+    pub enter_once : (c : ℕ) → steps a i ≡ Some c → has_id met c ≡ false → IsOnce (counting steps count) x left ((a, i) ∷ rest)
+        → IsOnce (counting steps count) x left ((c, 0) ∷ (a, i + 1) ∷ rest)
     enter_once c s m o =
         let fresh : IsIn met c → ⊥ = λ k. false≢true (sym m ∙ k) in
-        let cases : (b j : ℕ) → IsGone left ((c, 0) ∷ (a, i + 1) ∷ rest) b j → IsGone left ((a, i) ∷ rest) b j ⊎ ((b ≡ a) × (j ≡ i)) = λ b j g. gone_more steps start met left rest a i h b j (gone_below steps start met left rest a i h c b j g) in
-        let here_is : (b j d : ℕ) → (b ≡ a) × (j ≡ i) → counting steps count b j ≡ Some d → c ≡ d = λ b j d e t. step_is steps start met left rest a i h b j c d e s (is_step b j d t) in
+        let cases : (b j : ℕ) → IsGone left ((c, 0) ∷ (a, i + 1) ∷ rest) b j → IsGone left ((a, i) ∷ rest) b j
+        ⊎ ((b ≡ a) × (j ≡ i)) = λ b j g. gone_more steps start met left rest a i h b j
+        (gone_below steps start met left rest a i h c b j g) in
+        let here_is : (b j d : ℕ) → (b ≡ a) × (j ≡ i) → counting steps count b j ≡ Some d → c ≡ d = λ b j d e t. step_is steps start
+        met left rest a i h b j c d e s (is_step b j d t) in
         record {
           one = λ b e j k d g l s t. elim (cases b j g) [
             | inl u ↦ elim (cases e k l) [
@@ -427,21 +449,28 @@ module _ (steps : Steps) (count : ℕ → Option ℕ) (same : (c d : ℕ) → co
         }
 
     -- a step to a place that counts and was met: two ways lead there
-    pub clashes : (c d : ℕ) → ((b j : ℕ) (e : ℕ) → Reaches steps x b → steps b j ≡ Some e → Reaches (counting steps count) x b) → steps a i ≡ Some c → count c ≡ Some d → IsIn met c → IsTreeFrom (counting steps count) x → ⊥
+    pub clashes : (c d : ℕ) → ((b j : ℕ) (e : ℕ) → Reaches steps x b → steps b j ≡ Some e → Reaches (counting steps count) x b)
+        → steps a i ≡ Some c → count c ≡ Some d → IsIn met c → IsTreeFrom (counting steps count) x → ⊥
     clashes c d known s n m tree =
         let counted : counting steps count a i ≡ Some d = ap (option_and_then count) s ∙ n in
         let is : c ≡ d = same c d n in
         let top = known a i c (from_x a (h.sound a (h.open_met a (inl refl)))) s in
-        let there : follow (counting steps count) (top.path ++ i ∷ []) x ≡ Some d = joined (counting steps count) top.path (i ∷ []) x a d top.leads (ap (option_and_then (follow (counting steps count) [])) counted) in
+        let there : follow (counting steps count) (top.path ++ i ∷ []) x ≡ Some d = joined (counting steps count) top.path (i ∷ [])
+        x a d top.leads (ap (option_and_then (follow (counting steps count) [])) counted) in
         elim (h.found c m) [
           | inl e ↦ nil_is_not_last top.path i (tree [] (top.path ++ i ∷ []) d (ap Some (sym (alone c e) ∙ is)) there)
           | inr v ↦
               let from = known v.from v.place c (onward_from v.from v.gone) v.leads in
               let way : counting steps count v.from v.place ≡ Some d = ap (option_and_then count) v.leads ∙ n in
-              let too : follow (counting steps count) (from.path ++ v.place ∷ []) x ≡ Some d = joined (counting steps count) from.path (v.place ∷ []) x v.from d from.leads (ap (option_and_then (follow (counting steps count) [])) way) in
-              let lasts = same_from_push from.path top.path v.place i (tree (from.path ++ v.place ∷ []) (top.path ++ i ∷ []) d too there) in
-              let starts : v.from ≡ a = some_is (sym from.leads ∙ ap (λ (p : List ℕ). follow (counting steps count) p x) lasts.0 ∙ top.leads) in
-              not_gone steps start met left rest a i h (subst (λ (k : ℕ). IsGone left ((a, i) ∷ rest) a k) lasts.1 (subst (λ (b : ℕ). IsGone left ((a, i) ∷ rest) b v.place) starts v.gone))
+              let too : follow (counting steps count) (from.path ++ v.place ∷ []) x ≡ Some d = joined (counting steps count)
+              from.path (v.place ∷ []) x v.from d from.leads (ap (option_and_then (follow (counting steps count) [])) way) in
+              let lasts = same_from_push from.path top.path v.place i
+              (tree (from.path ++ v.place ∷ []) (top.path ++ i ∷ []) d too there) in
+              let starts : v.from ≡ a = some_is (sym from.leads ∙ ap (λ (p : List ℕ). follow (counting steps count) p x) lasts.0
+              ∙ top.leads) in
+              not_gone steps start met left rest a i h
+              (subst (λ (k : ℕ). IsGone left ((a, i) ∷ rest) a k) lasts.1
+              (subst (λ (b : ℕ). IsGone left ((a, i) ∷ rest) b v.place) starts v.gone))
         ]
       where
         from_x : (b : ℕ) → IsReachedFrom steps start b → Reaches steps x b
@@ -451,10 +480,14 @@ module _ (steps : Steps) (count : ℕ → Option ℕ) (same : (c d : ℕ) → co
         onward_from b (inl k) = from_x b (h.sound b (h.left_met b k))
         onward_from b (inr k) = from_x b (h.sound b (h.open_met b (passed_open ((a, i) ∷ rest) b _ k)))
 
-  pub one_way : (start met left : List ℕ) → IsIn start x → IsSearch steps start met left [] → IsOnce (counting steps count) x left [] → IsTreeFrom (counting steps count) x
+  pub one_way : (start met left : List ℕ) → IsIn start x → IsSearch steps start met left []
+      → IsOnce (counting steps count) x left [] → IsTreeFrom (counting steps count) x
   one_way start met left begins h o =
-      let gone : (b j : ℕ) → Reaches (counting steps count) x b → IsGone left [] b j = λ b j r. inl (all_left steps start met left h b ((exact steps start met left h b).1 (record { from = x; starts = begins; reaches = counted_reach r.path x b r.leads }))) in
-      tree_from (counting steps count) x (λ b e j k d r q s t. o.one b e j k d (gone b j r) (gone e k q) s t) (λ b j r s. o.none_back b j (gone b j r) s)
+      let gone : (b j : ℕ) → Reaches (counting steps count) x b → IsGone left [] b j = λ b j r. inl
+      (all_left steps start met left h b
+      ((exact steps start met left h b).1 (record { from = x; starts = begins; reaches = counted_reach r.path x b r.leads }))) in
+      tree_from (counting steps count) x (λ b e j k d r q s t. o.one b e j k d (gone b j r) (gone e k q) s t)
+      (λ b j r s. o.none_back b j (gone b j r) s)
     where
       counted_reach : (path : List ℕ) (b e : ℕ) → follow (counting steps count) path b ≡ Some e → Reaches steps b e
       counted_reach [] b e p = here steps b e (some_is p)

@@ -26,9 +26,11 @@ use Rattle.abs_reach.proofs.Walks.{way, path_back, counted_reaches, known_is_ref
 pub ways : ClosuresAreWays
 ways types state machine meaning good h path x a b c e f = way types state machine meaning good h path x a b c e f
 
-module _ (types : WorldTypes) (state : AbstractState) (machine : MachineState) (meaning : Meaning) (good : IsWellFormed state) (h : Fits types state machine meaning) where
+module _ (types : WorldTypes) (state : AbstractState) (machine : MachineState) (meaning : Meaning) (good : IsWellFormed state)
+    (h : Fits types state machine meaning) where
   -- the known ids of one object are one
-  known_one : (a b o : ℕ) → HasCell is_known state a → HasCell is_known state b → target (meaning a) ≡ Some o → target (meaning b) ≡ Some o → a ≡ b
+  known_one : (a b o : ℕ) → HasCell is_known state a → HasCell is_known state b → target (meaning a) ≡ Some o
+      → target (meaning b) ≡ Some o → a ≡ b
   known_one a b o ka kb ta tb = elim (cases_eq a b) [
     | inl e ↦ e
     | inr d ↦ absurd (known_apart types state machine meaning good h a b o ka kb d ta tb)
@@ -82,14 +84,21 @@ module _ (types : WorldTypes) (state : AbstractState) (machine : MachineState) (
       one_or_share (inl e) = inl e
       one_or_share (inr d) = inr (h.meeting v.q w.q o v.hazy w.hazy d (in_region v) (in_region w))
 
-  lies : (k x o : ℕ) → HasCell is_known state k → target (meaning k) ≡ Some o → (p : List ℕ) → Way state machine.heap meaning x p o → MayBeIn state k x
+  lies : (k x o : ℕ) → HasCell is_known state k → target (meaning k) ≡ Some o → (p : List ℕ) → Way state machine.heap meaning x p o
+      → MayBeIn state k x
   lies k x o c t p (inl w) = record {
     counts = known_is_reference state k c;
     there = inl (subst (KnownFrom state x) (known_one w.y k o w.known c w.names t) (counted_reaches state p x w.y w.leads));
   }
   lies k x o c t p (inr w) = record {
     counts = known_is_reference state k c;
-    there = inr (record { q = w.q; from_x = counted_reaches state w.front x w.q w.leads; hazy = w.hazy; share = h.inside k w.q o c w.hazy t (in_region w) });
+    there = inr (record {
+      q = w.q;
+      from_x = counted_reaches state w.front x w.q w.leads;
+      hazy = w.hazy;
+      share = h.inside k w.q o c
+          w.hazy t (in_region w);
+    });
   }
 
   -- the region of a hazy id that may have no cycle has none
@@ -125,35 +134,46 @@ module _ (types : WorldTypes) (state : AbstractState) (machine : MachineState) (
   turned_nil (i ∷ p) [] e = absurd (cc)
   turned_nil (i ∷ p) (j ∷ q) e = absurd (cc)
 
-  no_cycle : (x a b : ℕ) (p q : List ℕ) → IsFiniteId state x → target (meaning x) ≡ Some a → Way state machine.heap meaning x p b → follow (heap_steps machine.heap) q b ≡ Some b → q ≡ []
-  no_cycle x a b p q fin t (inr w) g = hazy_dag x w.q fin (counted_reaches state w.front x w.q w.leads) w.hazy w.c w.names w.back b w.rest q g
+  no_cycle : (x a b : ℕ) (p q : List ℕ) → IsFiniteId state x → target (meaning x) ≡ Some a → Way state machine.heap meaning x p b
+      → follow (heap_steps machine.heap) q b ≡ Some b → q ≡ []
+  no_cycle x a b p q fin t (inr w) g = hazy_dag x w.q fin (counted_reaches state w.front x w.q w.leads) w.hazy w.c w.names w.back b
+      w.rest q g
   no_cycle x a b p q fin t (inl v) g = round (way types state machine meaning good h q v.y b b (some_cell state v.y v.known) v.names g)
     where
       round : Way state machine.heap meaning v.y q b → q ≡ []
       round (inl w) = fin.acyclic p v.y v.leads q (w.leads ∙ ap Some (known_one w.y v.y b w.known v.known w.names v.names))
       round (inr w) =
-          let there : KnownFrom state x w.q = counted_reaches state (p ++ w.front) x w.q (joined (counted_steps state) p w.front x v.y w.q v.leads w.leads) in
-          let front : follow (heap_steps machine.heap) w.front b ≡ Some w.c = path_back types state machine meaning good h w.front v.y b w.q w.c v.names w.leads w.names in
-          let cycle : follow (heap_steps machine.heap) (w.back ++ w.front) w.c ≡ Some w.c = joined (heap_steps machine.heap) w.back w.front w.c b w.c w.rest front in
+          let there : KnownFrom state x w.q = counted_reaches state (p ++ w.front) x w.q
+          (joined (counted_steps state) p w.front x v.y w.q v.leads w.leads) in
+          let front : follow (heap_steps machine.heap) w.front b ≡ Some w.c = path_back types state machine meaning good h w.front
+          v.y b w.q w.c v.names w.leads w.names in
+          let cycle : follow (heap_steps machine.heap) (w.back ++ w.front) w.c ≡ Some w.c = joined (heap_steps machine.heap) w.back
+          w.front w.c b w.c w.rest front in
           let nil : w.back ++ w.front ≡ [] = hazy_dag x w.q fin there w.hazy w.c w.names [] w.c refl (w.back ++ w.front) cycle in
           w.splits ∙ turned_nil w.front w.back nil
 
-  one_path : (x b : ℕ) (p q : List ℕ) → IsTreeId state x → Way state machine.heap meaning x p b → Way state machine.heap meaning x q b → p ≡ q
+  one_path : (x b : ℕ) (p q : List ℕ) → IsTreeId state x → Way state machine.heap meaning x p b
+      → Way state machine.heap meaning x q b → p ≡ q
   one_path x b p q tree (inl v) (inl w) =
       let same : v.y ≡ w.y = known_one v.y w.y b v.known w.known v.names w.names in
       tree.one_path p q w.y (v.leads ∙ ap Some same) w.leads
   one_path x b p q tree (inl v) (inr w) =
-      absurd (tree.apart v.y w.q (counted_reaches state p x v.y v.leads) (counted_reaches state w.front x w.q w.leads) (not_one state v.y w.q v.known w.hazy) (h.inside v.y w.q b v.known w.hazy v.names (in_region w)))
+      absurd (tree.apart v.y w.q (counted_reaches state p x v.y v.leads) (counted_reaches state w.front x w.q w.leads)
+      (not_one state v.y w.q v.known w.hazy) (h.inside v.y w.q b v.known w.hazy v.names (in_region w)))
   one_path x b p q tree (inr v) (inl w) =
-      absurd (tree.apart w.y v.q (counted_reaches state q x w.y w.leads) (counted_reaches state v.front x v.q v.leads) (not_one state w.y v.q w.known v.hazy) (h.inside w.y v.q b w.known v.hazy w.names (in_region v)))
+      absurd (tree.apart w.y v.q (counted_reaches state q x w.y w.leads) (counted_reaches state v.front x v.q v.leads)
+      (not_one state w.y v.q w.known v.hazy) (h.inside w.y v.q b w.known v.hazy w.names (in_region v)))
   one_path x b p q tree (inr v) (inr w) = decide (cases_eq v.q w.q)
     where
       decide : (v.q ≡ w.q) ⊎ (v.q ≢ w.q) → p ≡ q
-      decide (inr d) = absurd (tree.apart v.q w.q (counted_reaches state v.front x v.q v.leads) (counted_reaches state w.front x w.q w.leads) d (h.meeting v.q w.q b v.hazy w.hazy d (in_region v) (in_region w)))
+      decide (inr d) = absurd
+          (tree.apart v.q w.q (counted_reaches state v.front x v.q v.leads) (counted_reaches state w.front x w.q w.leads) d
+          (h.meeting v.q w.q b v.hazy w.hazy d (in_region v) (in_region w)))
       decide (inl e) =
           let fronts : v.front ≡ w.front = tree.one_path v.front w.front w.q (v.leads ∙ ap Some e) w.leads in
           let starts : v.c ≡ w.c = some_is (sym v.names ∙ ap (λ (z : ℕ). target (meaning z)) e ∙ w.names) in
-          let backs : v.back ≡ w.back = hazy_tree x w.q tree (counted_reaches state w.front x w.q w.leads) w.hazy w.c w.names v.back w.back b (ap (follow (heap_steps machine.heap) v.back) (sym starts) ∙ v.rest) w.rest in
+          let backs : v.back ≡ w.back = hazy_tree x w.q tree (counted_reaches state w.front x w.q w.leads) w.hazy w.c w.names v.back
+          w.back b (ap (follow (heap_steps machine.heap) v.back) (sym starts) ∙ v.rest) w.rest in
           v.splits ∙ ap (λ (r : List ℕ). r ++ v.back) fronts ∙ ap (λ (r : List ℕ). w.front ++ r) backs ∙ sym w.splits
 
 pub may_meet : MeetingRegionsMayMeet
@@ -164,11 +184,14 @@ may_meet types state machine meaning good h x y o cx cy rx ry =
 
 pub may_be_in : KnownIdsInsideMayBeIn
 may_be_in types state machine meaning good h k x o ck cx t r =
-    lies types state machine meaning good h k x o ck t r.reaches.path (way types state machine meaning good h r.reaches.path x r.start o cx r.names r.reaches.leads)
+    lies types state machine meaning good h k x o ck t r.reaches.path
+    (way types state machine meaning good h r.reaches.path x r.start o cx r.names r.reaches.leads)
 
 pub finite : FiniteIdsHaveNoCycles
-finite types state machine meaning good h x cx fin a t p b f q g = no_cycle types state machine meaning good h x a b p q fin t (way types state machine meaning good h p x a b cx t f) g
+finite types state machine meaning good h x cx fin a t p b f q g = no_cycle types state machine meaning good h x a b p q fin t
+    (way types state machine meaning good h p x a b cx t f) g
 
 pub tree : TreeIdsHaveTrees
 tree types state machine meaning good h x cx is a t p q b f g =
-    one_path types state machine meaning good h x b p q is (way types state machine meaning good h p x a b cx t f) (way types state machine meaning good h q x a b cx t g)
+    one_path types state machine meaning good h x b p q is (way types state machine meaning good h p x a b cx t f)
+    (way types state machine meaning good h q x a b cx t g)

@@ -1,5 +1,6 @@
 -- Paths of a heap along the ids of a state that describes it.
-use Rattle.std.proofs.Common.{◌≡◌, ℕ, zero, suc, ◌+◌, Bool, true, false, cond, ◌||◌, List, [], ◌∷◌, ◌++◌, map, length, All, Option, Some, None, ◌⊎◌, inl, inr, refl, sym, ap, subst, ◌∙◌, arith}
+use Rattle.std.proofs.Common.{◌≡◌, ℕ, zero, suc, ◌+◌, Bool, true, false, cond, ◌||◌, List, [], ◌∷◌, ◌++◌, map, length, All, Option}
+use Rattle.std.proofs.Common.{Some, None, ◌⊎◌, inl, inr, refl, sym, ap, subst, ◌∙◌, arith}
 use Rattle.std.specs.Prelude.{slice_get, nat_eq, if◌then◌else◌, ℤ}
 use Rattle.std.specs.Option.{option_and_then, option_map}
 use Rattle.std.specs.List.{flat_map}
@@ -28,16 +29,23 @@ use Rattle.abs_reach.specs.Ways.{Way}
 
 -- ---- the ids that cells name have cells
 
-all_of_cell : (P : ℕ → Type 0) (cells : List (ℕ × Cell)) (id : ℕ) (cell : Cell) → All P (flat_map (λ c. ids_in c.1) cells) → cell_in cells id ≡ Some cell → All P (ids_in cell)
+all_of_cell : (P : ℕ → Type 0) (cells : List (ℕ × Cell)) (id : ℕ) (cell : Cell) → All P (flat_map (λ c. ids_in c.1) cells)
+    → cell_in cells id ≡ Some cell → All P (ids_in cell)
 all_of_cell P [] id cell h e = absurd (none-some cell e)
 all_of_cell P (c ∷ cells) id cell h e = elim (cases_Bool (nat_eq c.0 id)) [
-  | inl f ↦ subst (λ (x : Cell). All P (ids_in x)) (some_is (sym (ap (λ (b : Bool). cond b (Some c.1) (cell_in cells id)) f) ∙ e)) (every_front P (ids_in c.1) (flat_map (λ x. ids_in x.1) cells) h)
-  | inr f ↦ all_of_cell P cells id cell (every_back P (ids_in c.1) (flat_map (λ x. ids_in x.1) cells) h) (sym (ap (λ (b : Bool). cond b (Some c.1) (cell_in cells id)) f) ∙ e)
+  | inl f ↦ subst (λ (x : Cell). All P (ids_in x)) (some_is (sym (ap (λ (b : Bool). cond b (Some c.1) (cell_in cells id)) f) ∙ e))
+      (every_front P (ids_in c.1) (flat_map (λ x. ids_in x.1) cells) h)
+  | inr f ↦ all_of_cell P cells id cell (every_back P (ids_in c.1) (flat_map (λ x. ids_in x.1) cells) h)
+      (sym (ap (λ (b : Bool). cond b (Some c.1) (cell_in cells id)) f) ∙ e)
 ]
 
-pub named_has_cell : (state : AbstractState) → IsWellFormed state → (x i id : ℕ) (cell : Cell) → cell_at state x ≡ Some cell → slice_get (ids_in cell) i ≡ Some id → HasCell (λ _. true) state id
+pub named_has_cell : (state : AbstractState) → IsWellFormed state → (x i id : ℕ) (cell : Cell) → cell_at state x ≡ Some cell
+    → slice_get (ids_in cell) i ≡ Some id → HasCell (λ _. true) state id
 named_has_cell state good x i id cell e f =
-    let cells : All (HasCell (λ _. true) state) (flat_map (λ c. ids_in c.1) state.cells) = every_back (HasCell (λ _. true) state) (given_ids (state.throwing ∷ [])) (flat_map (λ c. ids_in c.1) state.cells) (every_back (HasCell (λ _. true) state) (flat_map ids_of_frame state.frames) (given_ids (state.throwing ∷ []) ++ flat_map (λ c. ids_in c.1) state.cells) good.used) in
+    let cells : All (HasCell (λ _. true) state) (flat_map (λ c. ids_in c.1) state.cells) = every_back (HasCell (λ _. true) state)
+    (given_ids (state.throwing ∷ [])) (flat_map (λ c. ids_in c.1) state.cells)
+    (every_back (HasCell (λ _. true) state) (flat_map ids_of_frame state.frames)
+    (given_ids (state.throwing ∷ []) ++ flat_map (λ c. ids_in c.1) state.cells) good.used) in
     all_at (HasCell (λ _. true) state) (ids_in cell) i id (all_of_cell (HasCell (λ _. true) state) state.cells x cell cells e) f
 
 -- ---- known, hazy, or without an object
@@ -47,7 +55,8 @@ pub record IsNoObject (state : AbstractState) (x : ℕ) : Type 0 where
   pub is : cell_at state x ≡ Some cell
   pub none : is_reference cell ≡ false
 
-pub sort_of : (state : AbstractState) (x : ℕ) → HasCell (λ _. true) state x → (HasCell is_known state x ⊎ HasCell is_hazy state x) ⊎ IsNoObject state x
+pub sort_of : (state : AbstractState) (x : ℕ) → HasCell (λ _. true) state x → (HasCell is_known state x ⊎ HasCell is_hazy state x)
+    ⊎ IsNoObject state x
 sort_of state x h = go h.cell h.is
   where
     go : (cell : Cell) → cell_at state x ≡ Some cell → (HasCell is_known state x ⊎ HasCell is_hazy state x) ⊎ IsNoObject state x
@@ -58,7 +67,8 @@ sort_of state x h = go h.cell h.is
     go (Refs element len shape) e = inl (inr (record { cell = Refs element len shape; is = e; sort_is = refl }))
     go (Unk bound nullable shape) e = inl (inr (record { cell = Unk bound nullable shape; is = e; sort_is = refl }))
 
-pub no_target : (types : WorldTypes) (state : AbstractState) (machine : MachineState) (meaning : Meaning) → Fits types state machine meaning → (x a : ℕ) → IsNoObject state x → target (meaning x) ≡ Some a → ⊥
+pub no_target : (types : WorldTypes) (state : AbstractState) (machine : MachineState) (meaning : Meaning)
+    → Fits types state machine meaning → (x a : ℕ) → IsNoObject state x → target (meaning x) ≡ Some a → ⊥
 no_target types state machine meaning h x a n e = go n.cell n.none (h.cells x n.cell n.is)
   where
     go : (cell : Cell) → is_reference cell ≡ false → Describes types machine.heap meaning cell (meaning x) → ⊥
@@ -73,7 +83,12 @@ pub known_is_reference : (state : AbstractState) (x : ℕ) → HasCell is_known 
 known_is_reference state x h = record { cell = h.cell; is = h.is; sort_is = ap (λ (b : Bool). b || is_hazy h.cell) h.sort_is }
 
 pub hazy_is_reference : (state : AbstractState) (x : ℕ) → HasCell is_hazy state x → HasCell is_reference state x
-hazy_is_reference state x h = record { cell = h.cell; is = h.is; sort_is = ap (λ (b : Bool). is_known h.cell || b) h.sort_is ∙ right (is_known h.cell) }
+hazy_is_reference state x h = record {
+  cell = h.cell;
+  is = h.is;
+  sort_is = ap (λ (b : Bool). is_known h.cell || b) h.sort_is
+      ∙ right (is_known h.cell);
+}
   where
     right : (b : Bool) → (b || true) ≡ true
     right true = refl
@@ -99,7 +114,8 @@ not_one state x y h k e =
 -- ---- steps of a heap and of ids
 
 -- a path of ids that count is one of ids
-pub counted_is_known : (state : AbstractState) (path : List ℕ) (x y : ℕ) → follow (counted_steps state) path x ≡ Some y → follow (cell_steps state) path x ≡ Some y
+pub counted_is_known : (state : AbstractState) (path : List ℕ) (x y : ℕ) → follow (counted_steps state) path x ≡ Some y
+    → follow (cell_steps state) path x ≡ Some y
 counted_is_known state [] x y e = e
 counted_is_known state (i ∷ path) x y e =
     let step = then_some (follow (counted_steps state) path) (counted_steps state x i) y e in
@@ -112,17 +128,25 @@ counted_is_known state (i ∷ path) x y e =
     if_some true c d e = some_is e
     if_some false c d e = absurd (none-some d e)
 
-pub counted_reaches : (state : AbstractState) (path : List ℕ) (x y : ℕ) → follow (counted_steps state) path x ≡ Some y → KnownFrom state x y
+pub counted_reaches : (state : AbstractState) (path : List ℕ) (x y : ℕ) → follow (counted_steps state) path x ≡ Some y
+    → KnownFrom state x y
 counted_reaches state path x y e = record { path = path; leads = counted_is_known state path x y e }
 
-module _ (types : WorldTypes) (state : AbstractState) (machine : MachineState) (meaning : Meaning) (good : IsWellFormed state) (h : Fits types state machine meaning) where
+module _ (types : WorldTypes) (state : AbstractState) (machine : MachineState) (meaning : Meaning) (good : IsWellFormed state)
+    (h : Fits types state machine meaning) where
   -- what an object's step is where its id is an instance
-  instance_step : (place i : ℕ) (class : ℕ) (ids : List ℕ) → slice_get machine.heap.objects place ≡ Some (objects.Instance class (map meaning ids)) → heap_steps machine.heap place i ≡ option_and_then target (option_map meaning (slice_get ids i))
+  instance_step : (place i : ℕ) (class : ℕ) (ids : List ℕ)
+      → slice_get machine.heap.objects place ≡ Some (objects.Instance class (map meaning ids))
+      → heap_steps machine.heap place i ≡ option_and_then target (option_map meaning (slice_get ids i))
   instance_step place i class ids e =
-      ap (λ (o : Option Object). option_and_then target (option_and_then (λ (object : Object). slice_get (values_of object) i) o)) e ∙ ap (option_and_then target) (slice_get-map meaning ids i)
+      ap (λ (o : Option Object). option_and_then target (option_and_then (λ (object : Object). slice_get (values_of object) i) o)) e
+      ∙ ap (option_and_then target) (slice_get-map meaning ids i)
 
-  array_step : (place i : ℕ) (object : Object) → slice_get machine.heap.objects place ≡ Some object → values_of object ≡ [] → heap_steps machine.heap place i ≡ None
-  array_step place i object e f = ap (λ (o : Option Object). option_and_then target (option_and_then (λ (x : Object). slice_get (values_of x) i) o)) e ∙ ap (λ (vs : List Value). option_and_then target (slice_get vs i)) f
+  array_step : (place i : ℕ) (object : Object) → slice_get machine.heap.objects place ≡ Some object → values_of object ≡ []
+      → heap_steps machine.heap place i ≡ None
+  array_step place i object e f = ap
+      (λ (o : Option Object). option_and_then target (option_and_then (λ (x : Object). slice_get (values_of x) i) o)) e
+      ∙ ap (λ (vs : List Value). option_and_then target (slice_get vs i)) f
 
   counts : (id b : ℕ) → HasCell (λ _. true) state id → target (meaning id) ≡ Some b → counted state id ≡ Some id
   counts id b c e = elim (sort_of state id c) [
@@ -134,16 +158,20 @@ module _ (types : WorldTypes) (state : AbstractState) (machine : MachineState) (
   ]
     where
       counted_is : HasCell is_reference state id → counted state id ≡ Some id
-      counted_is k = ap (option_and_then (λ (cell : Cell). if is_reference cell then Some id else None)) k.is ∙ ap (λ (b : Bool). cond b (Some id) None) k.sort_is
+      counted_is k = ap (option_and_then (λ (cell : Cell). if is_reference cell then Some id else None)) k.is
+          ∙ ap (λ (b : Bool). cond b (Some id) None) k.sort_is
 
   -- a step from a known id's object goes to the object of an id that it names
-  pub step_of : (x a i b : ℕ) → HasCell is_known state x → target (meaning x) ≡ Some a → heap_steps machine.heap a i ≡ Some b → (id : ℕ) × ((counted_steps state x i ≡ Some id) × ((target (meaning id) ≡ Some b) × HasCell (λ _. true) state id))
+  pub step_of : (x a i b : ℕ) → HasCell is_known state x → target (meaning x) ≡ Some a → heap_steps machine.heap a i ≡ Some b
+      → (id : ℕ) × ((counted_steps state x i ≡ Some id) × ((target (meaning id) ≡ Some b) × HasCell (λ _. true) state id))
   step_of x a i b k e f = go k.cell k.is k.sort_is (h.cells x k.cell k.is)
     where
       place_is : {P : Object → Type 0} (o : IsObject machine.heap (meaning x) P) → o.place ≡ a
       place_is o = some_is (sym (ap target o.names) ∙ e)
 
-      go : (cell : Cell) → cell_at state x ≡ Some cell → is_known cell ≡ true → Describes types machine.heap meaning cell (meaning x) → (id : ℕ) × ((counted_steps state x i ≡ Some id) × ((target (meaning id) ≡ Some b) × HasCell (λ _. true) state id))
+      go : (cell : Cell) → cell_at state x ≡ Some cell → is_known cell ≡ true
+          → Describes types machine.heap meaning cell (meaning x)
+          → (id : ℕ) × ((counted_steps state x i ≡ Some id) × ((target (meaning id) ≡ Some b) × HasCell (λ _. true) state id))
       go (Int interval) c t d = absurd (false≢true t)
       go Null c t d = absurd (false≢true t)
       go (Refs element len shape) c t d = absurd (false≢true t)
@@ -161,7 +189,8 @@ module _ (types : WorldTypes) (state : AbstractState) (machine : MachineState) (
           let first : cell_steps state x i ≡ Some id.0 = ap (option_and_then (λ (cell : Cell). slice_get (ids_of cell) i)) c ∙ id.1.0 in
           (id.0, (ap (option_and_then (counted state)) first ∙ counts id.0 b has at, (at, has)))
         where
-          named : (ids : List ℕ) (value : Value) → option_map meaning (slice_get ids i) ≡ Some value → (id : ℕ) × ((slice_get ids i ≡ Some id) × (meaning id ≡ value))
+          named : (ids : List ℕ) (value : Value) → option_map meaning (slice_get ids i) ≡ Some value
+              → (id : ℕ) × ((slice_get ids i ≡ Some id) × (meaning id ≡ value))
           named ids value e = from (slice_get ids i) e
             where
               from : (o : Option ℕ) → option_map meaning o ≡ Some value → (id : ℕ) × ((o ≡ Some id) × (meaning id ≡ value))
@@ -207,26 +236,31 @@ module _ (types : WorldTypes) (state : AbstractState) (machine : MachineState) (
   only len (suc i) id e = absurd (none-some id e)
 
   -- a step of ids from a known id is one of its object
-  pub step_back : (x a i y : ℕ) → HasCell is_known state x → target (meaning x) ≡ Some a → counted_steps state x i ≡ Some y → heap_steps machine.heap a i ≡ target (meaning y)
+  pub step_back : (x a i y : ℕ) → HasCell is_known state x → target (meaning x) ≡ Some a → counted_steps state x i ≡ Some y
+      → heap_steps machine.heap a i ≡ target (meaning y)
   step_back x a i y k e f = go k.cell k.is k.sort_is (h.cells x k.cell k.is)
     where
       place_is : {P : Object → Type 0} (o : IsObject machine.heap (meaning x) P) → o.place ≡ a
       place_is o = some_is (sym (ap target o.names) ∙ e)
 
-      go : (cell : Cell) → cell_at state x ≡ Some cell → is_known cell ≡ true → Describes types machine.heap meaning cell (meaning x) → heap_steps machine.heap a i ≡ target (meaning y)
+      go : (cell : Cell) → cell_at state x ≡ Some cell → is_known cell ≡ true
+          → Describes types machine.heap meaning cell (meaning x) → heap_steps machine.heap a i ≡ target (meaning y)
       go (Int interval) c t d = absurd (false≢true t)
       go Null c t d = absurd (false≢true t)
       go (Refs element len shape) c t d = absurd (false≢true t)
       go (Unk bound nullable shape) c t d = absurd (false≢true t)
       go (Nums kind len) c t d =
           let first = then_some (counted state) (cell_steps state x i) y f in
-          let is : len ≡ first.0 = only len i first.0 (sym (ap (option_and_then (λ (cell : Cell). slice_get (ids_of cell) i)) c) ∙ first.1.0) in
+          let is : len ≡ first.0 = only len i first.0 (sym (ap (option_and_then (λ (cell : Cell). slice_get (ids_of cell) i)) c)
+          ∙ first.1.0) in
           absurd (int_counts_not first.0 y _ (ap meaning (sym is) ∙ d.holds.length_is) first.1.1)
       go (Obj class ids) c t d =
           let stands = ap (slice_get machine.heap.objects) (sym (place_is d)) ∙ d.stands ∙ ap Some d.holds in
           let first = then_some (counted state) (cell_steps state x i) y f in
-          let at : slice_get ids i ≡ Some first.0 = sym (ap (option_and_then (λ (cell : Cell). slice_get (ids_of cell) i)) c) ∙ first.1.0 in
-          instance_step a i class ids stands ∙ ap (λ (o : Option ℕ). option_and_then target (option_map meaning o)) at ∙ ap (λ (z : ℕ). target (meaning z)) (counted_one first.0 y first.1.1)
+          let at : slice_get ids i ≡ Some first.0 = sym (ap (option_and_then (λ (cell : Cell). slice_get (ids_of cell) i)) c)
+          ∙ first.1.0 in
+          instance_step a i class ids stands ∙ ap (λ (o : Option ℕ). option_and_then target (option_map meaning o)) at
+          ∙ ap (λ (z : ℕ). target (meaning z)) (counted_one first.0 y first.1.1)
 
   -- ids with a step are known
   pub steps_are_known : (x i y : ℕ) → counted_steps state x i ≡ Some y → HasCell is_known state x
@@ -246,7 +280,8 @@ module _ (types : WorldTypes) (state : AbstractState) (machine : MachineState) (
   pub known_has_target : (x : ℕ) → HasCell is_known state x → (a : ℕ) × (target (meaning x) ≡ Some a)
   known_has_target x k = go k.cell k.sort_is (h.cells x k.cell k.is)
     where
-      go : (cell : Cell) → is_known cell ≡ true → Describes types machine.heap meaning cell (meaning x) → (a : ℕ) × (target (meaning x) ≡ Some a)
+      go : (cell : Cell) → is_known cell ≡ true → Describes types machine.heap meaning cell (meaning x)
+          → (a : ℕ) × (target (meaning x) ≡ Some a)
       go (Int interval) t d = absurd (false≢true t)
       go Null t d = absurd (false≢true t)
       go (Obj class ids) t d = (d.place, ap target d.names)
@@ -254,22 +289,26 @@ module _ (types : WorldTypes) (state : AbstractState) (machine : MachineState) (
       go (Refs element len shape) t d = absurd (false≢true t)
       go (Unk bound nullable shape) t d = absurd (false≢true t)
 
-  starts_at : (path : List ℕ) (x y c : ℕ) → follow (counted_steps state) path x ≡ Some y → target (meaning y) ≡ Some c → (a : ℕ) × (target (meaning x) ≡ Some a)
+  starts_at : (path : List ℕ) (x y c : ℕ) → follow (counted_steps state) path x ≡ Some y → target (meaning y) ≡ Some c
+      → (a : ℕ) × (target (meaning x) ≡ Some a)
   starts_at [] x y c f e = (c, ap (λ (z : ℕ). target (meaning z)) (some_is f) ∙ e)
   starts_at (i ∷ path) x y c f e =
       let step = then_some (follow (counted_steps state) path) (counted_steps state x i) y f in
       known_has_target x (steps_are_known x i step.0 step.1.0)
 
   -- a path of ids is one of the objects
-  pub path_back : (path : List ℕ) (x a y c : ℕ) → target (meaning x) ≡ Some a → follow (counted_steps state) path x ≡ Some y → target (meaning y) ≡ Some c → follow (heap_steps machine.heap) path a ≡ Some c
+  pub path_back : (path : List ℕ) (x a y c : ℕ) → target (meaning x) ≡ Some a → follow (counted_steps state) path x ≡ Some y
+      → target (meaning y) ≡ Some c → follow (heap_steps machine.heap) path a ≡ Some c
   path_back [] x a y c e f g = ap Some (some_is (sym e ∙ ap (λ (z : ℕ). target (meaning z)) (some_is f) ∙ g))
   path_back (i ∷ path) x a y c e f g =
       let step = then_some (follow (counted_steps state) path) (counted_steps state x i) y f in
       let next = starts_at path step.0 y c step.1.1 g in
-      let first : heap_steps machine.heap a i ≡ Some next.0 = step_back x a i step.0 (steps_are_known x i step.0 step.1.0) e step.1.0 ∙ next.1 in
+      let first : heap_steps machine.heap a i ≡ Some next.0 = step_back x a i step.0 (steps_are_known x i step.0 step.1.0) e
+      step.1.0 ∙ next.1 in
       ap (option_and_then (follow (heap_steps machine.heap) path)) first ∙ path_back path step.0 next.0 y c next.1 step.1.1 g
 
-  pub way : (path : List ℕ) (x a b : ℕ) → HasCell (λ _. true) state x → target (meaning x) ≡ Some a → follow (heap_steps machine.heap) path a ≡ Some b → Way state machine.heap meaning x path b
+  pub way : (path : List ℕ) (x a b : ℕ) → HasCell (λ _. true) state x → target (meaning x) ≡ Some a
+      → follow (heap_steps machine.heap) path a ≡ Some b → Way state machine.heap meaning x path b
   way [] x a b c e f = elim (sort_of state x c) [
     | inl s ↦ elim s [
       | inl k ↦ inl (record { y = x; leads = refl; known = k; names = e ∙ f })
@@ -283,7 +322,13 @@ module _ (types : WorldTypes) (state : AbstractState) (machine : MachineState) (
           let step = then_some (follow (heap_steps machine.heap) path) (heap_steps machine.heap a i) b f in
           let next = step_of x a i step.0 k e step.1.0 in
           elim (way path next.0 step.0 b next.1.1.1 next.1.1.0 step.1.1) [
-            | inl w ↦ inl (record { y = w.y; leads = ap (option_and_then (follow (counted_steps state) path)) next.1.0 ∙ w.leads; known = w.known; names = w.names })
+            | inl w ↦ inl (record {
+              y = w.y;
+              leads = ap (option_and_then (follow (counted_steps state) path)) next.1.0
+                  ∙ w.leads;
+              known = w.known;
+              names = w.names;
+            })
             | inr w ↦ inr (record {
               front = i ∷ w.front;
               back = w.back;

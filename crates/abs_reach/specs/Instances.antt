@@ -1,6 +1,7 @@
 -- When an abstract state is an instance of another one, the target. A map says for each id of the target which id of the
 -- state stands for it: a list of ids with their images.
-use Rattle.std.specs.Prelude.{◌≡◌, ◌≢◌, ℕ, ◌<◌, ◌≤ℤ◌, ◌==◌, Bool, true, false, not, if◌then◌else◌, List, [], ◌∷◌, map, length, reverse, IsTrue, ◌⊎◌, Option, Some, None, slice_get}
+use Rattle.std.specs.Prelude.{◌≡◌, ◌≢◌, ℕ, ◌<◌, ◌≤ℤ◌, ◌==◌, Bool, true, false, not, if◌then◌else◌, List, [], ◌∷◌, map, length}
+use Rattle.std.specs.Prelude.{reverse, IsTrue, ◌⊎◌, Option, Some, None, slice_get}
 use Rattle.std.specs.Option.{option_and_then}
 use Rattle.jvm_values.specs.declared.shape.Shape.{Shape}
 use Rattle.jvm_values.specs.declared.shape.Shape.TheVariants.{Tree, Dag, Any}
@@ -8,7 +9,8 @@ use Rattle.jvm_values.specs.declared.types.Ty.{Ty}
 use Rattle.abs_cells.specs.declared.cells.Cell.{Cell}
 use Rattle.abs_cells.specs.declared.cells.Cell.TheVariants.{Int, Null, Obj, Nums, Refs, Unk}
 use Rattle.abs_cells.specs.AbstractStates.{AbstractFrame, AbstractState}
-use Rattle.abs_cells.specs.Cells.{is_int, is_known, is_hazy, is_reference, can_be_null, type_of_cell, shape_of, cell_at, HasCell, AreEqual, Share}
+use Rattle.abs_cells.specs.Cells.{is_int, is_known, is_hazy, is_reference, can_be_null, type_of_cell, shape_of, cell_at, HasCell}
+use Rattle.abs_cells.specs.Cells.{AreEqual, Share}
 use Rattle.abs_cells.specs.Closures.{MayMeet, MayBeIn, IsFiniteId, IsTreeId}
 use Rattle.abs_cells.specs.Sound.{AreIdsRising}
 
@@ -98,7 +100,8 @@ abbrev pub is_no_int : Cell → Bool
 is_no_int cell = not (is_int cell)
 
 -- two different ids of the target whose cells are of these sorts, with their images
-pub record AreMapped (target : AbstractState) (entries : List (ℕ × ℕ)) (sort other_sort : Cell → Bool) (id other image other_image : ℕ) : Type 0 where
+pub record AreMapped (target : AbstractState) (entries : List (ℕ × ℕ)) (sort other_sort : Cell → Bool)
+    (id other image other_image : ℕ) : Type 0 where
   pub differ : id ≢ other
   pub is : HasCell sort target id
   pub other_is : HasCell other_sort target other
@@ -108,9 +111,12 @@ pub record AreMapped (target : AbstractState) (entries : List (ℕ × ℕ)) (sor
 -- what an id shares: a hazy one with each hazy one whose image its own may meet, and with each known one whose image may
 -- be in the region of its own; a known one with each hazy one in whose region it may be so
 pub record SharesEnough (state target : AbstractState) (entries : List (ℕ × ℕ)) (id : ℕ) : Type 0 where
-  pub meets : (other image other_image : ℕ) → AreMapped target entries is_hazy is_hazy id other image other_image → MayMeet state image other_image → Share target id other
-  pub is_in : (other image other_image : ℕ) → AreMapped target entries is_known is_hazy id other image other_image → MayBeIn state image other_image → Share target id other
-  pub holds : (other image other_image : ℕ) → AreMapped target entries is_hazy is_known id other image other_image → MayBeIn state other_image image → Share target id other
+  pub meets : (other image other_image : ℕ) → AreMapped target entries is_hazy is_hazy id other image other_image
+      → MayMeet state image other_image → Share target id other
+  pub is_in : (other image other_image : ℕ) → AreMapped target entries is_known is_hazy id other image other_image
+      → MayBeIn state image other_image → Share target id other
+  pub holds : (other image other_image : ℕ) → AreMapped target entries is_hazy is_known id other image other_image
+      → MayBeIn state other_image image → Share target id other
 
 -- an id's closure is of a shape
 abbrev pub HasIdShape : Shape → AbstractState → ℕ → Type 0
@@ -150,12 +156,16 @@ Agrees state target entries shapes = Unit {0}
 -- image may have its image's object; it shares enough; its image is of its shape
 abbrev pub Meets : (Ty → Ty → Bool) → AbstractState → AbstractState → List (ℕ × ℕ) → Clause → ℕ → Type 0
 Meets sub state target entries whole_map id = (image : ℕ) → image_in entries id ≡ Some image → HasCell (λ _. true) state image
-Meets sub state target entries positions id = (place : Place) → id_at target place ≡ Some id → (image : ℕ) × ((image_in entries id ≡ Some image) × (id_at state place ≡ Some image))
-Meets sub state target entries mode id = target.throwing ≡ Some id → (image : ℕ) × ((image_in entries id ≡ Some image) × (state.throwing ≡ Some image))
+Meets sub state target entries positions id = (place : Place) → id_at target place ≡ Some id
+    → (image : ℕ) × ((image_in entries id ≡ Some image) × (id_at state place ≡ Some image))
+Meets sub state target entries mode id = target.throwing ≡ Some id
+    → (image : ℕ) × ((image_in entries id ≡ Some image) × (state.throwing ≡ Some image))
 Meets sub state target entries cells id = (cell : Cell) → cell_at target id ≡ Some cell → HasImageUnder sub state entries id cell
-Meets sub state target entries aliases id = (other image other_image : ℕ) → AreMapped target entries is_no_int is_no_int id other image other_image → MayBeOne state image other_image → AreEqual target id other
+Meets sub state target entries aliases id = (other image other_image : ℕ)
+    → AreMapped target entries is_no_int is_no_int id other image other_image → MayBeOne state image other_image → AreEqual target id other
 Meets sub state target entries sharing id = SharesEnough state target entries id
-Meets sub state target entries shapes id = (cell : Cell) (shape : Shape) (image : ℕ) → cell_at target id ≡ Some cell → shape_of cell ≡ Some shape → image_in entries id ≡ Some image → HasIdShape shape state image
+Meets sub state target entries shapes id = (cell : Cell) (shape : Shape) (image : ℕ) → cell_at target id ≡ Some cell
+    → shape_of cell ≡ Some shape → image_in entries id ≡ Some image → HasIdShape shape state image
 
 abbrev pub HoldsClause : (Ty → Ty → Bool) → AbstractState → AbstractState → List (ℕ × ℕ) → Clause → Type 0
 HoldsClause sub state target entries clause = Agrees state target entries clause × ((id : ℕ) → Meets sub state target entries clause id)
@@ -167,14 +177,16 @@ InstanceOf sub state target entries = (clause : Clause) → HoldsClause sub stat
 -- ---- the first fault
 
 -- the least id of which a clause does not hold
-pub record IsLeastFailing (sub : Ty → Ty → Bool) (state target : AbstractState) (entries : List (ℕ × ℕ)) (clause : Clause) (id : ℕ) : Type 0 where
+pub record IsLeastFailing (sub : Ty → Ty → Bool) (state target : AbstractState) (entries : List (ℕ × ℕ)) (clause : Clause)
+    (id : ℕ) : Type 0 where
   pub agrees : Agrees state target entries clause
   pub fails : Meets sub state target entries clause id → ⊥
   pub least : (lower : ℕ) → lower < id → Meets sub state target entries clause lower
 
 -- the clause fails, and this is the id that is named: 0 where it fails for no id alone
 abbrev pub FailsAt : (Ty → Ty → Bool) → AbstractState → AbstractState → List (ℕ × ℕ) → Clause → ℕ → Type 0
-FailsAt sub state target entries clause id = ((Agrees state target entries clause → ⊥) × (id ≡ 0)) ⊎ IsLeastFailing sub state target entries clause id
+FailsAt sub state target entries clause id = ((Agrees state target entries clause → ⊥) × (id ≡ 0))
+    ⊎ IsLeastFailing sub state target entries clause id
 
 -- the first clause that fails, by its number, and the id that is named
 pub record IsFirstFault (sub : Ty → Ty → Bool) (state target : AbstractState) (entries : List (ℕ × ℕ)) (number id : ℕ) : Type 0 where

@@ -17,21 +17,24 @@ abbrev pub ClosuresAreWays : Type 0
 ClosuresAreWays =
     (types : WorldTypes) (state : AbstractState) (machine : MachineState) (meaning : Meaning)
     → IsWellFormed state → Fits types state machine meaning
-    → (path : List ℕ) (x a b : ℕ) → HasCell (λ _. true) state x → target (meaning x) ≡ Some a → follow (heap_steps machine.heap) path a ≡ Some b → Way state machine.heap meaning x path b
+    → (path : List ℕ) (x a b : ℕ) → HasCell (λ _. true) state x → target (meaning x) ≡ Some a
+    → follow (heap_steps machine.heap) path a ≡ Some b → Way state machine.heap meaning x path b
 
 -- Two ids whose regions meet may meet.
 abbrev pub MeetingRegionsMayMeet : Type 0
 MeetingRegionsMayMeet =
     (types : WorldTypes) (state : AbstractState) (machine : MachineState) (meaning : Meaning)
     → IsWellFormed state → Fits types state machine meaning
-    → (x y o : ℕ) → HasCell (λ _. true) state x → HasCell (λ _. true) state y → Region machine.heap (meaning x) o → Region machine.heap (meaning y) o → MayMeet state x y
+    → (x y o : ℕ) → HasCell (λ _. true) state x → HasCell (λ _. true) state y → Region machine.heap (meaning x) o
+    → Region machine.heap (meaning y) o → MayMeet state x y
 
 -- A known id whose object lies in an id's region may be in it.
 abbrev pub KnownIdsInsideMayBeIn : Type 0
 KnownIdsInsideMayBeIn =
     (types : WorldTypes) (state : AbstractState) (machine : MachineState) (meaning : Meaning)
     → IsWellFormed state → Fits types state machine meaning
-    → (k x o : ℕ) → HasCell is_known state k → HasCell (λ _. true) state x → target (meaning k) ≡ Some o → Region machine.heap (meaning x) o → MayBeIn state k x
+    → (k x o : ℕ) → HasCell is_known state k → HasCell (λ _. true) state x → target (meaning k) ≡ Some o
+    → Region machine.heap (meaning x) o → MayBeIn state k x
 
 -- The region of a finite id has no cycle.
 abbrev pub FiniteIdsHaveNoCycles : Type 0

@@ -55,7 +55,8 @@ fn put_frame(set: &mut IdSet, frame: &AbsFrame)
 
 /// Puts the ids of frames in.
 fn put_frames(set: &mut IdSet, frames: &[AbsFrame])
-    ensures { (n : ℕ) → n < 2048 → has_id set.new n ≡ (has_id set.old n || list_any (λ frame. list_any (λ x. x == n) (ids_of_frame frame)) frames.now) }
+    ensures { (n : ℕ) → n < 2048
+        → has_id set.new n ≡ (has_id set.old n || list_any (λ frame. list_any (λ x. x == n) (ids_of_frame frame)) frames.now) }
 {
     for frame in frames {
         put_frame(set, frame);

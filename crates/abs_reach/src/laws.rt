@@ -1,5 +1,6 @@
 //! Laws about what ids reach, for the proofs of other crates. They run nothing.
-ghost use Rattle.abs_reach.specs.Laws.{ClosuresAreWays, MeetingRegionsMayMeet, KnownIdsInsideMayBeIn, FiniteIdsHaveNoCycles, TreeIdsHaveTrees, RestrictedStatesFit, DroppedIdsKeepSizes};
+ghost use Rattle.abs_reach.specs.Laws.{ClosuresAreWays, MeetingRegionsMayMeet, KnownIdsInsideMayBeIn, FiniteIdsHaveNoCycles};
+ghost use Rattle.abs_reach.specs.Laws.{TreeIdsHaveTrees, RestrictedStatesFit, DroppedIdsKeepSizes};
 
 /// A path of a heap from an id's object ends at the object of a known id that ids lead to, or passes a hazy id that they
 /// lead to and then stays in its region.

@@ -64,10 +64,13 @@ fn turn(
     requires low { id < 2048 }
     requires there { AreNamedThere names cells.now }
     requires room { length trail.old.0 < trail.old.1 }
-    requires more { (c : ℕ) → steps_in names cells.now id place ≡ Some c → has_id found.old.met c ≡ false → length trail.old.0 + 1 < trail.old.1 }
+    requires more { (c : ℕ) → steps_in names cells.now id place ≡ Some c → has_id found.old.met c ≡ false
+        → length trail.old.0 + 1 < trail.old.1 }
     ensures leaves { steps_in names cells.now id place ≡ None → Leaves found.old found.new id × (trail.new.0 ≡ trail.old.0) }
-    ensures meets { (c : ℕ) → steps_in names cells.now id place ≡ Some c → has_id found.old.met c ≡ true → Meets found.old found.new c (is_of_sort is_reference (cell_in cells.now c)) × (trail.new.0 ≡ (id, place + 1) ∷ trail.old.0) }
-    ensures enters { (c : ℕ) → steps_in names cells.now id place ≡ Some c → has_id found.old.met c ≡ false → Enters found.old found.new c × (trail.new.0 ≡ (c, 0) ∷ (id, place + 1) ∷ trail.old.0) }
+    ensures meets { (c : ℕ) → steps_in names cells.now id place ≡ Some c → has_id found.old.met c ≡ true
+        → Meets found.old found.new c (is_of_sort is_reference (cell_in cells.now c)) × (trail.new.0 ≡ (id, place + 1) ∷ trail.old.0) }
+    ensures enters { (c : ℕ) → steps_in names cells.now id place ≡ Some c → has_id found.old.met c ≡ false
+        → Enters found.old found.new c × (trail.new.0 ≡ (c, 0) ∷ (id, place + 1) ∷ trail.old.0) }
     ensures room { trail.old.1 ≤ trail.new.1 }
 {
     match step(cells, names, id, place) {

@@ -26,7 +26,10 @@ if_taken case = if is_taken case.way then Some case else None
 
 -- the step that throws where the index is at least the length
 abbrev pub past_the_end : Here → ℕ → ℕ → Option Turn
-past_the_end here index len = option_and_then (λ (case : IntCase). option_map (λ narrowed. throws_after here narrowed (rows_over (id index) (id len) case.rows) array_index_out_of_bounds_exception) (narrowings (id index) case.left (id len) case.right)) (related AtLeast Taken (interval_of_id here.state index) (interval_of_id here.state len))
+past_the_end here index len = option_and_then
+    (λ (case : IntCase). option_map (λ narrowed. throws_after here narrowed (rows_over (id index) (id len) case.rows)
+    array_index_out_of_bounds_exception) (narrowings (id index) case.left (id len) case.right))
+    (related AtLeast Taken (interval_of_id here.state index) (interval_of_id here.state len))
 
 abbrev pub access_act : Here → Access → ℕ → Act
 access_act here Number k = makes (cells.Int (of_kind (cell_here here k)))
@@ -41,7 +44,15 @@ access_goal Item = on_stack
 access_goal (ItemStore value) = nowhere
 
 abbrev pub access_turn : Here → Access → ℕ → List ℕ → List (ℕ × Cell) → (ℕ → List LinkRow) → Turn
-access_turn here access k stack narrowed rows = record { changed = narrowed; frames = with_stack here here.next stack; throwing = None; act = access_act here access k; goal = access_goal access; rows = rows }
+access_turn here access k stack narrowed rows = record {
+  changed = narrowed;
+  frames = with_stack here here.next stack;
+  throwing = None;
+  act = access_act here access k;
+  goal =
+      access_goal access;
+  rows = rows;
+}
 
 -- a reference that isn't null is stored
 abbrev pub may_not_fit : Here → Access → Bool
@@ -52,7 +63,8 @@ may_not_fit here (ItemStore value) = not (is_null_here here value)
 
 -- the steps within the bounds
 abbrev pub good_of : Here → Access → ℕ → List ℕ → List (ℕ × Cell) → (ℕ → List LinkRow) → List Turn
-good_of here access k stack narrowed rows = access_turn here access k stack narrowed rows ∷ (if may_not_fit here access then throws_after here narrowed rows array_store_exception ∷ [] else [])
+good_of here access k stack narrowed rows = access_turn here access k stack narrowed rows
+    ∷ (if may_not_fit here access then throws_after here narrowed rows array_store_exception ∷ [] else [])
 
 abbrev pub length_of : Here → Access → ℕ → ℕ → Option ℕ
 length_of here Number k index = length_id (cell_here here k)

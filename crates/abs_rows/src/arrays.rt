@@ -5,9 +5,12 @@ ghost use Rattle.abs_ints.specs.Comparing.{related};
 ghost use Rattle.abs_ints.specs.declared.cases.Way.TheVariants.{Taken};
 ghost use Rattle.abs_ints.specs.declared.relations.Relation.TheVariants as relations;
 ghost use Rattle.abs_turns.specs.Turns.{id, goes_on, with_stack, narrowings, interval_of_id, rows_over, throws_after};
-ghost use Rattle.abs_turns.specs.Table.{step_if, cell_here, length_id, items_length_id, items_of, length_plan, of_kind, in_bounds, out_of_bounds, access_at, access_of, number_load_plan, number_store_plan, aaload_plan, aastore_plan};
+ghost use Rattle.abs_turns.specs.Table.{step_if, cell_here, length_id, items_length_id, items_of, length_plan, of_kind, in_bounds};
+ghost use Rattle.abs_turns.specs.Table.{out_of_bounds, access_at, access_of, number_load_plan, number_store_plan, aaload_plan};
+ghost use Rattle.abs_turns.specs.Table.{aastore_plan};
 ghost use Rattle.jvm_values.specs.Kinds.{least_of, greatest_of};
-ghost use Rattle.abs_rows.specs.Accesses.{inside_seen, if_taken, past_the_end, access_act, access_goal, access_turn, may_not_fit, good_of, length_of};
+ghost use Rattle.abs_rows.specs.Accesses.{inside_seen, if_taken, past_the_end, access_act, access_goal, access_turn, may_not_fit};
+ghost use Rattle.abs_rows.specs.Accesses.{good_of, length_of};
 ghost use Rattle.abs_turns.specs.PlansSeen.{act_seen, goal_seen, rows_seen, turn_seen, plan_seen};
 
 use crate::objects::{natural, throws_below_zero};
@@ -86,7 +89,9 @@ fn known_length<P: Pairs>(
     k: Id,
     mut stack: Stack<Id>,
 ) -> Result<Plan, AllocError>
-    ensures { IfOk result (λ plan. plan_seen plan ≡ step_if (option_map (λ len. goes_on spot.now spot.now.next (len ∷ stack.0)) (length_id (cell_here spot.now k)))) }
+    ensures { IfOk result
+        (λ plan. plan_seen plan ≡ step_if
+        (option_map (λ len. goes_on spot.now spot.now.next (len ∷ stack.0)) (length_id (cell_here spot.now k)))) }
 {
     let Some(len) = length_id(spot, k) else {
         return step_if(alloc, None);
@@ -138,7 +143,9 @@ fn first_taken(case: Option<IntCase>) -> Option<IntCase>
 
 /// What an index and a length are narrowed to in a case, with its rows.
 fn inside_of(alloc: Global, index: Id, len: Id, case: IntCase) -> Result<Option<Inside>, AllocError>
-    ensures { IfOk result (λ inside. option_map inside_seen inside ≡ option_map (λ narrowed. (narrowed, rows_over (id index) (id len) case.rows)) (narrowings (id index) case.left (id len) case.right)) }
+    ensures { IfOk result
+        (λ inside. option_map inside_seen inside ≡ option_map (λ narrowed. (narrowed, rows_over (id index) (id len) case.rows))
+        (narrowings (id index) case.left (id len) case.right)) }
 {
     let left = Operand::Id(index);
     let right = Operand::Id(len);
@@ -283,7 +290,9 @@ fn put_good<P: Pairs>(
     stack: &Stack<Id>,
     turns: &mut Seq<Turn>,
 ) -> Result<(), AllocError>
-    ensures { IfOk result (λ _. map turn_seen turns.new ≡ map turn_seen turns.old ++ option_map_or (λ inside. good_of spot.now access k stack.now.0 inside.0 inside.1) (in_bounds spot.now index len) []) }
+    ensures { IfOk result
+        (λ _. map turn_seen turns.new ≡ map turn_seen turns.old ++ option_map_or
+        (λ inside. good_of spot.now access k stack.now.0 inside.0 inside.1) (in_bounds spot.now index len) []) }
 {
     let Some(inside) = in_bounds(alloc, spot, index, len)? else {
         return Ok(());
@@ -303,7 +312,9 @@ fn put_misfit<P: Pairs>(
     len: Id,
     turns: &mut Seq<Turn>,
 ) -> Result<(), AllocError>
-    ensures { IfOk result (λ _. map turn_seen turns.new ≡ map turn_seen turns.old ++ option_map_or (λ inside. throws_after spot.now inside.0 inside.1 10 ∷ []) (in_bounds spot.now index len) []) }
+    ensures { IfOk result
+        (λ _. map turn_seen turns.new ≡ map turn_seen turns.old ++ option_map_or
+        (λ inside. throws_after spot.now inside.0 inside.1 10 ∷ []) (in_bounds spot.now index len) []) }
 {
     let Some(Inside { narrowed, rows }) = in_bounds(alloc, spot, index, len)? else {
         return Ok(());
@@ -343,7 +354,8 @@ fn access_of<P: Pairs>(
     index: Id,
     stack: &Stack<Id>,
 ) -> Result<Plan, AllocError>
-    ensures { IfOk result (λ plan. plan_seen plan ≡ access_of spot.now depth k index (length_of spot.now access k index) (good_of spot.now access k stack.now.0)) }
+    ensures { IfOk result (λ plan. plan_seen plan ≡ access_of spot.now depth k index (length_of spot.now access k index)
+        (good_of spot.now access k stack.now.0)) }
 {
     if let Some(stop) = access_stop(alloc, spot, depth, k)? {
         return Ok(stop);
@@ -428,7 +440,8 @@ pub fn store_item<P: Pairs>(
 
 /// Takes the two top ids: the top one, and the one below it.
 fn pop_two(stack: &mut Stack<Id>) -> Option<(Id, Id)>
-    ensures { MatchOption result ((stack.old.0 ≡ []) ⊎ ((a : ℕ) × (stack.old.0 ≡ a ∷ []))) (λ two. stack.old.0 ≡ two.0 ∷ two.1 ∷ stack.new.0) }
+    ensures { MatchOption result ((stack.old.0 ≡ []) ⊎ ((a : ℕ) × (stack.old.0 ≡ a ∷ [])))
+        (λ two. stack.old.0 ≡ two.0 ∷ two.1 ∷ stack.new.0) }
 {
     let top = stack.pop()?;
     let next = stack.pop()?;

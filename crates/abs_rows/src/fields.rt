@@ -4,7 +4,8 @@ ghost use Rattle.std.specs.Option.{option_map};
 ghost use Rattle.jvm_values.specs.declared.types.Slot.TheVariants as slots;
 ghost use Rattle.abs_cells.specs.declared.cells.Cell.TheVariants as cells;
 ghost use Rattle.abs_turns.specs.Turns.{goes_on, with_stack, moves};
-ghost use Rattle.abs_turns.specs.Table.{step_if, one_step, cell_here, field_id, on_instance, put_int, put_reference, put_slot, getfield_plan, putfield_plan};
+ghost use Rattle.abs_turns.specs.Table.{step_if, one_step, cell_here, field_id, on_instance, put_int, put_reference, put_slot};
+ghost use Rattle.abs_turns.specs.Table.{getfield_plan, putfield_plan};
 ghost use Rattle.abs_turns.specs.PlansSeen.{plan_seen};
 
 use crate::rows::{goes_to, no_child, one_step, step_if};
@@ -34,7 +35,9 @@ fn read_known<P: Pairs>(
     place: u32,
     mut stack: Stack<Id>,
 ) -> Result<Plan, AllocError>
-    ensures { IfOk result (λ plan. plan_seen plan ≡ step_if (option_map (λ x. goes_on spot.now spot.now.next (x ∷ stack.0)) (field_id (cell_here spot.now k) place))) }
+    ensures { IfOk result
+        (λ plan. plan_seen plan ≡ step_if
+        (option_map (λ x. goes_on spot.now spot.now.next (x ∷ stack.0)) (field_id (cell_here spot.now k) place))) }
 {
     let Some(x) = field_id(spot, k, place) else {
         return step_if(alloc, None);
@@ -163,7 +166,8 @@ fn put_known<P: Pairs>(
     x: Id,
     stack: &Stack<Id>,
 ) -> Result<Plan, AllocError>
-    ensures { IfOk result (λ plan. plan_seen plan ≡ on_instance (cell_here spot.now k) (put_slot spot.now used.now.slot k used.now.place x stack.now.0)) }
+    ensures { IfOk result
+        (λ plan. plan_seen plan ≡ on_instance (cell_here spot.now k) (put_slot spot.now used.now.slot k used.now.place x stack.now.0)) }
 {
     let Some(Cell::Obj(class, ids)) = spot.cell(k) else {
         return Ok(no_child(alloc));

@@ -66,7 +66,8 @@ fn array_made<P: Pairs>(
     count: Id,
     stack: &Stack<Id>,
 ) -> Result<Option<Turn>, AllocError>
-    ensures { IfOk result (λ turn. option_map turn_seen turn ≡ option_map (array_turn spot.now slot count stack.now.0) (meet_of (interval_of_id spot.now.state count) natural)) }
+    ensures { IfOk result (λ turn. option_map turn_seen turn ≡ option_map (array_turn spot.now slot count stack.now.0)
+        (meet_of (interval_of_id spot.now.state count) natural)) }
 {
     let Some(both) = spot.interval_of(count).meet(natural()) else {
         return Ok(None);
@@ -86,7 +87,9 @@ pub fn throws_below_zero<P: Pairs>(
     id: Id,
     class: u32,
 ) -> Result<Option<Turn>, AllocError>
-    ensures { IfOk result (λ turn. option_map turn_seen turn ≡ option_map (λ both. throws_after spot.now ((id, cells.Int both) ∷ []) no_rows class) (meet_of (interval_of_id spot.now.state id) negative)) }
+    ensures { IfOk result
+        (λ turn. option_map turn_seen turn ≡ option_map (λ both. throws_after spot.now ((id, cells.Int both) ∷ []) no_rows class)
+        (meet_of (interval_of_id spot.now.state id) negative)) }
 {
     let Some(both) = spot.interval_of(id).meet(negative()) else {
         return Ok(None);

@@ -6,7 +6,8 @@ ghost use Rattle.op_forms.specs.Forms.{shuffled};
 ghost use Rattle.abs_turns.specs.Plans.{steps, on_stack};
 ghost use Rattle.abs_turns.specs.Turns.{known, id, goes_on, pushes, with_stack, turns_of, branches};
 ghost use Rattle.abs_turns.specs.Switches.{table_keys, lookup_keys};
-ghost use Rattle.abs_turns.specs.Table.{local_here, one_step, step_if, number_cell, load_plan, store_plan, increment_plan, negation_plan, narrow_plan, switch_plan, unary, binary};
+ghost use Rattle.abs_turns.specs.Table.{local_here, one_step, step_if, number_cell, load_plan, store_plan, increment_plan};
+ghost use Rattle.abs_turns.specs.Table.{negation_plan, narrow_plan, switch_plan, unary, binary};
 ghost use Rattle.abs_turns.specs.PlansSeen.{turn_seen, plan_seen};
 
 use abs_cells::{Cell, Id, Pairs};
@@ -154,7 +155,9 @@ pub fn arithmetic<P: Pairs>(
     op: IntOp,
     mut stack: Stack<Id>,
 ) -> Result<Plan, AllocError>
-    ensures { IfOk result (λ plan. plan_seen plan ≡ binary stack.0 (λ a b rest. steps (turns_of spot.now op (id a) (id b) (with_stack spot.now spot.now.next rest) on_stack))) }
+    ensures { IfOk result
+        (λ plan. plan_seen plan ≡ binary stack.0
+        (λ a b rest. steps (turns_of spot.now op (id a) (id b) (with_stack spot.now spot.now.next rest) on_stack))) }
 {
     let Some(b) = stack.pop() else {
         return Ok(no_child(alloc));
@@ -222,7 +225,8 @@ pub fn compare_zero<P: Pairs>(
     place: u16,
     mut stack: Stack<Id>,
 ) -> Result<Plan, AllocError>
-    ensures { IfOk result (λ plan. plan_seen plan ≡ unary stack.0 (λ a rest. steps (branches spot.now cond (id a) (known (pos 0)) place rest false))) }
+    ensures { IfOk result
+        (λ plan. plan_seen plan ≡ unary stack.0 (λ a rest. steps (branches spot.now cond (id a) (known (pos 0)) place rest false))) }
 {
     let Some(a) = stack.pop() else {
         return Ok(no_child(alloc));
@@ -249,7 +253,8 @@ pub fn compare_two<P: Pairs>(
     place: u16,
     mut stack: Stack<Id>,
 ) -> Result<Plan, AllocError>
-    ensures { IfOk result (λ plan. plan_seen plan ≡ binary stack.0 (λ a b rest. steps (branches spot.now cond (id a) (id b) place rest true))) }
+    ensures { IfOk result
+        (λ plan. plan_seen plan ≡ binary stack.0 (λ a b rest. steps (branches spot.now cond (id a) (id b) place rest true))) }
 {
     let Some(b) = stack.pop() else {
         return Ok(no_child(alloc));

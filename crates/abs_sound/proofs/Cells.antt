@@ -21,8 +21,10 @@ module _ (state : AbstractState) where
   slot_to (slots.Num kind) id h = has_cell_to is_int state id h
   slot_to (slots.Ref t) id h = has_cell_to is_no_int state id h
 
-  pub fields_from : (slots : List Slot) (ids : List ℕ) → all_zip (is_of_slot state.cells) slots ids ≡ true → AllZip (IsOfSlot state) slots ids
+  pub fields_from : (slots : List Slot) (ids : List ℕ) → all_zip (is_of_slot state.cells) slots ids ≡ true
+      → AllZip (IsOfSlot state) slots ids
   fields_from = zip_gives (is_of_slot state.cells) (IsOfSlot state) slot_from
 
-  pub fields_to : (slots : List Slot) (ids : List ℕ) → AllZip (IsOfSlot state) slots ids → all_zip (is_of_slot state.cells) slots ids ≡ true
+  pub fields_to : (slots : List Slot) (ids : List ℕ) → AllZip (IsOfSlot state) slots ids
+      → all_zip (is_of_slot state.cells) slots ids ≡ true
   fields_to = zip_given (is_of_slot state.cells) (IsOfSlot state) slot_to

@@ -112,7 +112,8 @@ fn is_sound_instance<T: Types, P: Pairs>(
     ids: &[Id],
 ) -> bool
     requires { AreIdsRising 0 state.now.cells }
-    ensures { IsTrue result ↔ ((class < T.classes types.now) × (IsTrue (T.can_be_made types.now class) × AllZip (IsOfSlot state.now) (T.fields types.now class) ids.now)) }
+    ensures { IsTrue result ↔ ((class < T.classes types.now)
+        × (IsTrue (T.can_be_made types.now class) × AllZip (IsOfSlot state.now) (T.fields types.now class) ids.now)) }
 {
     if class >= types.classes() {
         return false;
@@ -130,7 +131,9 @@ fn has_int_ends(interval: &Interval) -> bool
 /// Whether what a cell says is of a world.
 fn is_sound_cell<T: Types, P: Pairs>(types: &T, state: &AbsState<P>, cell: &Cell) -> bool
     requires { AreIdsRising 0 state.now.cells }
-    ensures { IsTrue result ↔ IsSoundCell (world_types (T.sub types.now) (T.erase types.now) (T.classes types.now) (T.fields types.now) (T.can_be_made types.now)) state.now cell.now }
+    ensures { IsTrue result ↔ IsSoundCell
+        (world_types (T.sub types.now) (T.erase types.now) (T.classes types.now) (T.fields types.now) (T.can_be_made types.now))
+        state.now cell.now }
 {
     match cell {
         Cell::Int(interval) => has_int_ends(interval),
@@ -149,7 +152,9 @@ fn is_sound_cell<T: Types, P: Pairs>(types: &T, state: &AbsState<P>, cell: &Cell
 /// Whether what cells of a state say is of a world.
 fn are_sound_cells<T: Types, P: Pairs>(types: &T, state: &AbsState<P>, cells: &[(Id, Cell)]) -> bool
     requires { AreIdsRising 0 state.now.cells }
-    ensures { IsTrue result ↔ All (λ c. IsSoundCell (world_types (T.sub types.now) (T.erase types.now) (T.classes types.now) (T.fields types.now) (T.can_be_made types.now)) state.now c.1) cells.now }
+    ensures { IsTrue result ↔ All
+        (λ c. IsSoundCell (world_types (T.sub types.now) (T.erase types.now) (T.classes types.now) (T.fields types.now)
+        (T.can_be_made types.now)) state.now c.1) cells.now }
 {
     for item in cells {
         if !is_sound_cell(types, state, &item.1) {
@@ -203,7 +208,8 @@ fn is_thrown_sound<P: Pairs>(state: &AbsState<P>) -> bool
 /// Whether a state is sound: it is well-formed, has a frame, its cells are of a world, and its thrown id, if any, is an
 /// object's. It takes no memory, and as many steps as the state names ids, each with a look-up.
 pub fn is_sound<T: Types, P: Pairs>(types: &T, state: &AbsState<P>) -> bool
-    ensures { IsTrue result ↔ IsSound (world_types (T.sub types.now) (T.erase types.now) (T.classes types.now) (T.fields types.now) (T.can_be_made types.now)) state.now }
+    ensures { IsTrue result ↔ IsSound (world_types (T.sub types.now) (T.erase types.now) (T.classes types.now) (T.fields types.now)
+        (T.can_be_made types.now)) state.now }
 {
     if !well_formed(state) || state.frames().is_empty() {
         return false;

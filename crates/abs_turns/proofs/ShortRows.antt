@@ -25,7 +25,8 @@ ids_short x y (row ∷ rows) = ids_short x y rows
 
 cases_of_ids : (x y : ℕ) (cases : List IntCase) → have_short_rows (id x) (id y) cases ≡ true
 cases_of_ids x y [] = refl
-cases_of_ids x y (case ∷ cases) = ap (λ (b : Bool). b && have_short_rows (id x) (id y) cases) (ids_short x y case.rows) ∙ cases_of_ids x y cases
+cases_of_ids x y (case ∷ cases) = ap (λ (b : Bool). b && have_short_rows (id x) (id y) cases) (ids_short x y case.rows)
+    ∙ cases_of_ids x y cases
 
 -- ---- sums and differences
 
@@ -57,43 +58,55 @@ difference_small Next = refl
 abbrev IsShort : Operand → Operand → Option IntCase → Type 0
 IsShort left right found = IfSome found (λ (case : IntCase). are_short left right case.rows ≡ true)
 
-with_short : (l r : Operand) (way : Way) (left right result : Option Bounds) (rows : List ShortRow) → are_short l r rows ≡ true → IsShort l r (case_with way left right result rows)
+with_short : (l r : Operand) (way : Way) (left right result : Option Bounds) (rows : List ShortRow) → are_short l r rows ≡ true
+    → IsShort l r (case_with way left right result rows)
 with_short l r way None right result rows e = tt
 with_short l r way (Some a) None result rows e = tt
 with_short l r way (Some a) (Some b) None rows e = tt
 with_short l r way (Some a) (Some b) (Some c) rows e = e
 
-then_short : (l r : Operand) (found : Option Bounds) (f : Bounds → Option IntCase) → ((exact : Bounds) → IsShort l r (f exact)) → IsShort l r (option_and_then f found)
+then_short : (l r : Operand) (found : Option Bounds) (f : Bounds → Option IntCase) → ((exact : Bounds) → IsShort l r (f exact))
+    → IsShort l r (option_and_then f found)
 then_short l r None f h = tt
 then_short l r (Some exact) f h = h exact
 
 sum_short : (l r : Operand) → TakesSmall l r → (way : Way) (a b : Bounds) → IsShort l r (sum_case way a b)
 sum_short l r small way a b =
-    then_short l r (meet_of (reached_by way) (sum_of a b)) (λ exact. case_with way (meet_of a (difference_of exact b)) (meet_of b (difference_of exact a)) (meet_of all_ints (wrapped_by way exact)) (sum_row way ∷ [])) (λ exact.
-    with_short l r way (meet_of a (difference_of exact b)) (meet_of b (difference_of exact a)) (meet_of all_ints (wrapped_by way exact)) (sum_row way ∷ []) (small (sum_row way) (sum_small way)))
+    then_short l r (meet_of (reached_by way) (sum_of a b))
+    (λ exact. case_with way (meet_of a (difference_of exact b)) (meet_of b (difference_of exact a))
+    (meet_of all_ints (wrapped_by way exact)) (sum_row way ∷ [])) (λ exact.
+    with_short l r way (meet_of a (difference_of exact b)) (meet_of b (difference_of exact a))
+    (meet_of all_ints (wrapped_by way exact)) (sum_row way ∷ []) (small (sum_row way) (sum_small way)))
 
 difference_short : (l r : Operand) → TakesSmall l r → (way : Way) (a b : Bounds) → IsShort l r (difference_case way a b)
 difference_short l r small way a b =
-    then_short l r (meet_of (reached_by way) (difference_of a b)) (λ exact. case_with way (meet_of a (sum_of exact b)) (meet_of b (difference_of a exact)) (meet_of all_ints (wrapped_by way exact)) (difference_row way ∷ [])) (λ exact.
-    with_short l r way (meet_of a (sum_of exact b)) (meet_of b (difference_of a exact)) (meet_of all_ints (wrapped_by way exact)) (difference_row way ∷ []) (small (difference_row way) (difference_small way)))
+    then_short l r (meet_of (reached_by way) (difference_of a b))
+    (λ exact. case_with way (meet_of a (sum_of exact b)) (meet_of b (difference_of a exact))
+    (meet_of all_ints (wrapped_by way exact)) (difference_row way ∷ [])) (λ exact.
+    with_short l r way (meet_of a (sum_of exact b)) (meet_of b (difference_of a exact)) (meet_of all_ints (wrapped_by way exact))
+    (difference_row way ∷ []) (small (difference_row way) (difference_small way)))
 
-more_short : (l r : Operand) (found : Option IntCase) (cases : List IntCase) → IsShort l r found → have_short_rows l r cases ≡ true → have_short_rows l r (cons_option found cases) ≡ true
+more_short : (l r : Operand) (found : Option IntCase) (cases : List IntCase) → IsShort l r found → have_short_rows l r cases ≡ true
+    → have_short_rows l r (cons_option found cases) ≡ true
 more_short l r None cases s h = h
 more_short l r (Some case) cases s h = ap (λ (b : Bool). b && have_short_rows l r cases) s ∙ h
 
 sums_short : (l r : Operand) → TakesSmall l r → (a b : Bounds) → have_short_rows l r (sum_cases a b) ≡ true
 sums_short l r small a b =
-    more_short l r (sum_case Inside a b) (cons_option (sum_case Over a b) (cons_option (sum_case Under a b) [])) (sum_short l r small Inside a b)
+    more_short l r (sum_case Inside a b) (cons_option (sum_case Over a b) (cons_option (sum_case Under a b) []))
+    (sum_short l r small Inside a b)
     (more_short l r (sum_case Over a b) (cons_option (sum_case Under a b) []) (sum_short l r small Over a b)
     (more_short l r (sum_case Under a b) [] (sum_short l r small Under a b) refl))
 
 differences_short : (l r : Operand) → TakesSmall l r → (a b : Bounds) → have_short_rows l r (difference_cases a b) ≡ true
 differences_short l r small a b =
-    more_short l r (difference_case Inside a b) (cons_option (difference_case Over a b) (cons_option (difference_case Under a b) [])) (difference_short l r small Inside a b)
+    more_short l r (difference_case Inside a b)
+    (cons_option (difference_case Over a b) (cons_option (difference_case Under a b) [])) (difference_short l r small Inside a b)
     (more_short l r (difference_case Over a b) (cons_option (difference_case Under a b) []) (difference_short l r small Over a b)
     (more_short l r (difference_case Under a b) [] (difference_short l r small Under a b) refl))
 
-operated_short : (l r : Operand) → TakesSmall l r → (op : IntOp) (a b : Bounds) → is_sum_or_difference op ≡ true → have_short_rows l r (operated op a b) ≡ true
+operated_short : (l r : Operand) → TakesSmall l r → (op : IntOp) (a b : Bounds) → is_sum_or_difference op ≡ true
+    → have_short_rows l r (operated op a b) ≡ true
 operated_short l r small Add a b e = sums_short l r small a b
 operated_short l r small Sub a b e = differences_short l r small a b
 operated_short l r small Mul a b e = absurd (false≢true e)
@@ -107,7 +120,8 @@ operated_short l r small Or a b e = absurd (false≢true e)
 operated_short l r small Xor a b e = absurd (false≢true e)
 operated_short l r small (Narrow kind) a b e = absurd (false≢true e)
 
-pub taken_short : (left right : Operand) (op : IntOp) (a b : Bounds) → takes_operands op left right ≡ true → have_short_rows left right (operated op a b) ≡ true
+pub taken_short : (left right : Operand) (op : IntOp) (a b : Bounds) → takes_operands op left right ≡ true
+    → have_short_rows left right (operated op a b) ≡ true
 taken_short (id x) (id y) op a b e = cases_of_ids x y (operated op a b)
 taken_short (id x) (known n) op a b e = operated_short (id x) (known n) (right_known x n) op a b e
 taken_short (known m) (id y) op a b e = operated_short (known m) (id y) (left_known m y) op a b e

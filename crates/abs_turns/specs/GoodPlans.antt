@@ -9,7 +9,8 @@ use Rattle.abs_cells.specs.Cells.{ids_in, cell_in, HasCell, AreEqual}
 use Rattle.abs_cells.specs.Sound.{given_ids}
 use Rattle.abs_heap.specs.Answers.{IsNullable, IsObjectBelow}
 use Rattle.abs_heap.specs.Writing.{is_array_of_references}
-use Rattle.abs_turns.specs.Plans.{Act, nothing, makes, writes, item, object, array, Goal, nowhere, on_stack, in_local, in_bottom, in_field, is_thrown, Turn, Plan, ends, steps, by_null, by_class, by_equal}
+use Rattle.abs_turns.specs.Plans.{Act, nothing, makes, writes, item, object, array, Goal, nowhere, on_stack, in_local, in_bottom}
+use Rattle.abs_turns.specs.Plans.{in_field, is_thrown, Turn, Plan, ends, steps, by_null, by_class, by_equal}
 
 -- an id has a cell
 abbrev pub IsThere : AbstractState → ℕ → Type 0

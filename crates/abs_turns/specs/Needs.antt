@@ -39,7 +39,8 @@ passing types place Null = passes
 passing types place (Obj class ids) = passes_if (is_below_place types place (type_of_cell (Obj class ids))) fails
 passing types place (Nums kind len) = passes_if (is_below_place types place (type_of_cell (Nums kind len))) fails
 passing types place (Refs element len shape) = passes_if (is_comparable_place types place (type_of_cell (Refs element len shape))) fails
-passing types place (Unk bound nullable shape) = passes_if (is_comparable_place types place (Some bound)) (if nullable then splits else fails)
+passing types place (Unk bound nullable shape) = passes_if (is_comparable_place types place (Some bound))
+    (if nullable then splits else fails)
 
 -- what comes where a reference passes, or doesn't
 abbrev pub after_test : Passing → ℕ → Plan → Plan
@@ -54,7 +55,8 @@ passing_id types state place id = option_map_or (passing types place) (cell_at s
 -- the operands are tested one after another, before the row of a form
 abbrev pub tested : WorldTypes → AbstractState → List (PlaceType × ℕ) → Plan → Plan
 tested types state [] plan = plan
-tested types state (operand ∷ operands) plan = after_test (passing_id types state operand.0 operand.1) operand.1 (tested types state operands plan)
+tested types state (operand ∷ operands) plan = after_test (passing_id types state operand.0 operand.1) operand.1
+    (tested types state operands plan)
 
 -- the operands of a form that takes so many, the lowest first, each with its place's type; stacks are seen top first
 abbrev pub operands_of : ℕ → List PlaceType → List ℕ → List (PlaceType × ℕ)
@@ -77,7 +79,8 @@ is_unknown _ = false
 
 -- the least known id that may be the same object
 abbrev pub known_partner : AbstractState → ℕ → Option ℕ
-known_partner state id = find (λ (other : ℕ). is_of_sort is_known (cell_at state other) && has id other state.eq) (map (λ (c : ℕ × Cell). c.0) state.cells)
+known_partner state id = find (λ (other : ℕ). is_of_sort is_known (cell_at state other) && has id other state.eq)
+    (map (λ (c : ℕ × Cell). c.0) state.cells)
 
 -- whether it is that object, else of which class it is
 abbrev pub split_unknown : ℕ → Ty → Option ℕ → Plan

@@ -12,7 +12,8 @@ use Rattle.abs_turns.specs.declared.plans.Rows.TheVariants as link_rows
 use Rattle.abs_turns.specs.declared.plans.Turn.{Turn as TurnSeen}
 use Rattle.abs_turns.specs.declared.plans.Plan.{Plan as PlanSeen}
 use Rattle.abs_turns.specs.declared.plans.Plan.TheVariants as plans
-use Rattle.abs_turns.specs.Plans.{Act, nothing, makes, writes, item, object, array, Goal, nowhere, on_stack, in_local, in_bottom, in_field, is_thrown, Turn, Plan, ends, steps, by_null, by_class, by_equal, no_rows}
+use Rattle.abs_turns.specs.Plans.{Act, nothing, makes, writes, item, object, array, Goal, nowhere, on_stack, in_local, in_bottom}
+use Rattle.abs_turns.specs.Plans.{in_field, is_thrown, Turn, Plan, ends, steps, by_null, by_class, by_equal, no_rows}
 use Rattle.abs_turns.specs.Turns.{rows_over}
 use Rattle.abs_turns.specs.OperandsSeen.{operand_seen}
 
@@ -40,7 +41,14 @@ rows_seen link_rows.Nothing = no_rows
 rows_seen (link_rows.Over over) = rows_over (operand_seen over.left) (operand_seen over.right) over.rows
 
 abbrev pub turn_seen : TurnSeen → Turn
-turn_seen turn = record { changed = turn.changed; frames = reverse turn.frames; throwing = turn.throwing; act = act_seen turn.act; goal = goal_seen turn.goal; rows = rows_seen turn.rows }
+turn_seen turn = record {
+  changed = turn.changed;
+  frames = reverse turn.frames;
+  throwing = turn.throwing;
+  act = act_seen turn.act;
+  goal = goal_seen turn.goal;
+  rows = rows_seen turn.rows;
+}
 
 abbrev pub plan_seen : PlanSeen → Plan
 plan_seen plans.Ends = ends

@@ -13,7 +13,8 @@ is_small_factor times = int_le (negsuc 0) times && int_le times (pos 1)
 
 -- both stand so, beside a constant that isn't large
 abbrev pub is_small_row : ShortRow → Bool
-is_small_row row = (is_small_factor row.left && is_small_factor row.right) && (int_le (negsuc 1099511627775) row.constant && int_le row.constant (pos 1099511627776))
+is_small_row row = (is_small_factor row.left && is_small_factor row.right)
+    && (int_le (negsuc 1099511627775) row.constant && int_le row.constant (pos 1099511627776))
 
 -- a row over an id and a number of an instruction is such a row; there is none over two numbers
 abbrev pub is_short_row : Operand → Operand → ShortRow → Bool

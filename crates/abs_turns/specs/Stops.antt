@@ -39,7 +39,8 @@ stop_of splits id = Some (by_null id)
 -- for the first of some operands that doesn't pass
 abbrev pub first_stop : WorldTypes → AbstractState → List (PlaceType × ℕ) → Option Plan
 first_stop types state [] = None
-first_stop types state (operand ∷ operands) = or_next (stop_of (passing_id types state operand.0 operand.1) operand.1) (first_stop types state operands)
+first_stop types state (operand ∷ operands) = or_next (stop_of (passing_id types state operand.0 operand.1) operand.1)
+    (first_stop types state operands)
 
 -- for null, which throws
 abbrev pub null_stop : Here → ℕ → Option Plan
@@ -51,7 +52,8 @@ receiver_stop here x = if may_be_null (cell_at here.state x) then Some (by_null 
 
 -- for the receiver of an access, under so many entries of the stack, which isn't of a known class
 abbrev pub access_stop : Here → ℕ → ℕ → Option Plan
-access_stop here depth x = if may_be_null (cell_at here.state x) then Some (by_null x) else if is_unknown (cell_at here.state x) then Some (split_below here.state x (place_under here depth)) else null_stop here x
+access_stop here depth x = if may_be_null (cell_at here.state x) then Some (by_null x) else if is_unknown (cell_at here.state x)
+    then Some (split_below here.state x (place_under here depth)) else null_stop here x
 
 -- ---- parts of rows
 

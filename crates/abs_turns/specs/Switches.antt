@@ -15,7 +15,8 @@ lookup_keys cases = map (λ (c : Case). (c.key, c.target)) cases
 -- from a number on
 abbrev pub parts_from : ℤ → ℕ → List (ℤ × ℕ) → List (Option Bounds × ℕ)
 parts_from low default [] = (interval_of low all_ints.hi, default) ∷ []
-parts_from low default (key ∷ keys) = (interval_of low (key.0 -ℤ pos 1), default) ∷ (Some (just key.0), key.1) ∷ parts_from (key.0 +ℤ pos 1) default keys
+parts_from low default (key ∷ keys) = (interval_of low (key.0 -ℤ pos 1), default) ∷ (Some (just key.0), key.1) ∷ parts_from
+    (key.0 +ℤ pos 1) default keys
 
 abbrev pub parts_of : ℕ → List (ℤ × ℕ) → List (Option Bounds × ℕ)
 parts_of default keys = parts_from all_ints.lo default keys

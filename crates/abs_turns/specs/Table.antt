@@ -1,5 +1,6 @@
 -- What becomes of an abstract state at an instruction: one equation for each form (JVM specification, section 6.5).
-use Rattle.std.specs.Prelude.{ℕ, ℤ, pos, negsuc, ◌+◌, ◌-◌, ◌==◌, Bool, true, false, not, ◌&&◌, ◌||◌, if◌then◌else◌, List, [], ◌∷◌, ◌++◌, length, reverse, take, drop, slice_get, slice_set, slice_index_or, Option, Some, None}
+use Rattle.std.specs.Prelude.{ℕ, ℤ, pos, negsuc, ◌+◌, ◌-◌, ◌==◌, Bool, true, false, not, ◌&&◌, ◌||◌, if◌then◌else◌, List, [], ◌∷◌}
+use Rattle.std.specs.Prelude.{◌++◌, length, reverse, take, drop, slice_get, slice_set, slice_index_or, Option, Some, None}
 use Rattle.std.specs.List.{filter_map}
 use Rattle.std.specs.Option.{option_map, option_and_then, option_map_or, option_to_list}
 use Rattle.lin_core.specs.Intervals.{Bounds}
@@ -25,7 +26,9 @@ use Rattle.abs_ints.specs.Comparing.{related}
 use Rattle.abs_ints.specs.declared.cases.IntCase.{IntCase}
 use Rattle.abs_ints.specs.declared.cases.Way.TheVariants.{Taken}
 use Rattle.abs_ints.specs.declared.relations.Relation.TheVariants.{Below, AtLeast}
-use Rattle.class_world.specs.BuiltIns.{null_pointer_exception, array_index_out_of_bounds_exception, negative_array_size_exception, class_cast_exception, array_store_exception, incompatible_class_change_error, abstract_method_error}
+use Rattle.class_world.specs.BuiltIns.{null_pointer_exception, array_index_out_of_bounds_exception, negative_array_size_exception}
+use Rattle.class_world.specs.BuiltIns.{class_cast_exception, array_store_exception, incompatible_class_change_error}
+use Rattle.class_world.specs.BuiltIns.{abstract_method_error}
 use Rattle.class_world.specs.WorldTypes.{types_of}
 use Rattle.class_program.specs.declared.op.Op.{Op}
 use Rattle.class_program.specs.declared.op.Op.TheVariants as ops
@@ -39,11 +42,17 @@ use Rattle.jvm_step.specs.Effects.{answer_of}
 use Rattle.op_forms.specs.declared.form.Shuffle.{Shuffle as StackShuffle}
 use Rattle.op_forms.specs.declared.form.Shuffle.TheVariants.{Pop, Pop2, Dup, DupX1, DupX2, Dup2, Dup2X1, Dup2X2, Swap}
 use Rattle.op_forms.specs.Forms.{Form, shuffled}
-use Rattle.op_forms.specs.Forms.Form.{Nop, AconstNull, Iconst, Iload, Aload, Istore, Astore, Iinc, Shuffle, Arith, Ineg, Narrow, If, IfIcmp, IfAcmpeq, IfAcmpne, Ifnull, Ifnonnull, Goto, Tableswitch, Lookupswitch, Ireturn, Areturn, Return, Getstatic, Putstatic, Getfield, Putfield, Invokevirtual, Invokespecial, Invokestatic, Invokeinterface, New, Newarray, Anewarray, Arraylength, NumberLoad, Aaload, NumberStore, Aastore, Athrow, Checkcast, Instanceof}
+use Rattle.op_forms.specs.Forms.Form.{Nop, AconstNull, Iconst, Iload, Aload, Istore, Astore, Iinc, Shuffle, Arith, Ineg, Narrow, If}
+use Rattle.op_forms.specs.Forms.Form.{IfIcmp, IfAcmpeq, IfAcmpne, Ifnull, Ifnonnull, Goto, Tableswitch, Lookupswitch, Ireturn}
+use Rattle.op_forms.specs.Forms.Form.{Areturn, Return, Getstatic, Putstatic, Getfield, Putfield, Invokevirtual, Invokespecial}
+use Rattle.op_forms.specs.Forms.Form.{Invokestatic, Invokeinterface, New, Newarray, Anewarray, Arraylength, NumberLoad, Aaload}
+use Rattle.op_forms.specs.Forms.Form.{NumberStore, Aastore, Athrow, Checkcast, Instanceof}
 use Rattle.term_graph.specs.declared.links.LinkRow.{LinkRow}
-use Rattle.abs_turns.specs.Plans.{Turn, Plan, nothing, makes, writes, item, object, array, nowhere, on_stack, in_local, in_bottom, in_field, ends, steps, by_equal, no_child, no_rows}
+use Rattle.abs_turns.specs.Plans.{Turn, Plan, nothing, makes, writes, item, object, array, nowhere, on_stack, in_local, in_bottom}
+use Rattle.abs_turns.specs.Plans.{in_field, ends, steps, by_equal, no_child, no_rows}
 use Rattle.abs_turns.specs.Needs.{tested, operands_of, need_null, need_object}
-use Rattle.abs_turns.specs.Turns.{Here, known, id, frames_at, with_stack, emptied, moves, goes_on, pushes, throws, throws_after, interval_of_id, narrowings, rows_over, turns_of, turns_narrowing, branches, switch_turn}
+use Rattle.abs_turns.specs.Turns.{Here, known, id, frames_at, with_stack, emptied, moves, goes_on, pushes, throws, throws_after}
+use Rattle.abs_turns.specs.Turns.{interval_of_id, narrowings, rows_over, turns_of, turns_narrowing, branches, switch_turn}
 use Rattle.abs_turns.specs.Switches.{table_keys, lookup_keys, parts_of}
 
 -- ---- looking at operands
@@ -105,7 +114,8 @@ negation_plan here (a ∷ stack) = steps (turns_of here Sub (known (pos 0)) (id 
 
 abbrev pub narrow_plan : Here → Kind → List ℕ → Plan
 narrow_plan here kind [] = no_child
-narrow_plan here kind (a ∷ stack) = steps (turns_narrowing here kind a (goes_on here here.next (a ∷ stack)) (with_stack here here.next stack) on_stack)
+narrow_plan here kind (a ∷ stack) = steps
+    (turns_narrowing here kind a (goes_on here here.next (a ∷ stack)) (with_stack here here.next stack) on_stack)
 
 abbrev pub switch_plan : Here → ℕ → List (ℤ × ℕ) → List ℕ → Plan
 switch_plan here default keys [] = no_child
@@ -140,7 +150,8 @@ field_id _ place = None
 
 abbrev pub getfield_plan : Here → FieldUse → List ℕ → Plan
 getfield_plan here used [] = no_child
-getfield_plan here used (k ∷ stack) = accessed here 0 k (step_if (option_map (λ x. goes_on here here.next (x ∷ stack)) (field_id (cell_here here k) used.place)))
+getfield_plan here used (k ∷ stack) = accessed here 0 k
+    (step_if (option_map (λ x. goes_on here here.next (x ∷ stack)) (field_id (cell_here here k) used.place)))
 
 -- what is done with an instance's class and the ids of its fields
 abbrev pub on_instance : Option Cell → (ℕ → List ℕ → Plan) → Plan
@@ -154,7 +165,8 @@ put_int here kind k place x stack class ids = steps (turns_narrowing here kind x
     (with_stack here here.next stack) (in_field k place))
 
 abbrev pub put_reference : Here → ℕ → ℕ → ℕ → List ℕ → Plan
-put_reference here k place w stack = one_step (record (moves (with_stack here here.next stack)) { act = writes (record { object = k; field = Some place; value = w }) })
+put_reference here k place w stack = one_step
+    (record (moves (with_stack here here.next stack)) { act = writes (record { object = k; field = Some place; value = w }) })
 
 abbrev pub put_slot : Here → Slot → ℕ → ℕ → ℕ → List ℕ → ℕ → List ℕ → Plan
 put_slot here (slots.Num kind) k place x stack class ids = put_int here kind k place x stack class ids
@@ -176,7 +188,9 @@ abbrev pub static_local : Here → ℕ → ℕ
 static_local here place = locals_of_method here.program (bottom_of here).method + place
 
 abbrev pub getstatic_plan : Here → ℕ → Plan
-getstatic_plan here place = step_if (option_map (λ x. goes_on here here.next (x ∷ here.frame.stack)) (option_and_then (λ local. local) (slice_get (bottom_of here).locals (static_local here place))))
+getstatic_plan here place = step_if
+    (option_map (λ x. goes_on here here.next (x ∷ here.frame.stack))
+    (option_and_then (λ local. local) (slice_get (bottom_of here).locals (static_local here place))))
 
 -- frames with another id in a local of the bottom one
 abbrev pub bottom_with : ℕ → ℕ → List AbstractFrame → List AbstractFrame
@@ -185,17 +199,21 @@ bottom_with n x (frame ∷ []) = record frame { locals = slice_set frame.locals 
 bottom_with n x (frame ∷ next ∷ rest) = frame ∷ bottom_with n x (next ∷ rest)
 
 abbrev pub put_static : Here → Slot → ℕ → ℕ → List ℕ → Plan
-put_static here (slots.Num kind) n x stack = steps (turns_narrowing here kind x (moves (bottom_with n x (with_stack here here.next stack))) (with_stack here here.next stack) (in_bottom n))
+put_static here (slots.Num kind) n x stack = steps
+    (turns_narrowing here kind x (moves (bottom_with n x (with_stack here here.next stack))) (with_stack here here.next stack)
+    (in_bottom n))
 put_static here (slots.Ref t) n x stack = one_step (moves (bottom_with n x (with_stack here here.next stack)))
 
 abbrev pub putstatic_plan : Here → ℕ → List ℕ → Plan
 putstatic_plan here place [] = no_child
-putstatic_plan here place (x ∷ stack) = option_map_or (λ field. put_static here field.slot (static_local here place) x stack) (slice_get here.program.statics place) no_child
+putstatic_plan here place (x ∷ stack) = option_map_or (λ field. put_static here field.slot (static_local here place) x stack)
+    (slice_get here.program.statics place) no_child
 
 -- ---- new objects and arrays
 
 abbrev pub new_of_base : Here → Base → Plan
-new_of_base here (bases.Class class) = one_step (record (moves (with_stack here here.next here.frame.stack)) { act = object class; goal = on_stack })
+new_of_base here (bases.Class class) = one_step
+    (record (moves (with_stack here here.next here.frame.stack)) { act = object class; goal = on_stack })
 new_of_base here (bases.Num kind) = no_child
 
 abbrev pub new_plan : Here → Ty → Plan
@@ -203,7 +221,8 @@ new_plan here t = new_of_base here t.base
 
 -- a count of at least 0 makes the array, whose length it is; then one below 0 throws
 abbrev pub array_turn : Here → Slot → ℕ → List ℕ → Bounds → Turn
-array_turn here slot count stack both = record (moves (with_stack here here.next stack)) { changed = (count, cells.Int both) ∷ []; act = array slot count; goal = on_stack }
+array_turn here slot count stack both = record (moves (with_stack here here.next stack))
+    { changed = (count, cells.Int both) ∷ []; act = array slot count; goal = on_stack }
 
 abbrev pub natural : Bounds
 natural = record { lo = pos 0; hi = all_ints.hi }
@@ -215,7 +234,8 @@ abbrev pub array_plan : Here → Slot → List ℕ → Plan
 array_plan here slot [] = no_child
 array_plan here slot (count ∷ stack) = steps (
     option_to_list (option_map (array_turn here slot count stack) (meet_of (interval_of_id here.state count) natural))
-    ++ option_to_list (option_map (λ both. throws_after here ((count, cells.Int both) ∷ []) no_rows negative_array_size_exception) (meet_of (interval_of_id here.state count) negative)))
+    ++ option_to_list (option_map (λ both. throws_after here ((count, cells.Int both) ∷ []) no_rows negative_array_size_exception)
+    (meet_of (interval_of_id here.state count) negative)))
 
 -- ---- arrays
 
@@ -231,21 +251,32 @@ items_length_id _ = None
 
 abbrev pub length_plan : Here → List ℕ → Plan
 length_plan here [] = no_child
-length_plan here (k ∷ stack) = accessed here 0 k (step_if (option_map (λ len. goes_on here here.next (len ∷ stack)) (length_id (cell_here here k))))
+length_plan here (k ∷ stack) = accessed here 0 k
+    (step_if (option_map (λ len. goes_on here here.next (len ∷ stack)) (length_id (cell_here here k))))
 
 -- an index of at least 0 and below the length: what both are narrowed to, and the row
 abbrev pub in_bounds : Here → ℕ → ℕ → Option (List (ℕ × Cell) × (ℕ → List LinkRow))
-in_bounds here index len = option_and_then (λ (i : Bounds). option_and_then (λ (case : IntCase). option_map (λ narrowed. (narrowed, rows_over (id index) (id len) case.rows)) (narrowings (id index) case.left (id len) case.right)) (related Below Taken i (interval_of_id here.state len))) (meet_of (interval_of_id here.state index) natural)
+in_bounds here index len = option_and_then
+    (λ (i : Bounds). option_and_then
+    (λ (case : IntCase). option_map (λ narrowed. (narrowed, rows_over (id index) (id len) case.rows))
+    (narrowings (id index) case.left (id len) case.right)) (related Below Taken i (interval_of_id here.state len)))
+    (meet_of (interval_of_id here.state index) natural)
 
 -- an index below 0; then one of at least the length
 abbrev pub out_of_bounds : Here → ℕ → ℕ → List Turn
 out_of_bounds here index len =
-    option_to_list (option_map (λ both. throws_after here ((index, cells.Int both) ∷ []) no_rows array_index_out_of_bounds_exception) (meet_of (interval_of_id here.state index) negative))
-    ++ option_to_list (option_and_then (λ (case : IntCase). option_map (λ narrowed. throws_after here narrowed (rows_over (id index) (id len) case.rows) array_index_out_of_bounds_exception) (narrowings (id index) case.left (id len) case.right)) (related AtLeast Taken (interval_of_id here.state index) (interval_of_id here.state len)))
+    option_to_list (option_map
+    (λ both. throws_after here ((index, cells.Int both) ∷ []) no_rows array_index_out_of_bounds_exception)
+    (meet_of (interval_of_id here.state index) negative))
+    ++ option_to_list (option_and_then
+    (λ (case : IntCase). option_map (λ narrowed. throws_after here narrowed (rows_over (id index) (id len) case.rows)
+    array_index_out_of_bounds_exception) (narrowings (id index) case.left (id len) case.right))
+    (related AtLeast Taken (interval_of_id here.state index) (interval_of_id here.state len)))
 
 -- an access at an index: `good` are the steps within the bounds, by what is narrowed and by the rows
 abbrev pub access_at : Here → ℕ → ℕ → (List (ℕ × Cell) → (ℕ → List LinkRow) → List Turn) → Plan
-access_at here index len good = steps (option_map_or (λ inside. good inside.0 inside.1) (in_bounds here index len) [] ++ out_of_bounds here index len)
+access_at here index len good = steps
+    (option_map_or (λ inside. good inside.0 inside.1) (in_bounds here index len) [] ++ out_of_bounds here index len)
 
 -- the array k has the id of its length, or it isn't one that the access takes
 abbrev pub access_of : Here → ℕ → ℕ → ℕ → Option ℕ → (List (ℕ × Cell) → (ℕ → List LinkRow) → List Turn) → Plan
@@ -260,11 +291,29 @@ of_kind (Some (cells.Nums kind len)) = record { lo = least_of kind; hi = greates
 of_kind _ = all_ints
 
 abbrev pub number_load_plan : Here → List ℕ → Plan
-number_load_plan here (index ∷ k ∷ stack) = access_plan here 1 k index (λ narrowed rows. record { changed = narrowed; frames = with_stack here here.next stack; throwing = None; act = makes (cells.Int (of_kind (cell_here here k))); goal = on_stack; rows = rows } ∷ [])
+number_load_plan here (index ∷ k ∷ stack) = access_plan here 1 k index
+    (λ narrowed rows. record {
+      changed = narrowed;
+      frames = with_stack here here.next stack;
+      throwing = None;
+      act = makes
+          (cells.Int (of_kind (cell_here here k)));
+      goal = on_stack;
+      rows = rows;
+    } ∷ [])
 number_load_plan here _ = no_child
 
 abbrev pub number_store_plan : Here → List ℕ → Plan
-number_store_plan here (value ∷ index ∷ k ∷ stack) = access_plan here 2 k index (λ narrowed rows. record { changed = narrowed; frames = with_stack here here.next stack; throwing = None; act = nothing; goal = nowhere; rows = rows } ∷ [])
+number_store_plan here (value ∷ index ∷ k ∷ stack) = access_plan here 2 k index
+    (λ narrowed rows. record {
+      changed = narrowed;
+      frames = with_stack here here.next stack;
+      throwing = None;
+      act = nothing;
+      goal =
+          nowhere;
+      rows = rows;
+    } ∷ [])
 number_store_plan here _ = no_child
 
 -- the length of an array of references whose item is read at an index, which is another id: in a good state it always is, since one cell
@@ -274,13 +323,30 @@ items_of here k index = if k == index then None else items_length_id (cell_here 
 
 -- an item of an array of references; what is none has no child
 abbrev pub aaload_plan : Here → List ℕ → Plan
-aaload_plan here (index ∷ k ∷ stack) = access_of here 1 k index (items_of here k index) (λ narrowed rows. record { changed = narrowed; frames = with_stack here here.next stack; throwing = None; act = item k; goal = on_stack; rows = rows } ∷ [])
+aaload_plan here (index ∷ k ∷ stack) = access_of here 1 k index (items_of here k index)
+    (λ narrowed rows. record {
+      changed = narrowed;
+      frames = with_stack here here.next stack;
+      throwing = None;
+      act = item k;
+      goal =
+          on_stack;
+      rows = rows;
+    } ∷ [])
 aaload_plan here _ = no_child
 
 -- the value is stored; then, where it isn't null, the array may not take it
 abbrev pub aastore_plan : Here → List ℕ → Plan
 aastore_plan here (value ∷ index ∷ k ∷ stack) = access_plan here 2 k index (λ narrowed rows.
-    record { changed = narrowed; frames = with_stack here here.next stack; throwing = None; act = writes (record { object = k; field = None; value = value }); goal = nowhere; rows = rows }
+    record {
+      changed = narrowed;
+      frames = with_stack here here.next stack;
+      throwing = None;
+      act = writes
+          (record { object = k; field = None; value = value });
+      goal = nowhere;
+      rows = rows;
+    }
     ∷ (if is_null_here here value then [] else throws_after here narrowed rows array_store_exception ∷ []))
 aastore_plan here _ = no_child
 
@@ -293,17 +359,28 @@ pub record Cast : Type 0 where
   pub null : Turn
 
 abbrev pub checkcast_of : Here → List ℕ → Cast
-checkcast_of here stack = record { passed = goes_on here here.next stack; failed = throws here class_cast_exception; null = goes_on here here.next stack }
+checkcast_of here stack = record {
+  passed = goes_on here here.next stack;
+  failed = throws here class_cast_exception;
+  null = goes_on
+      here here.next stack;
+}
 
 abbrev pub number_cell : ℤ → Cell
 number_cell n = cells.Int (just n)
 
 abbrev pub instanceof_of : Here → List ℕ → Cast
-instanceof_of here below = record { passed = pushes here (number_cell (pos 1)) below; failed = pushes here (number_cell (pos 0)) below; null = pushes here (number_cell (pos 0)) below }
+instanceof_of here below = record {
+  passed = pushes here (number_cell (pos 1)) below;
+  failed = pushes here (number_cell (pos 0))
+      below;
+  null = pushes here (number_cell (pos 0)) below;
+}
 
 -- the bound of an object that passes becomes the type where that is lower
 abbrev pub bounded : WorldTypes → Ty → Cell → Option Cell
-bounded types t (cells.Unk bound nullable shape) = if types.sub t bound && not (types.sub bound t) then Some (cells.Unk t nullable shape) else None
+bounded types t (cells.Unk bound nullable shape) = if types.sub t bound && not (types.sub bound t) then Some
+    (cells.Unk t nullable shape) else None
 bounded types t _ = None
 
 abbrev pub with_bound : ℕ → Option Cell → Turn → Turn
@@ -328,14 +405,16 @@ is_known_cell cell = option_map_or is_known cell false
 -- fails
 abbrev pub undecided : Here → Ty → ℕ → Cast → List Turn
 undecided here t x cast =
-    (if may_be_below here t (cell_bound (cell_here here x)) then with_bound x (option_and_then (bounded (types_here here) ((types_here here).erase t)) (cell_here here x)) cast.passed ∷ [] else [])
+    (if may_be_below here t (cell_bound (cell_here here x)) then with_bound x
+    (option_and_then (bounded (types_here here) ((types_here here).erase t)) (cell_here here x)) cast.passed ∷ [] else [])
     ++ cast.failed ∷ []
 
 -- null; a bound below the type, where a test of the type asks first whether it is null; else whether it is null, then by the cell
 abbrev pub cast_plan : Here → Ty → ℕ → Bool → Cast → Plan
 cast_plan here t x asks cast =
     if is_null_here here x then one_step cast.null
-    else if is_bound_below here t (cell_bound (cell_here here x)) then (if asks then need_null here.state x (one_step cast.passed) else one_step cast.passed)
+    else if is_bound_below here t (cell_bound (cell_here here x)) then
+    (if asks then need_null here.state x (one_step cast.passed) else one_step cast.passed)
     else need_null here.state x (
     if is_known_cell (cell_here here x) then one_step cast.failed
     else steps (undecided here t x cast))
@@ -356,7 +435,10 @@ called_frame number m arguments = record { method = number; pc = 0; locals = loc
 
 -- the method of a number runs; so many arguments leave the caller's stack, which stays at the call
 abbrev pub invokes : Here → ℕ → ℕ → Plan
-invokes here count number = option_map_or (λ (m : Method). one_step (moves (called_frame number m (reverse (take count here.frame.stack)) ∷ with_stack here here.frame.pc (drop count here.frame.stack)))) (slice_get here.program.methods number) no_child
+invokes here count number = option_map_or
+    (λ (m : Method). one_step
+    (moves (called_frame number m (reverse (take count here.frame.stack)) ∷ with_stack here here.frame.pc
+    (drop count here.frame.stack)))) (slice_get here.program.methods number) no_child
 
 abbrev pub runs_or_lacks : Here → ℕ → Option ℕ → Plan
 runs_or_lacks here count None = one_step (throws here abstract_method_error)
@@ -370,7 +452,9 @@ abbrev pub receiver_of : Here → Call → Option ℕ
 receiver_of here call = slice_get here.frame.stack (length call.params)
 
 abbrev pub special_plan : Here → Call → Plan
-special_plan here call = option_map_or (λ x. need_null here.state x (unless_null here x (runs_or_lacks here (length call.params + 1) call.target))) (receiver_of here call) no_child
+special_plan here call = option_map_or
+    (λ x. need_null here.state x (unless_null here x (runs_or_lacks here (length call.params + 1) call.target)))
+    (receiver_of here call) no_child
 
 -- the class whose methods an object has; an array has those of java/lang/Object
 abbrev pub class_of_cell : Option Cell → ℕ
@@ -384,12 +468,17 @@ answered here count (Some answers.NoInterface) = one_step (throws here incompati
 answered here count None = no_child
 
 abbrev pub selecting_plan : Here → Op → Call → Plan
-selecting_plan here op call = option_map_or (λ x. accessed here (length call.params) x (answered here (length call.params + 1) (answer_of here.program op (class_of_cell (cell_here here x))))) (receiver_of here call) no_child
+selecting_plan here op call = option_map_or
+    (λ x. accessed here (length call.params) x
+    (answered here (length call.params + 1) (answer_of here.program op (class_of_cell (cell_here here x)))))
+    (receiver_of here call) no_child
 
 -- a caller goes on after its call, with the result on its stack
 abbrev pub returned_to : Here → Option ℕ → List AbstractFrame → Plan
 returned_to here value [] = ends
-returned_to here value (caller ∷ below) = step_if (option_map (λ place. moves (record caller { pc = place; stack = option_to_list value ++ caller.stack } ∷ below)) (option_and_then (λ found. found.1) (insn_at here.program.methods caller.method caller.pc)))
+returned_to here value (caller ∷ below) = step_if
+    (option_map (λ place. moves (record caller { pc = place; stack = option_to_list value ++ caller.stack } ∷ below))
+    (option_and_then (λ found. found.1) (insn_at here.program.methods caller.method caller.pc)))
 
 abbrev pub value_plan : Here → List ℕ → Plan
 value_plan here [] = no_child
@@ -420,7 +509,8 @@ row_of here (Istore n) = store_plan here n here.frame.stack
 row_of here (Astore n) = store_plan here n here.frame.stack
 row_of here (Iinc n by) = increment_plan here n by (local_here here n)
 row_of here (Shuffle shuffle) = step_if (option_map (goes_on here here.next) (shuffled shuffle here.frame.stack))
-row_of here (Arith op) = binary here.frame.stack (λ a b stack. steps (turns_of here op (id a) (id b) (with_stack here here.next stack) on_stack))
+row_of here (Arith op) = binary here.frame.stack
+    (λ a b stack. steps (turns_of here op (id a) (id b) (with_stack here here.next stack) on_stack))
 row_of here Ineg = negation_plan here here.frame.stack
 row_of here (Narrow kind) = narrow_plan here kind here.frame.stack
 row_of here (If cond place) = unary here.frame.stack (λ a stack. steps (branches here cond (id a) (known (pos 0)) place stack false))

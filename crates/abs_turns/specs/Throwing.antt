@@ -32,7 +32,8 @@ is_below_bound types None range = false
 is_below_bound types (Some t) range = option_map_or (λ (class : ℕ). types.sub (class_type class) t) range.catch false
 
 abbrev pub may_take : WorldTypes → AbstractState → ℕ → CatchRange → Bool
-may_take types state x range = is_unknown (cell_at state x) && (not (takes types state x range) && is_below_bound types (thrown_type state x) range)
+may_take types state x range = is_unknown (cell_at state x)
+    && (not (takes types state x range) && is_below_bound types (thrown_type state x) range)
 
 -- the entries before the first that takes the object; all, where none does
 abbrev pub before_taker : WorldTypes → AbstractState → ℕ → List CatchRange → List CatchRange
@@ -48,7 +49,8 @@ handled x frame (caller ∷ below) None = steps (record (moves (record caller { 
 
 -- an object whose class isn't known is split where an entry may take it before the first that takes it, or none takes it
 abbrev pub is_open : WorldTypes → AbstractState → ℕ → List CatchRange → Bool
-is_open types state x ranges = is_unknown (cell_at state x) && (list_any (may_take types state x) (before_taker types state x ranges) || is_none (find (takes types state x) ranges))
+is_open types state x ranges = is_unknown (cell_at state x)
+    && (list_any (may_take types state x) (before_taker types state x ranges) || is_none (find (takes types state x) ranges))
 
 abbrev pub caught_plan : WorldTypes → AbstractState → ℕ → AbstractFrame → List AbstractFrame → List CatchRange → Plan
 caught_plan types state x frame below ranges =
@@ -63,4 +65,5 @@ if_passes splits plan = no_child
 -- an object that can't be a Throwable has no child; else the entries that cover the place are looked at in their order
 abbrev pub throwing_plan : WorldTypes → AbstractState → ℕ → AbstractFrame → List AbstractFrame → List CatchRange → Plan
 throwing_plan types state x frame below table =
-    if_passes (passing_id types state (places.Ref (class_type throwable)) x) (caught_plan types state x frame below (filter (covers frame.pc) table))
+    if_passes (passing_id types state (places.Ref (class_type throwable)) x)
+    (caught_plan types state x frame below (filter (covers frame.pc) table))

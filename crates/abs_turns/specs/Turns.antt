@@ -61,11 +61,20 @@ goes_on here place stack = moves (with_stack here place stack)
 
 -- a fresh id with a cell goes on the stack
 abbrev pub pushes : Here → Cell → List ℕ → Turn
-pushes here cell stack = record { changed = []; frames = with_stack here here.next stack; throwing = None; act = makes cell; goal = on_stack; rows = no_rows }
+pushes here cell stack = record {
+  changed = [];
+  frames = with_stack here here.next stack;
+  throwing = None;
+  act = makes cell;
+  goal =
+      on_stack;
+  rows = no_rows;
+}
 
 -- an object of a built-in class is thrown, which has no fields
 abbrev pub throws_after : Here → List (ℕ × Cell) → (ℕ → List LinkRow) → ℕ → Turn
-throws_after here narrowed rows class = record { changed = narrowed; frames = emptied here; throwing = None; act = makes (cells.Obj class []); goal = is_thrown; rows = rows }
+throws_after here narrowed rows class = record
+    { changed = narrowed; frames = emptied here; throwing = None; act = makes (cells.Obj class []); goal = is_thrown; rows = rows }
 
 abbrev pub throws : Here → ℕ → Turn
 throws here class = throws_after here [] no_rows class
@@ -98,7 +107,8 @@ abbrev pub narrowings : Operand → Bounds → Operand → Bounds → Option (Li
 narrowings (known m) left (known n) right = Some []
 narrowings (id x) left (known n) right = Some ((x, cells.Int left) ∷ [])
 narrowings (known m) left (id y) right = Some ((y, cells.Int right) ∷ [])
-narrowings (id x) left (id y) right = if x == y then option_map (λ both. (x, cells.Int both) ∷ []) (meet_of left right) else Some ((x, cells.Int left) ∷ (y, cells.Int right) ∷ [])
+narrowings (id x) left (id y) right = if x == y then option_map (λ both. (x, cells.Int both) ∷ []) (meet_of left right) else Some
+    ((x, cells.Int left) ∷ (y, cells.Int right) ∷ [])
 
 -- what an operand adds to the terms and to the constant of a row
 abbrev pub term_of : Side → ℕ → ℤ → List (Side × ℕ × ℤ)
@@ -114,7 +124,12 @@ constant_of (id x) times = pos 0
 
 -- the row of a case over ids: operands as before the step, the result as after it
 abbrev pub row_over : Operand → Operand → ℕ → ShortRow → LinkRow
-row_over left right result row = record { kind = row.kind; terms = terms_of left row.left ++ (terms_of right row.right ++ term_of After result row.result); constant = row.constant +ℤ (constant_of left row.left +ℤ constant_of right row.right) }
+row_over left right result row = record {
+  kind = row.kind;
+  terms = terms_of left row.left ++ (terms_of right row.right ++ term_of After result row.result);
+  constant =
+      row.constant +ℤ (constant_of left row.left +ℤ constant_of right row.right);
+}
 
 abbrev pub rows_over : Operand → Operand → List ShortRow → ℕ → List LinkRow
 rows_over left right rows result = map (row_over left right result) rows
@@ -124,14 +139,18 @@ rows_over left right rows result = map (row_over left right result) rows
 -- a case of an operator: its result goes to a goal of frames; a case without a result is the division by 0, which throws
 abbrev pub turn_of_result : Here → List AbstractFrame → Goal → List (ℕ × Cell) → (ℕ → List LinkRow) → Option Bounds → Turn
 turn_of_result here frames goal narrowed rows None = throws_after here narrowed rows arithmetic_exception
-turn_of_result here frames goal narrowed rows (Some result) = record { changed = narrowed; frames = frames; throwing = None; act = makes (cells.Int result); goal = goal; rows = rows }
+turn_of_result here frames goal narrowed rows (Some result) = record
+    { changed = narrowed; frames = frames; throwing = None; act = makes (cells.Int result); goal = goal; rows = rows }
 
 abbrev pub turn_of_case : Here → Operand → Operand → List AbstractFrame → Goal → IntCase → Option Turn
-turn_of_case here left right frames goal case = option_map (λ narrowed. turn_of_result here frames goal narrowed (rows_over left right case.rows) case.result) (narrowings left case.left right case.right)
+turn_of_case here left right frames goal case = option_map
+    (λ narrowed. turn_of_result here frames goal narrowed (rows_over left right case.rows) case.result)
+    (narrowings left case.left right case.right)
 
 -- the cases of an operator in their order; one that narrows an operand to nothing isn't there
 abbrev pub turns_of : Here → IntOp → Operand → Operand → List AbstractFrame → Goal → List Turn
-turns_of here op left right frames goal = filter_map (turn_of_case here left right frames goal) (operated op (interval_at here.state left) (interval_at here.state right))
+turns_of here op left right frames goal = filter_map (turn_of_case here left right frames goal)
+    (operated op (interval_at here.state left) (interval_at here.state right))
 
 -- ---- narrowings to a kind
 
@@ -139,10 +158,12 @@ turns_of here op left right frames goal = filter_map (turn_of_case here left rig
 -- are where a fresh one goes
 abbrev pub turn_narrowing : Turn → List AbstractFrame → Goal → Option Bounds → Turn
 turn_narrowing kept frames goal None = kept
-turn_narrowing kept frames goal (Some result) = record { changed = []; frames = frames; throwing = None; act = makes (cells.Int result); goal = goal; rows = no_rows }
+turn_narrowing kept frames goal (Some result) = record
+    { changed = []; frames = frames; throwing = None; act = makes (cells.Int result); goal = goal; rows = no_rows }
 
 abbrev pub turns_narrowing : Here → Kind → ℕ → Turn → List AbstractFrame → Goal → List Turn
-turns_narrowing here kind x kept frames goal = map (λ (case : IntCase). turn_narrowing kept frames goal case.result) (operated (Narrow kind) (interval_of_id here.state x) (interval_of_id here.state x))
+turns_narrowing here kind x kept frames goal = map (λ (case : IntCase). turn_narrowing kept frames goal case.result)
+    (operated (Narrow kind) (interval_of_id here.state x) (interval_of_id here.state x))
 
 -- ---- comparisons
 
@@ -161,13 +182,17 @@ abbrev pub place_of_way : Here → ℕ → Way → ℕ
 place_of_way here place way = if is_taken way then place else here.next
 
 abbrev pub branch_of_case : Here → Operand → Operand → ℕ → List ℕ → Bool → IntCase → Option Turn
-branch_of_case here left right place stack with_rows case = option_map (λ narrowed. narrows narrowed (with_stack here (place_of_way here place case.way) stack) (rows_if with_rows (rows_over left right case.rows))) (narrowings left case.left right case.right)
+branch_of_case here left right place stack with_rows case = option_map
+    (λ narrowed. narrows narrowed (with_stack here (place_of_way here place case.way) stack)
+    (rows_if with_rows (rows_over left right case.rows))) (narrowings left case.left right case.right)
 
 abbrev pub branches : Here → Cond → Operand → Operand → ℕ → List ℕ → Bool → List Turn
-branches here cond left right place stack rows = filter_map (branch_of_case here left right place stack rows) (compared cond (are_one left right) (interval_at here.state left) (interval_at here.state right))
+branches here cond left right place stack rows = filter_map (branch_of_case here left right place stack rows)
+    (compared cond (are_one left right) (interval_at here.state left) (interval_at here.state right))
 
 -- ---- switches
 
 -- a key is met, or a number between keys: the place, where the operand is among these numbers
 abbrev pub switch_turn : Here → ℕ → List ℕ → Option Bounds × ℕ → Option Turn
-switch_turn here x stack part = option_map (λ both. narrows ((x, cells.Int both) ∷ []) (with_stack here part.1 stack) no_rows) (option_and_then (meet_of (interval_of_id here.state x)) part.0)
+switch_turn here x stack part = option_map (λ both. narrows ((x, cells.Int both) ∷ []) (with_stack here part.1 stack) no_rows)
+    (option_and_then (meet_of (interval_of_id here.state x)) part.0)

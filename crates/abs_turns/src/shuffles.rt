@@ -60,7 +60,8 @@ fn pop2(stack: &mut Stack<Id>) -> bool
 
 /// Lets the two top ids change places.
 fn swap(stack: &mut Stack<Id>) -> Result<bool, AllocError>
-    ensures { IfOk result (λ done. MatchBool done (shuffled shuffles.Swap stack.old.0 ≡ Some stack.new.0) (shuffled shuffles.Swap stack.old.0 ≡ None)) }
+    ensures { IfOk result
+        (λ done. MatchBool done (shuffled shuffles.Swap stack.old.0 ≡ Some stack.new.0) (shuffled shuffles.Swap stack.old.0 ≡ None)) }
 {
     let Some((a, b)) = stack.top_two() else {
         return Ok(false);
@@ -72,7 +73,8 @@ fn swap(stack: &mut Stack<Id>) -> Result<bool, AllocError>
 
 /// Puts a copy of the top id above it.
 fn dup(stack: &mut Stack<Id>) -> Result<bool, AllocError>
-    ensures { IfOk result (λ done. MatchBool done (shuffled shuffles.Dup stack.old.0 ≡ Some stack.new.0) (shuffled shuffles.Dup stack.old.0 ≡ None)) }
+    ensures { IfOk result
+        (λ done. MatchBool done (shuffled shuffles.Dup stack.old.0 ≡ Some stack.new.0) (shuffled shuffles.Dup stack.old.0 ≡ None)) }
 {
     if stack.is_empty() {
         return Ok(false);
@@ -84,7 +86,8 @@ fn dup(stack: &mut Stack<Id>) -> Result<bool, AllocError>
 
 /// Puts a copy of the top id below the second one.
 fn dup_x1(stack: &mut Stack<Id>) -> Result<bool, AllocError>
-    ensures { IfOk result (λ done. MatchBool done (shuffled shuffles.DupX1 stack.old.0 ≡ Some stack.new.0) (shuffled shuffles.DupX1 stack.old.0 ≡ None)) }
+    ensures { IfOk result (λ done. MatchBool done (shuffled shuffles.DupX1 stack.old.0 ≡ Some stack.new.0)
+        (shuffled shuffles.DupX1 stack.old.0 ≡ None)) }
 {
     let Some((a, b)) = stack.top_two() else {
         return Ok(false);
@@ -95,7 +98,8 @@ fn dup_x1(stack: &mut Stack<Id>) -> Result<bool, AllocError>
 
 /// Puts a copy of the top id below the third one.
 fn dup_x2(stack: &mut Stack<Id>) -> Result<bool, AllocError>
-    ensures { IfOk result (λ done. MatchBool done (shuffled shuffles.DupX2 stack.old.0 ≡ Some stack.new.0) (shuffled shuffles.DupX2 stack.old.0 ≡ None)) }
+    ensures { IfOk result (λ done. MatchBool done (shuffled shuffles.DupX2 stack.old.0 ≡ Some stack.new.0)
+        (shuffled shuffles.DupX2 stack.old.0 ≡ None)) }
 {
     let Some((a, b, c)) = stack.top_three() else {
         return Ok(false);
@@ -107,7 +111,8 @@ fn dup_x2(stack: &mut Stack<Id>) -> Result<bool, AllocError>
 
 /// Puts copies of the two top ids above them.
 fn dup2(stack: &mut Stack<Id>) -> Result<bool, AllocError>
-    ensures { IfOk result (λ done. MatchBool done (shuffled shuffles.Dup2 stack.old.0 ≡ Some stack.new.0) (shuffled shuffles.Dup2 stack.old.0 ≡ None)) }
+    ensures { IfOk result
+        (λ done. MatchBool done (shuffled shuffles.Dup2 stack.old.0 ≡ Some stack.new.0) (shuffled shuffles.Dup2 stack.old.0 ≡ None)) }
 {
     let Some((a, b)) = stack.top_two() else {
         return Ok(false);
@@ -118,7 +123,8 @@ fn dup2(stack: &mut Stack<Id>) -> Result<bool, AllocError>
 
 /// Puts copies of the two top ids below the third one.
 fn dup2_x1(stack: &mut Stack<Id>) -> Result<bool, AllocError>
-    ensures { IfOk result (λ done. MatchBool done (shuffled shuffles.Dup2X1 stack.old.0 ≡ Some stack.new.0) (shuffled shuffles.Dup2X1 stack.old.0 ≡ None)) }
+    ensures { IfOk result (λ done. MatchBool done (shuffled shuffles.Dup2X1 stack.old.0 ≡ Some stack.new.0)
+        (shuffled shuffles.Dup2X1 stack.old.0 ≡ None)) }
 {
     let Some((a, b, c)) = stack.top_three() else {
         return Ok(false);
@@ -130,7 +136,8 @@ fn dup2_x1(stack: &mut Stack<Id>) -> Result<bool, AllocError>
 
 /// Puts copies of the two top ids below the fourth one.
 fn dup2_x2(stack: &mut Stack<Id>) -> Result<bool, AllocError>
-    ensures { IfOk result (λ done. MatchBool done (shuffled shuffles.Dup2X2 stack.old.0 ≡ Some stack.new.0) (shuffled shuffles.Dup2X2 stack.old.0 ≡ None)) }
+    ensures { IfOk result (λ done. MatchBool done (shuffled shuffles.Dup2X2 stack.old.0 ≡ Some stack.new.0)
+        (shuffled shuffles.Dup2X2 stack.old.0 ≡ None)) }
 {
     let Some((a, b, c, d)) = stack.top_four() else {
         return Ok(false);
@@ -143,7 +150,8 @@ fn dup2_x2(stack: &mut Stack<Id>) -> Result<bool, AllocError>
 
 /// Reorders the top of a stack; false, and nothing done, where it has too few ids.
 pub fn shuffle(stack: &mut Stack<Id>, reordering: Shuffle) -> Result<bool, AllocError>
-    ensures { IfOk result (λ done. MatchBool done (shuffled reordering stack.old.0 ≡ Some stack.new.0) (shuffled reordering stack.old.0 ≡ None)) }
+    ensures { IfOk result
+        (λ done. MatchBool done (shuffled reordering stack.old.0 ≡ Some stack.new.0) (shuffled reordering stack.old.0 ≡ None)) }
 {
     match reordering {
         Shuffle::Pop => Ok(pop(stack)),

@@ -1,5 +1,6 @@
 //! Where a state stands: its running frame with the instruction there.
-ghost use Rattle.std.specs.Prelude.{◌≡◌, ◌&&◌, ◌∷◌, [], min, length, reverse, slice_get, slice_set, ◌<◌, ◌+◌, IfOk, IfSome, MatchOption, Some};
+ghost use Rattle.std.specs.Prelude.{◌≡◌, ◌&&◌, ◌∷◌, [], min, length, reverse, slice_get, slice_set, ◌<◌, ◌+◌, IfOk, IfSome};
+ghost use Rattle.std.specs.Prelude.{MatchOption, Some};
 ghost use Rattle.std.specs.Option.{option_map, option_and_then};
 ghost use Rattle.jvm_values.specs.States.{types_of};
 ghost use Rattle.abs_cells.specs.Cells.{is_known, is_of_sort, cell_in, cell_at};
@@ -12,7 +13,7 @@ ghost use Rattle.abs_turns.specs.Turns.{frames_at, with_stack, interval_in, inte
 ghost use Rattle.abs_turns.specs.Needs.{may_be_null, is_unknown, known_partner};
 ghost use Rattle.abs_turns.specs.Table.{local_here, is_null_here, place_under, bottom_of, locals_of_method, static_local};
 
-use abs_cells::{AbsFrame, AbsState, Cell, Id, Pairs, copied_frames};
+use abs_cells::{AbsFrame, AbsState, Cell, Id, Pairs, copied_frames, is_pair};
 use abs_reach::cell_of;
 use class_program::Program;
 use jvm_values::{FrameType, PlaceType};
@@ -106,7 +107,8 @@ fn ints_of(cell: &Cell) -> Option<Interval>
 /// The ints of an id, or None where it has no cell, or one that is no int's.
 fn ints_at(cells: &[(Id, Cell)], id: Id) -> Option<Interval>
     requires { AreIdsRising 0 cells.now }
-    ensures { MatchOption result (interval_in (cell_in cells.now id) ≡ all_ints) (λ interval. interval_in (cell_in cells.now id) ≡ interval) }
+    ensures { MatchOption result (interval_in (cell_in cells.now id) ≡ all_ints)
+        (λ interval. interval_in (cell_in cells.now id) ≡ interval) }
 {
     ints_of(cell_of(cells, id)?)
 }
@@ -159,7 +161,15 @@ impl<'a, 'p, P: Pairs> Spot<'a, 'p, P> {
         next: u16,
     ) -> Spot<'a, 'p, P>
         requires { IsSound (world_types_of (program_of program.now).world) state.now }
-        ensures { result ≡ record { program = program_of program.now; state = state.now; frame = frame.now; below = reverse below.now; places = (types_of types.now).stack; next = next } }
+        ensures { result ≡ record {
+          program = program_of program.now;
+          state = state.now;
+          frame = frame.now;
+          below = reverse
+              below.now;
+          places = (types_of types.now).stack;
+          next = next;
+        } }
     {
         Spot {
             program,
@@ -319,18 +329,7 @@ impl<'a, 'p, P: Pairs> Spot<'a, 'p, P> {
     pub fn may_be_one(&self, a: Id, b: Id) -> bool
         ensures { result ≡ has a b self.now.state.eq }
     {
-        let pairs = self.state.eq();
-        let _first = pairs.nth(0);
-        if a == b {
-            return false;
-        }
-        if a >= 2048 {
-            return false;
-        }
-        if b >= 2048 {
-            return false;
-        }
-        pairs.has(a, b)
+        is_pair(self.state.eq(), a, b)
     }
 
     /// Whether an id is known, and may be the same object as another one.

@@ -58,7 +58,9 @@ fn narrowed_turn<P: Pairs>(
     ints: Option<Interval>,
     place: u16,
 ) -> Result<Option<Turn>, AllocError>
-    ensures { IfOk result (λ turn. option_map turn_seen turn ≡ option_map (λ both. narrows ((x, cells.Int both) ∷ []) (with_stack spot.now place stack.now.0) no_rows) ints) }
+    ensures { IfOk result
+        (λ turn. option_map turn_seen turn ≡ option_map
+        (λ both. narrows ((x, cells.Int both) ∷ []) (with_stack spot.now place stack.now.0) no_rows) ints) }
 {
     let Some(both) = ints else {
         return Ok(None);
@@ -79,7 +81,9 @@ fn put_gap<P: Pairs>(
     place: u16,
     turns: &mut Seq<Turn>,
 ) -> Result<(), AllocError>
-    ensures { IfOk result (λ _. map turn_seen turns.new ≡ map turn_seen turns.old ++ option_to_list (switch_turn spot.now x stack.now.0 (interval_of low.now high.now, place))) }
+    ensures { IfOk result
+        (λ _. map turn_seen turns.new ≡ map turn_seen turns.old ++ option_to_list
+        (switch_turn spot.now x stack.now.0 (interval_of low.now high.now, place))) }
 {
     let ints = between(spot.interval_of(x), low, high);
     put(turns, narrowed_turn(alloc, spot, x, stack, ints, place)?)
@@ -95,7 +99,9 @@ fn put_one<P: Pairs>(
     place: u16,
     turns: &mut Seq<Turn>,
 ) -> Result<(), AllocError>
-    ensures { IfOk result (λ _. map turn_seen turns.new ≡ map turn_seen turns.old ++ option_to_list (switch_turn spot.now x stack.now.0 (Some (just key.now), place))) }
+    ensures { IfOk result
+        (λ _. map turn_seen turns.new ≡ map turn_seen turns.old ++ option_to_list
+        (switch_turn spot.now x stack.now.0 (Some (just key.now), place))) }
 {
     let ints = key_in(spot.interval_of(x), key);
     put(turns, narrowed_turn(alloc, spot, x, stack, ints, place)?)
@@ -114,7 +120,8 @@ fn put_key<P: Pairs>(
     turns: &mut Seq<Turn>,
 ) -> Result<(), AllocError>
     requires { negsuc 2147483647 ≤ℤ key.now }
-    ensures { IfOk result (λ _. map turn_seen turns.new ≡ map turn_seen turns.old ++ filter_map (switch_turn spot.now x stack.now.0) ((interval_of low.now (key.now -ℤ pos 1), default) ∷ (Some (just key.now), place) ∷ [])) }
+    ensures { IfOk result (λ _. map turn_seen turns.new ≡ map turn_seen turns.old ++ filter_map (switch_turn spot.now x stack.now.0)
+        ((interval_of low.now (key.now -ℤ pos 1), default) ∷ (Some (just key.now), place) ∷ [])) }
 {
     let before = *key - 1;
     put_gap(alloc, spot, x, stack, low, &before, default, turns)?;
@@ -131,7 +138,9 @@ pub fn table_turns<P: Pairs>(
     first: &i32,
     targets: &[u16],
 ) -> Result<Seq<Turn>, AllocError>
-    ensures { IfOk result (λ turns. map turn_seen turns ≡ filter_map (switch_turn spot.now x stack.now.0) (parts_of default (table_keys first.now targets.now))) }
+    ensures { IfOk result
+        (λ turns. map turn_seen turns ≡ filter_map (switch_turn spot.now x stack.now.0)
+        (parts_of default (table_keys first.now targets.now))) }
 {
     let mut turns = Seq::new(alloc);
     let mut low = i64::from(i32::MIN);
@@ -164,7 +173,8 @@ pub fn lookup_turns<P: Pairs>(
     default: u16,
     cases: &[Case],
 ) -> Result<Seq<Turn>, AllocError>
-    ensures { IfOk result (λ turns. map turn_seen turns ≡ filter_map (switch_turn spot.now x stack.now.0) (parts_of default (lookup_keys cases.now))) }
+    ensures { IfOk result
+        (λ turns. map turn_seen turns ≡ filter_map (switch_turn spot.now x stack.now.0) (parts_of default (lookup_keys cases.now))) }
 {
     let mut turns = Seq::new(alloc);
     let mut low = i64::from(i32::MIN);

@@ -6,7 +6,9 @@ ghost use Rattle.abs_ints.specs.IntIntervals.{just};
 ghost use Rattle.abs_ints.specs.Operating.{operated};
 ghost use Rattle.abs_turns.specs.Plans.{on_stack, Turn as PlannedTurn};
 ghost use Rattle.abs_turns.specs.Stops.{narrowed_to};
-ghost use Rattle.abs_turns.specs.Turns.{id, with_stack, moves, goes_on, pushes, throws_after, throws, are_one, interval_at, narrowings, rows_over, turn_of_result, turn_of_case, turns_of, turn_narrowing, turns_narrowing, is_taken, rows_if, narrows, branch_of_case, branches};
+ghost use Rattle.abs_turns.specs.Turns.{id, with_stack, moves, goes_on, pushes, throws_after, throws, are_one, interval_at};
+ghost use Rattle.abs_turns.specs.Turns.{narrowings, rows_over, turn_of_result, turn_of_case, turns_of, turn_narrowing};
+ghost use Rattle.abs_turns.specs.Turns.{turns_narrowing, is_taken, rows_if, narrows, branch_of_case, branches};
 ghost use Rattle.abs_turns.specs.ShortRows.{are_short, have_short_rows, takes_operands, are_ids_if};
 ghost use Rattle.abs_turns.specs.OperandsSeen.{operand_seen};
 ghost use Rattle.abs_turns.specs.PlansSeen.{goal_seen, rows_seen, turn_seen};
@@ -192,7 +194,8 @@ fn turn_of_result<P: Pairs>(
     rows: Rows,
     ints: Option<Interval>,
 ) -> Result<Turn, AllocError>
-    ensures { IfOk result (λ turn. turn_seen turn ≡ turn_of_result spot.now (with_stack spot.now spot.now.next stack.now.0) (goal_seen goal) narrowed (rows_seen rows) ints) }
+    ensures { IfOk result (λ turn. turn_seen turn ≡ turn_of_result spot.now (with_stack spot.now spot.now.next stack.now.0)
+        (goal_seen goal) narrowed (rows_seen rows) ints) }
 {
     match ints {
         None => throws_after(alloc, spot, narrowed, rows, ARITHMETIC_EXCEPTION),
@@ -221,7 +224,8 @@ fn turn_of_case<P: Pairs>(
     case: IntCase,
 ) -> Result<Option<Turn>, AllocError>
     requires { IsTrue (are_short (operand_seen left) (operand_seen right) case.rows) }
-    ensures { IfOk result (λ turn. option_map turn_seen turn ≡ turn_of_case spot.now (operand_seen left) (operand_seen right) (with_stack spot.now spot.now.next stack.now.0) (goal_seen goal) case) }
+    ensures { IfOk result (λ turn. option_map turn_seen turn ≡ turn_of_case spot.now (operand_seen left) (operand_seen right)
+        (with_stack spot.now spot.now.next stack.now.0) (goal_seen goal) case) }
 {
     let IntCase {
         left: left_ints,
@@ -274,7 +278,8 @@ pub fn turns_of<P: Pairs>(
     goal: Goal,
 ) -> Result<Seq<Turn>, AllocError>
     requires { IsTrue (takes_operands op (operand_seen left) (operand_seen right)) }
-    ensures { IfOk result (λ turns. map turn_seen turns ≡ turns_of spot.now op (operand_seen left) (operand_seen right) (with_stack spot.now spot.now.next stack.now.0) (goal_seen goal)) }
+    ensures { IfOk result (λ turns. map turn_seen turns ≡ turns_of spot.now op (operand_seen left) (operand_seen right)
+        (with_stack spot.now spot.now.next stack.now.0) (goal_seen goal)) }
 {
     let mut turns = Seq::new(alloc);
     let mut cases = short_cases(
@@ -299,7 +304,8 @@ fn turn_narrowing<P: Pairs>(
     stack: &Stack<Id>,
     ints: Option<Interval>,
 ) -> Result<Turn, AllocError>
-    ensures { IfOk result (λ turn. turn_seen turn ≡ turn_narrowing (goes_on spot.now spot.now.next (x ∷ stack.now.0)) (with_stack spot.now spot.now.next stack.now.0) on_stack ints) }
+    ensures { IfOk result (λ turn. turn_seen turn ≡ turn_narrowing (goes_on spot.now spot.now.next (x ∷ stack.now.0))
+        (with_stack spot.now spot.now.next stack.now.0) on_stack ints) }
 {
     match ints {
         None => {
@@ -326,7 +332,9 @@ pub fn turns_narrowing<P: Pairs>(
     x: Id,
     stack: &Stack<Id>,
 ) -> Result<Seq<Turn>, AllocError>
-    ensures { IfOk result (λ turns. map turn_seen turns ≡ turns_narrowing spot.now kind x (goes_on spot.now spot.now.next (x ∷ stack.now.0)) (with_stack spot.now spot.now.next stack.now.0) on_stack) }
+    ensures { IfOk result
+        (λ turns. map turn_seen turns ≡ turns_narrowing spot.now kind x (goes_on spot.now spot.now.next (x ∷ stack.now.0))
+        (with_stack spot.now spot.now.next stack.now.0) on_stack) }
 {
     let mut turns = Seq::new(alloc);
     let ints = spot.interval_of(x);
@@ -363,7 +371,9 @@ pub fn pushes_to<P: Pairs>(
     stack: &Stack<Id>,
     goal: Goal,
 ) -> Result<Turn, AllocError>
-    ensures { (kept : PlannedTurn) → IfOk result (λ turn. turn_seen turn ≡ turn_narrowing kept (with_stack spot.now spot.now.next stack.now.0) (goal_seen goal) (Some ints)) }
+    ensures { (kept : PlannedTurn)
+        → IfOk result (λ turn. turn_seen turn ≡ turn_narrowing kept (with_stack spot.now spot.now.next stack.now.0)
+        (goal_seen goal) (Some ints)) }
 {
     let mut turn = pushes(alloc, spot, Cell::Int(ints), stack)?;
     turn.goal = goal;
@@ -408,7 +418,8 @@ fn branch_of_case<P: Pairs>(
     case: IntCase,
 ) -> Result<Option<Turn>, AllocError>
     requires { IsTrue (are_ids_if with_rows (operand_seen left) (operand_seen right)) }
-    ensures { IfOk result (λ turn. option_map turn_seen turn ≡ branch_of_case spot.now (operand_seen left) (operand_seen right) place stack.now.0 with_rows case) }
+    ensures { IfOk result (λ turn. option_map turn_seen turn ≡ branch_of_case spot.now (operand_seen left) (operand_seen right)
+        place stack.now.0 with_rows case) }
 {
     let IntCase {
         left: left_ints,
@@ -438,7 +449,8 @@ pub fn branches<P: Pairs>(
     with_rows: bool,
 ) -> Result<Seq<Turn>, AllocError>
     requires { IsTrue (are_ids_if with_rows (operand_seen left) (operand_seen right)) }
-    ensures { IfOk result (λ turns. map turn_seen turns ≡ branches spot.now cond (operand_seen left) (operand_seen right) place stack.now.0 with_rows) }
+    ensures { IfOk result (λ turns. map turn_seen turns ≡ branches spot.now cond (operand_seen left) (operand_seen right) place
+        stack.now.0 with_rows) }
 {
     let mut turns = Seq::new(alloc);
     let one = are_one(left, right);

@@ -1,9 +1,11 @@
 -- Ids that stand beside one another in two sound states that stand alike: both are ints, or neither is.
-use Rattle.std.proofs.Common.{◌≡◌, ◌⊎◌, ℕ, Bool, true, false, cond, ◌&&◌, List, [], ◌∷◌, All, zip, reverse, Option, Some, None, refl, sym, ap, subst, ◌∙◌, inl, inr}
+use Rattle.std.proofs.Common.{◌≡◌, ◌⊎◌, ℕ, Bool, true, false, cond, ◌&&◌, List, [], ◌∷◌, All, zip, reverse, Option, Some, None}
+use Rattle.std.proofs.Common.{refl, sym, ap, subst, ◌∙◌, inl, inr}
 use Rattle.std.specs.Prelude.{nat_eq, if◌then◌else◌}
 use Rattle.std.specs.List.{AllZip, AllByRecursion}
 use Rattle.std.specs.Option.{option_map_or}
-use Rattle.std.proofs.lemmas.Bool.{or_left, or_right, or_cases, and_from, and_parts, cases_Bool, cases_eq, ne_eqb, eq-eqb, false≢true, not_from_true}
+use Rattle.std.proofs.lemmas.Bool.{or_left, or_right, or_cases, and_from, and_parts, cases_Bool, cases_eq, ne_eqb, eq-eqb}
+use Rattle.std.proofs.lemmas.Bool.{false≢true, not_from_true}
 use Rattle.std.proofs.lemmas.List.Elements.{All-head, All-tail, length_all_zip}
 use Rattle.std.proofs.lemmas.Option.{none-some}
 use Rattle.list_views.proofs.Quantified.{all_joined}
@@ -21,8 +23,10 @@ use Rattle.abs_cells.specs.Cells.{is_int, is_of_sort, cell_in, cell_at, HasCell,
 use Rattle.abs_cells.specs.Sound.{IsSound, IsSoundCell, IsOfSlot, is_object}
 use Rattle.abs_cells.proofs.Checking.{has_cell_from, has_cell_to}
 use Rattle.abs_reach.specs.Instances.{is_no_int}
-use Rattle.abs_widen.specs.Rows.{Row, ints, nulls, instances, numbers, arrays, unlike, interval_in, fields_in, length_in, array_in, row_of, pairs_of}
-use Rattle.abs_widen.specs.Visits.{are_alike, local_pair, some_in, local_pairs, frame_pairs, frames_pairs, thrown_pair, position_pairs, row_of_cells, pairs_in, pairs_below, IsPaired}
+use Rattle.abs_widen.specs.Rows.{Row, ints, nulls, instances, numbers, arrays, unlike, interval_in, fields_in, length_in, array_in}
+use Rattle.abs_widen.specs.Rows.{row_of, pairs_of}
+use Rattle.abs_widen.specs.Visits.{are_alike, local_pair, some_in, local_pairs, frame_pairs, frames_pairs, thrown_pair}
+use Rattle.abs_widen.specs.Visits.{position_pairs, row_of_cells, pairs_in, pairs_below, IsPaired}
 use Rattle.abs_widen.specs.Visits.IsPaired.{placed, named}
 use Rattle.abs_widen.specs.Widening.{AreFramesAlike, AreAlike}
 use Rattle.abs_widen.specs.Visiting.{AreAsLong, ArePairCells}
@@ -32,20 +36,25 @@ use Rattle.abs_widen.proofs.Zips.{all_reversed}
 
 -- ---- cells of a sound state
 
-pub holds_in : (P : Cell → Type 0) (cells : List (ℕ × Cell)) (id : ℕ) (cell : Cell) → All (λ c. P c.1) cells → cell_in cells id ≡ Some cell → P cell
+pub holds_in : (P : Cell → Type 0) (cells : List (ℕ × Cell)) (id : ℕ) (cell : Cell) → All (λ c. P c.1) cells
+    → cell_in cells id ≡ Some cell → P cell
 holds_in P [] id cell h e = absurd (none-some cell e)
 holds_in P (c ∷ cells) id cell h e = elim (cases_Bool (nat_eq c.0 id)) [
-  | inl t ↦ subst P (some_is (sym (ap (λ (b : Bool). cond b (Some c.1) (cell_in cells id)) t) ∙ e)) (All-head (λ (x : ℕ × Cell). P x.1) c cells h)
-  | inr f ↦ holds_in P cells id cell (All-tail (λ (x : ℕ × Cell). P x.1) c cells h) (sym (ap (λ (b : Bool). cond b (Some c.1) (cell_in cells id)) f) ∙ e)
+  | inl t ↦ subst P (some_is (sym (ap (λ (b : Bool). cond b (Some c.1) (cell_in cells id)) t) ∙ e))
+      (All-head (λ (x : ℕ × Cell). P x.1) c cells h)
+  | inr f ↦ holds_in P cells id cell (All-tail (λ (x : ℕ × Cell). P x.1) c cells h)
+      (sym (ap (λ (b : Bool). cond b (Some c.1) (cell_in cells id)) f) ∙ e)
 ]
 
-pub sound_at : (types : WorldTypes) (state : AbstractState) → IsSound types state → (id : ℕ) (cell : Cell) → cell_at state id ≡ Some cell → IsSoundCell types state cell
+pub sound_at : (types : WorldTypes) (state : AbstractState) → IsSound types state → (id : ℕ) (cell : Cell)
+    → cell_at state id ≡ Some cell → IsSoundCell types state cell
 sound_at types state sound id cell e = holds_in (IsSoundCell types state) state.cells id cell sound.cells e
 
 -- ---- rows
 
 -- what holds of no pairs, and of those of each row that may be, holds of the row's pairs
-pub row_pairs : {X : Type 0} (P : List (ℕ × ℕ) → Type 0) → P [] → (f : X → Row) (o : Option X) → ((x : X) → o ≡ Some x → P (pairs_of (f x))) → P (pairs_of (option_map_or f o unlike))
+pub row_pairs : {X : Type 0} (P : List (ℕ × ℕ) → Type 0) → P [] → (f : X → Row) (o : Option X)
+    → ((x : X) → o ≡ Some x → P (pairs_of (f x))) → P (pairs_of (option_map_or f o unlike))
 row_pairs P none f None h = none
 row_pairs P none f (Some x) h = h x refl
 
@@ -54,13 +63,22 @@ null_pairs P none true = none
 null_pairs P none false = none
 
 -- an array of numbers of the kind; of references
-pub length_cell : (kind : Kind) (q : Cell) (more : ℕ) → length_in kind q ≡ Some more → (other : Kind) × ((q ≡ Nums other more) × (kind_code kind ≡ kind_code other))
+pub length_cell : (kind : Kind) (q : Cell) (more : ℕ) → length_in kind q ≡ Some more
+    → (other : Kind) × ((q ≡ Nums other more) × (kind_code kind ≡ kind_code other))
 length_cell kind (Int i) more e = absurd (none-some more e)
 length_cell kind Null more e = absurd (none-some more e)
 length_cell kind (Obj class ids) more e = absurd (none-some more e)
 length_cell kind (Nums other len) more e = elim (cases_eq (kind_code kind) (kind_code other)) [
-  | inl same ↦ (other, (ap (Nums other) (some_is (sym (ap (λ (t : Bool). cond t (Some len) None) (eq-eqb (kind_code kind) (kind_code other) same)) ∙ e)), same))
-  | inr differ ↦ absurd (none-some more (sym (ap (λ (t : Bool). cond t (Some len) None) (ne_eqb (kind_code kind) (kind_code other) differ)) ∙ e))
+  | inl same ↦ (
+    other,
+    (
+      ap (Nums other)
+          (some_is (sym (ap (λ (t : Bool). cond t (Some len) None) (eq-eqb (kind_code kind) (kind_code other) same)) ∙ e)),
+      same,
+    ),
+  )
+  | inr differ ↦ absurd
+      (none-some more (sym (ap (λ (t : Bool). cond t (Some len) None) (ne_eqb (kind_code kind) (kind_code other) differ)) ∙ e))
 ]
 length_cell kind (Refs element len shape) more e = absurd (none-some more e)
 length_cell kind (Unk bound nullable shape) more e = absurd (none-some more e)
@@ -84,30 +102,36 @@ module _ (a b : AbstractState) where
 
   ints_alike : (x y : ℕ) → HasCell is_int a x → HasCell is_int b y → Alike (x, y)
   ints_alike x y h k =
-      or_left (is_of_sort is_int (cell_at a x) && is_of_sort is_int (cell_at b y)) (is_of_sort is_no_int (cell_at a x) && is_of_sort is_no_int (cell_at b y))
+      or_left (is_of_sort is_int (cell_at a x) && is_of_sort is_int (cell_at b y))
+      (is_of_sort is_no_int (cell_at a x) && is_of_sort is_no_int (cell_at b y))
       (and_from (is_of_sort is_int (cell_at a x)) (is_of_sort is_int (cell_at b y)) (has_cell_to is_int a x h) (has_cell_to is_int b y k))
 
   others_alike : (x y : ℕ) → HasCell is_no_int a x → HasCell is_no_int b y → Alike (x, y)
   others_alike x y h k =
-      or_right (is_of_sort is_int (cell_at a x) && is_of_sort is_int (cell_at b y)) (is_of_sort is_no_int (cell_at a x) && is_of_sort is_no_int (cell_at b y))
-      (and_from (is_of_sort is_no_int (cell_at a x)) (is_of_sort is_no_int (cell_at b y)) (has_cell_to is_no_int a x h) (has_cell_to is_no_int b y k))
+      or_right (is_of_sort is_int (cell_at a x) && is_of_sort is_int (cell_at b y))
+      (is_of_sort is_no_int (cell_at a x) && is_of_sort is_no_int (cell_at b y))
+      (and_from (is_of_sort is_no_int (cell_at a x)) (is_of_sort is_no_int (cell_at b y)) (has_cell_to is_no_int a x h)
+      (has_cell_to is_no_int b y k))
 
   -- the sorts of ids beside one another
   pub which_alike : (x y : ℕ) → Alike (x, y) → (HasCell is_int a x × HasCell is_int b y) ⊎ (HasCell is_no_int a x × HasCell is_no_int b y)
-  which_alike x y h = elim (or_cases (is_of_sort is_int (cell_at a x) && is_of_sort is_int (cell_at b y)) (is_of_sort is_no_int (cell_at a x) && is_of_sort is_no_int (cell_at b y)) h) [
-    | inl t ↦
-        let parts = and_parts (is_of_sort is_int (cell_at a x)) (is_of_sort is_int (cell_at b y)) t in
-        inl (has_cell_from is_int a x parts.0, has_cell_from is_int b y parts.1)
-    | inr t ↦
-        let parts = and_parts (is_of_sort is_no_int (cell_at a x)) (is_of_sort is_no_int (cell_at b y)) t in
-        inr (has_cell_from is_no_int a x parts.0, has_cell_from is_no_int b y parts.1)
-  ]
+  which_alike x y h = elim
+      (or_cases (is_of_sort is_int (cell_at a x) && is_of_sort is_int (cell_at b y))
+      (is_of_sort is_no_int (cell_at a x) && is_of_sort is_no_int (cell_at b y)) h) [
+        | inl t ↦
+            let parts = and_parts (is_of_sort is_int (cell_at a x)) (is_of_sort is_int (cell_at b y)) t in
+            inl (has_cell_from is_int a x parts.0, has_cell_from is_int b y parts.1)
+        | inr t ↦
+            let parts = and_parts (is_of_sort is_no_int (cell_at a x)) (is_of_sort is_no_int (cell_at b y)) t in
+            inr (has_cell_from is_no_int a x parts.0, has_cell_from is_no_int b y parts.1)
+      ]
 
   slot_alike : (s : Slot) (x y : ℕ) → IsOfSlot a s x → IsOfSlot b s y → Alike (x, y)
   slot_alike (slots.Num kind) x y h k = ints_alike x y h k
   slot_alike (slots.Ref t) x y h k = others_alike x y h k
 
-  slots_alike : (wanted : List Slot) (xs ys : List ℕ) → AllZip (IsOfSlot a) wanted xs → AllZip (IsOfSlot b) wanted ys → AllAlike (zip xs ys)
+  slots_alike : (wanted : List Slot) (xs ys : List ℕ) → AllZip (IsOfSlot a) wanted xs → AllZip (IsOfSlot b) wanted ys
+      → AllAlike (zip xs ys)
   slots_alike [] [] ys h k = tt
   slots_alike [] (x ∷ xs) ys h k = absurd h
   slots_alike (s ∷ wanted) [] ys h k = absurd h
@@ -134,18 +158,23 @@ module _ (a b : AbstractState) where
   locals_alike : (locals others : List (Option ℕ)) → AllAlike (local_pairs a b locals others)
   locals_alike [] others = tt
   locals_alike (x ∷ locals) [] = tt
-  locals_alike (x ∷ locals) (y ∷ others) = all_joined Alike (some_in (local_pair a b x y)) (local_pairs a b locals others) (local_alike x y) (locals_alike locals others)
+  locals_alike (x ∷ locals) (y ∷ others) = all_joined Alike (some_in (local_pair a b x y)) (local_pairs a b locals others)
+      (local_alike x y) (locals_alike locals others)
 
   frame_alike : (frame other : AbstractFrame) → AreFramesAlike a b frame other → AllAlike (frame_pairs a b frame other)
   frame_alike frame other h =
-      all_joined Alike (local_pairs a b frame.locals other.locals) (zip (reverse frame.stack) (reverse other.stack)) (locals_alike frame.locals other.locals)
-      (zip_alike (reverse frame.stack) (reverse other.stack) (all_reversed (λ x y. are_alike a b x y ≡ true) frame.stack other.stack h.stacks))
+      all_joined Alike (local_pairs a b frame.locals other.locals) (zip (reverse frame.stack) (reverse other.stack))
+      (locals_alike frame.locals other.locals)
+      (zip_alike (reverse frame.stack) (reverse other.stack)
+      (all_reversed (λ x y. are_alike a b x y ≡ true) frame.stack other.stack h.stacks))
 
-  frames_alike : (frames others : List AbstractFrame) → AllZip (AreFramesAlike a b) frames others → AllAlike (frames_pairs a b frames others)
+  frames_alike : (frames others : List AbstractFrame) → AllZip (AreFramesAlike a b) frames others
+      → AllAlike (frames_pairs a b frames others)
   frames_alike [] [] h = tt
   frames_alike [] (o ∷ others) h = absurd h
   frames_alike (f ∷ frames) [] h = absurd h
-  frames_alike (f ∷ frames) (o ∷ others) h = all_joined Alike (frame_pairs a b f o) (frames_pairs a b frames others) (frame_alike f o h.0) (frames_alike frames others h.1)
+  frames_alike (f ∷ frames) (o ∷ others) h = all_joined Alike (frame_pairs a b f o) (frames_pairs a b frames others)
+      (frame_alike f o h.0) (frames_alike frames others h.1)
 
   -- an object's id is no int's
   object_no_int : (cell : Cell) → is_object cell ≡ true → is_no_int cell ≡ true
@@ -156,7 +185,8 @@ module _ (a b : AbstractState) where
   object_no_int (Refs element len shape) e = refl
   object_no_int (Unk bound nullable shape) e = refl
 
-  thrown_alike : (x y : Option ℕ) → ((id : ℕ) → x ≡ Some id → HasCell is_object a id) → ((id : ℕ) → y ≡ Some id → HasCell is_object b id) → AllAlike (some_in (thrown_pair x y))
+  thrown_alike : (x y : Option ℕ) → ((id : ℕ) → x ≡ Some id → HasCell is_object a id)
+      → ((id : ℕ) → y ≡ Some id → HasCell is_object b id) → AllAlike (some_in (thrown_pair x y))
   thrown_alike None y h k = tt
   thrown_alike (Some x) None h k = tt
   thrown_alike (Some x) (Some y) h k =
@@ -176,13 +206,15 @@ module _ (a b : AbstractState) where
     row_alike Null q h k = null_pairs AllAlike tt (is_null q)
     row_alike (Obj class ids) q h k =
         row_pairs AllAlike tt (λ more. instances class ids more) (fields_in class q)
-        (λ more e. let second = subst (IsSoundCell types b) (field_cell class q more e) k in slots_alike (types.fields class) ids more h.1.1 second.1.1)
+        (λ more e. let second = subst (IsSoundCell types b) (field_cell class q more e) k in slots_alike (types.fields class) ids
+        more h.1.1 second.1.1)
     row_alike (Nums kind len) q h k =
         row_pairs AllAlike tt (λ more. numbers kind len more) (length_in kind q)
         (λ more e. let found = length_cell kind q more e in (ints_alike len more h (subst (IsSoundCell types b) found.1.0 k), tt))
     row_alike (Refs element len shape) q h k =
         row_pairs AllAlike tt (λ array. arrays element array.0 len array.1) (array_in q)
-        (λ array e. let found = array_cell q array e in let second = subst (IsSoundCell types b) found.1 k in (ints_alike len array.1 h.0 second.0, tt))
+        (λ array e. let found = array_cell q array e in let second = subst (IsSoundCell types b) found.1 k in
+        (ints_alike len array.1 h.0 second.0, tt))
     row_alike (Unk bound nullable shape) q h k = tt
 
     below_alike : (above : ℕ × ℕ) → AllAlike (pairs_below a b above)
@@ -244,7 +276,8 @@ module _ (a b : AbstractState) where
       all_paired_cells (p ∷ pairs) h = (paired_cells p h.0, all_paired_cells pairs h.1)
 
 -- the frames have as many locals and stacks of one depth
-pub all_as_long : (a b : AbstractState) (frames others : List AbstractFrame) → AllZip (AreFramesAlike a b) frames others → AllZip AreAsLong frames others
+pub all_as_long : (a b : AbstractState) (frames others : List AbstractFrame) → AllZip (AreFramesAlike a b) frames others
+    → AllZip AreAsLong frames others
 all_as_long a b [] [] h = tt
 all_as_long a b [] (o ∷ others) h = absurd h
 all_as_long a b (f ∷ frames) [] h = absurd h

@@ -1,5 +1,6 @@
 -- A visit's pairs are closed: those at the positions are among them, and what a pair of them names.
-use Rattle.std.proofs.Common.{◌≡◌, ◌⊎◌, ℕ, zero, suc, ◌+◌, ◌<◌, Bool, true, not, cond, List, [], ◌∷◌, ◌++◌, length, Some, refl, sym, ap, subst, ◌∙◌, inl, inr, arith}
+use Rattle.std.proofs.Common.{◌≡◌, ◌⊎◌, ℕ, zero, suc, ◌+◌, ◌<◌, Bool, true, not, cond, List, [], ◌∷◌, ◌++◌, length, Some, refl, sym}
+use Rattle.std.proofs.Common.{ap, subst, ◌∙◌, inl, inr, arith}
 use Rattle.std.specs.Prelude.{slice_get}
 use Rattle.std.specs.List.{AllByRecursion}
 use Rattle.std.proofs.lemmas.Bool.{or_left, or_right, or_cases, cases_Bool, false≢true}
@@ -68,7 +69,8 @@ among_at (x ∷ xs) zero p e = among_first p x xs (sym (some_is e))
 among_at (x ∷ xs) (suc n) p e = or_right (is_same p x) (is_among p xs) (among_at xs n p e)
 
 -- no pair stands at two places
-pub one_place : (pairs : List (ℕ × ℕ)) → AreDifferent pairs → (m n : ℕ) (p : ℕ × ℕ) → slice_get pairs m ≡ Some p → slice_get pairs n ≡ Some p → m ≡ n
+pub one_place : (pairs : List (ℕ × ℕ)) → AreDifferent pairs → (m n : ℕ) (p : ℕ × ℕ) → slice_get pairs m ≡ Some p
+    → slice_get pairs n ≡ Some p → m ≡ n
 one_place [] h m n p e f = absurd (none-some p e)
 one_place (x ∷ xs) h zero zero p e f = refl
 one_place (x ∷ xs) h zero (suc n) p e f = absurd (false≢true (sym h.0 ∙ ap (λ (q : ℕ × ℕ). is_among q xs) (some_is e) ∙ among_at xs n p f))
@@ -81,7 +83,8 @@ module _ (a b : AbstractState) where
   kept_met : (met todo all : List (ℕ × ℕ)) → Visits a b met todo all → (p : ℕ × ℕ) → is_among p met ≡ true → is_among p all ≡ true
   kept_met met todo all (ends m) p h = h
   kept_met met todo all (again m rest l pair k v) p h = kept_met m rest all v p h
-  kept_met met todo all (first m rest l pair k v) p h = kept_met (m ++ pair ∷ []) (pairs_below a b pair ++ rest) all v p (among_front p m (pair ∷ []) h)
+  kept_met met todo all (first m rest l pair k v) p h = kept_met (m ++ pair ∷ []) (pairs_below a b pair ++ rest) all v p
+      (among_front p m (pair ∷ []) h)
 
   todo_met : (met todo all : List (ℕ × ℕ)) → Visits a b met todo all → (p : ℕ × ℕ) → is_among p todo ≡ true → is_among p all ≡ true
   todo_met met todo all (ends m) p h = absurd (false≢true h)
@@ -96,9 +99,11 @@ module _ (a b : AbstractState) where
 
   -- what a met pair names was met or is still to be visited
   abbrev IsClosedWith : List (ℕ × ℕ) → List (ℕ × ℕ) → Type 0
-  IsClosedWith met todo = (q r : ℕ × ℕ) → is_among q met ≡ true → is_among r (pairs_below a b q) ≡ true → (is_among r met ≡ true) ⊎ (is_among r todo ≡ true)
+  IsClosedWith met todo = (q r : ℕ × ℕ) → is_among q met ≡ true → is_among r (pairs_below a b q) ≡ true
+      → (is_among r met ≡ true) ⊎ (is_among r todo ≡ true)
 
-  closed_again : (met rest : List (ℕ × ℕ)) (pair : ℕ × ℕ) → is_among pair met ≡ true → IsClosedWith met (pair ∷ rest) → IsClosedWith met rest
+  closed_again : (met rest : List (ℕ × ℕ)) (pair : ℕ × ℕ) → is_among pair met ≡ true → IsClosedWith met (pair ∷ rest)
+      → IsClosedWith met rest
   closed_again met rest pair k closed q r h n = elim (closed q r h n) [
     | inl t ↦ inl t
     | inr t ↦ elim (among_cons r pair rest t) [
@@ -107,7 +112,8 @@ module _ (a b : AbstractState) where
     ]
   ]
 
-  closed_first : (met rest : List (ℕ × ℕ)) (pair : ℕ × ℕ) → IsClosedWith met (pair ∷ rest) → IsClosedWith (met ++ pair ∷ []) (pairs_below a b pair ++ rest)
+  closed_first : (met rest : List (ℕ × ℕ)) (pair : ℕ × ℕ) → IsClosedWith met (pair ∷ rest)
+      → IsClosedWith (met ++ pair ∷ []) (pairs_below a b pair ++ rest)
   closed_first met rest pair closed q r h n = elim (among_either q met (pair ∷ []) h) [
     | inl t ↦ elim (closed q r t n) [
       | inl u ↦ inl (among_front r met (pair ∷ []) u)
@@ -122,17 +128,21 @@ module _ (a b : AbstractState) where
     ]
   ]
 
-  closed_all : (met todo all : List (ℕ × ℕ)) → Visits a b met todo all → IsClosedWith met todo → (q r : ℕ × ℕ) → is_among q all ≡ true → is_among r (pairs_below a b q) ≡ true → is_among r all ≡ true
+  closed_all : (met todo all : List (ℕ × ℕ)) → Visits a b met todo all → IsClosedWith met todo → (q r : ℕ × ℕ)
+      → is_among q all ≡ true → is_among r (pairs_below a b q) ≡ true → is_among r all ≡ true
   closed_all met todo all (ends m) closed q r h n = elim (closed q r h n) [
     | inl t ↦ t
     | inr t ↦ absurd (false≢true t)
   ]
   closed_all met todo all (again m rest l pair k v) closed q r h n = closed_all m rest all v (closed_again m rest pair k closed) q r h n
-  closed_all met todo all (first m rest l pair k v) closed q r h n = closed_all (m ++ pair ∷ []) (pairs_below a b pair ++ rest) all v (closed_first m rest pair closed) q r h n
+  closed_all met todo all (first m rest l pair k v) closed q r h n = closed_all (m ++ pair ∷ []) (pairs_below a b pair ++ rest) all
+      v (closed_first m rest pair closed) q r h n
 
-  all_paired : (met todo all : List (ℕ × ℕ)) → Visits a b met todo all → ((q : ℕ × ℕ) → is_among q met ≡ true → IsPaired a b q) → ((q : ℕ × ℕ) → is_among q todo ≡ true → IsPaired a b q) → (p : ℕ × ℕ) → is_among p all ≡ true → IsPaired a b p
+  all_paired : (met todo all : List (ℕ × ℕ)) → Visits a b met todo all → ((q : ℕ × ℕ) → is_among q met ≡ true → IsPaired a b q)
+      → ((q : ℕ × ℕ) → is_among q todo ≡ true → IsPaired a b q) → (p : ℕ × ℕ) → is_among p all ≡ true → IsPaired a b p
   all_paired met todo all (ends m) h k p e = h p e
-  all_paired met todo all (again m rest l pair j v) h k p e = all_paired m rest all v h (λ q t. k q (or_right (is_same q pair) (is_among q rest) t)) p e
+  all_paired met todo all (again m rest l pair j v) h k p e = all_paired m rest all v h
+      (λ q t. k q (or_right (is_same q pair) (is_among q rest) t)) p e
   all_paired met todo all (first m rest l pair j v) h k p e =
       let here : IsPaired a b pair = k pair (among_first pair pair rest refl) in
       all_paired (m ++ pair ∷ []) (pairs_below a b pair ++ rest) all v
@@ -152,7 +162,8 @@ module _ (a b : AbstractState) where
   all_different : (met todo all : List (ℕ × ℕ)) → Visits a b met todo all → AreDifferent met → AreDifferent all
   all_different met todo all (ends m) h = h
   all_different met todo all (again m rest l pair j v) h = all_different m rest all v h
-  all_different met todo all (first m rest l pair j v) h = all_different (m ++ pair ∷ []) (pairs_below a b pair ++ rest) all v (different_more m pair h j)
+  all_different met todo all (first m rest l pair j v) h = all_different (m ++ pair ∷ []) (pairs_below a b pair ++ rest) all v
+      (different_more m pair h j)
 
   module _ (pairs : List (ℕ × ℕ)) (are : ArePairs a b pairs) where
     pub positions_among : (p : ℕ × ℕ) → is_among p (position_pairs a b) ≡ true → is_among p pairs ≡ true

@@ -48,7 +48,8 @@ no_more (x ∷ xs) ys h k =
     let rest : length xs ≤ length (without_pair x ys) = no_more xs (without_pair x ys) h.1 (all_without x xs ys h.0 k.1) in
     omega (arith, one, rest)
 
-all_in : (a b : AbstractState) (ys xs : List (ℕ × ℕ)) → ((p : ℕ × ℕ) → IsPaired a b p → is_among p ys ≡ true) → AllByRecursion (IsPaired a b) xs → AreIn ys xs
+all_in : (a b : AbstractState) (ys xs : List (ℕ × ℕ)) → ((p : ℕ × ℕ) → IsPaired a b p → is_among p ys ≡ true)
+    → AllByRecursion (IsPaired a b) xs → AreIn ys xs
 all_in a b ys [] f h = tt
 all_in a b ys (x ∷ xs) f h = (f x h.0, all_in a b ys xs f h.1)
 
@@ -56,5 +57,6 @@ pub few : WideningsAreFew
 few types a b result w many =
     let low : length w.pairs ≤ 512 = w.few in
     let high : 512 < length many.pairs = many.many in
-    let at_most : length many.pairs ≤ length w.pairs = no_more many.pairs w.pairs many.differ (all_in a b w.pairs many.pairs (paired_among a b w.pairs w.are_pairs) many.paired) in
+    let at_most : length many.pairs ≤ length w.pairs = no_more many.pairs w.pairs many.differ
+    (all_in a b w.pairs many.pairs (paired_among a b w.pairs w.are_pairs) many.paired) in
     absurd (omega (arith, low, high, at_most))

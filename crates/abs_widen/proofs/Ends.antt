@@ -18,16 +18,26 @@ choose_high false x y n h k = k
 
 below_low : (n : ℤ) → negsuc 2147483647 ≤ℤ n → bound_below n ≤ℤ n
 below_low n l =
-    choose_low (int_le (pos 2147483647) n) (pos 2147483647) (if int_le (pos 2147483646) n then pos 2147483646 else if int_le (pos 0) n then pos 0 else if int_le (negsuc 2147483646) n then negsuc 2147483646 else negsuc 2147483647) n (int_le_true (pos 2147483647) n)
-    (choose_low (int_le (pos 2147483646) n) (pos 2147483646) (if int_le (pos 0) n then pos 0 else if int_le (negsuc 2147483646) n then negsuc 2147483646 else negsuc 2147483647) n (int_le_true (pos 2147483646) n)
-    (choose_low (int_le (pos 0) n) (pos 0) (if int_le (negsuc 2147483646) n then negsuc 2147483646 else negsuc 2147483647) n (int_le_true (pos 0) n)
+    choose_low (int_le (pos 2147483647) n) (pos 2147483647)
+    (if int_le (pos 2147483646) n then pos 2147483646 else if int_le (pos 0) n then pos 0 else if int_le (negsuc 2147483646) n
+    then negsuc 2147483646 else negsuc 2147483647) n (int_le_true (pos 2147483647) n)
+    (choose_low (int_le (pos 2147483646) n) (pos 2147483646)
+    (if int_le (pos 0) n then pos 0 else if int_le (negsuc 2147483646) n then negsuc 2147483646 else negsuc 2147483647) n
+    (int_le_true (pos 2147483646) n)
+    (choose_low (int_le (pos 0) n) (pos 0) (if int_le (negsuc 2147483646) n then negsuc 2147483646 else negsuc 2147483647) n
+    (int_le_true (pos 0) n)
     (choose_low (int_le (negsuc 2147483646) n) (negsuc 2147483646) (negsuc 2147483647) n (int_le_true (negsuc 2147483646) n) l)))
 
 above_high : (n : ℤ) → n ≤ℤ pos 2147483647 → n ≤ℤ bound_above n
 above_high n l =
-    choose_high (int_le n (negsuc 2147483647)) (negsuc 2147483647) (if int_le n (negsuc 2147483646) then negsuc 2147483646 else if int_le n (pos 0) then pos 0 else if int_le n (pos 2147483646) then pos 2147483646 else pos 2147483647) n (int_le_true n (negsuc 2147483647))
-    (choose_high (int_le n (negsuc 2147483646)) (negsuc 2147483646) (if int_le n (pos 0) then pos 0 else if int_le n (pos 2147483646) then pos 2147483646 else pos 2147483647) n (int_le_true n (negsuc 2147483646))
-    (choose_high (int_le n (pos 0)) (pos 0) (if int_le n (pos 2147483646) then pos 2147483646 else pos 2147483647) n (int_le_true n (pos 0))
+    choose_high (int_le n (negsuc 2147483647)) (negsuc 2147483647)
+    (if int_le n (negsuc 2147483646) then negsuc 2147483646 else if int_le n (pos 0) then pos 0 else if int_le n
+    (pos 2147483646) then pos 2147483646 else pos 2147483647) n (int_le_true n (negsuc 2147483647))
+    (choose_high (int_le n (negsuc 2147483646)) (negsuc 2147483646)
+    (if int_le n (pos 0) then pos 0 else if int_le n (pos 2147483646) then pos 2147483646 else pos 2147483647) n
+    (int_le_true n (negsuc 2147483646))
+    (choose_high (int_le n (pos 0)) (pos 0) (if int_le n (pos 2147483646) then pos 2147483646 else pos 2147483647) n
+    (int_le_true n (pos 0))
     (choose_high (int_le n (pos 2147483646)) (pos 2147483646) (pos 2147483647) n (int_le_true n (pos 2147483646)) l)))
 
 -- a widened bound is past both

@@ -15,7 +15,8 @@ same_ordered i j m n l k e =
 
 same_pair : (i j m n : ℕ) → i ≡ m → j ≡ n → is_same (pair_of i j) (pair_of m n) ≡ true
 same_pair i j m n e f =
-    and_from (min i j == min m n) (max i j == max m n) (eq-eqb (min i j) (min m n) (omega (arith, e, f))) (eq-eqb (max i j) (max m n) (omega (arith, e, f)))
+    and_from (min i j == min m n) (max i j == max m n) (eq-eqb (min i j) (min m n) (omega (arith, e, f)))
+    (eq-eqb (max i j) (max m n) (omega (arith, e, f)))
 
 module _ (wants : ℕ → ℕ → Type 0) where
   past_more : (n m i j : ℕ) → IsPast n m i j → IsPast n (m + 1) i j
@@ -60,7 +61,8 @@ module _ (wants : ℕ → ℕ → Type 0) where
     ],
   )
 
-  pub joined_more : (n m : ℕ) (old new : List (ℕ × ℕ)) → m < n → IsPut wants m n old new → AreJoinedTo wants n m old → AreJoinedTo wants n (m + 1) new
+  pub joined_more : (n m : ℕ) (old new : List (ℕ × ℕ)) → m < n → IsPut wants m n old new → AreJoinedTo wants n m old
+      → AreJoinedTo wants n (m + 1) new
   joined_more n m old new l (inl put) to = subst (AreJoinedTo wants n (m + 1)) (sym put.1) (joined_put n m old l put.0 to)
   joined_more n m old new l (inr put) to = subst (AreJoinedTo wants n (m + 1)) (sym put.1) (joined_not n m old put.0 to)
 
@@ -96,7 +98,8 @@ module _ (wants : ℕ → ℕ → Type 0) where
   )
 
   -- a row in which nothing is wanted
-  pub joined_skip : (n : ℕ) (list : List (ℕ × ℕ)) → ((i : ℕ) → wants i n → ⊥) → AreJoinedTo wants n 0 list → AreJoinedTo wants (n + 1) 0 list
+  pub joined_skip : (n : ℕ) (list : List (ℕ × ℕ)) → ((i : ℕ) → wants i n → ⊥) → AreJoinedTo wants n 0 list
+      → AreJoinedTo wants (n + 1) 0 list
   joined_skip n list none to i j k = (
     λ h. let before = (to i j k).0 h in (
       (elim before.0 [
@@ -118,7 +121,8 @@ module _ (wants : ℕ → ℕ → Type 0) where
   )
 
   -- all rows are
-  pub joined_all : (n : ℕ) (list : List (ℕ × ℕ)) → ((i j : ℕ) → wants i j → j < n) → IsRising list → AreJoinedTo wants n 0 list → AreJoined wants list
+  pub joined_all : (n : ℕ) (list : List (ℕ × ℕ)) → ((i j : ℕ) → wants i j → j < n) → IsRising list → AreJoinedTo wants n 0 list
+      → AreJoined wants list
   joined_all n list below rising to = record {
     each = λ i j k. (λ h. ((to i j k).0 h).1, λ w. (to i j k).1 (inl (below i j w), w));
     rising = rising;

@@ -1,5 +1,6 @@
 -- What is left in a widening: the cells of ids that positions reach, with the ids that they name.
-use Rattle.std.proofs.Common.{◌≡◌, ℕ, zero, suc, ◌==◌, eqb, Bool, true, false, cond, List, [], ◌∷◌, ◌++◌, All, map, reverse, get_or, Option, Some, None, refl, sym, ap, subst, ◌∙◌, inl, inr, append_assoc}
+use Rattle.std.proofs.Common.{◌≡◌, ℕ, zero, suc, ◌==◌, eqb, Bool, true, false, cond, List, [], ◌∷◌, ◌++◌, All, map, reverse, get_or}
+use Rattle.std.proofs.Common.{Option, Some, None, refl, sym, ap, subst, ◌∙◌, inl, inr, append_assoc}
 use Rattle.std.specs.Prelude.{slice_get}
 use Rattle.std.specs.List.{AllZip, list_any, flat_map}
 use Rattle.std.specs.Option.{option_and_then}
@@ -31,44 +32,52 @@ use Rattle.abs_widen.proofs.Whole.{at_number, pair_at, numbered, merged_is_good}
 
 -- ---- maps over cells
 
-pub image_mapped : (f : ℕ → ℕ) (cells : List (ℕ × Cell)) (n : ℕ) (c : Cell) → cell_in cells n ≡ Some c → image_in (map (λ (x : ℕ × Cell). (x.0, f x.0)) cells) n ≡ Some (f n)
+pub image_mapped : (f : ℕ → ℕ) (cells : List (ℕ × Cell)) (n : ℕ) (c : Cell) → cell_in cells n ≡ Some c
+    → image_in (map (λ (x : ℕ × Cell). (x.0, f x.0)) cells) n ≡ Some (f n)
 image_mapped f [] n c e = absurd (none-some c e)
 image_mapped f (x ∷ cells) n c e = elim (cases_eq x.0 n) [
-  | inl same ↦ ap (λ (t : Bool). cond t (Some (f x.0)) (image_in (map (λ (y : ℕ × Cell). (y.0, f y.0)) cells) n)) (eq-eqb x.0 n same) ∙ ap (λ (k : ℕ). Some (f k)) same
+  | inl same ↦ ap (λ (t : Bool). cond t (Some (f x.0)) (image_in (map (λ (y : ℕ × Cell). (y.0, f y.0)) cells) n))
+      (eq-eqb x.0 n same) ∙ ap (λ (k : ℕ). Some (f k)) same
   | inr differ ↦
       let apart : eqb x.0 n ≡ false = ne_eqb x.0 n differ in
       ap (λ (t : Bool). cond t (Some (f x.0)) (image_in (map (λ (y : ℕ × Cell). (y.0, f y.0)) cells) n)) apart
       ∙ image_mapped f cells n c (sym (ap (λ (t : Bool). cond t (Some x.1) (cell_in cells n)) apart) ∙ e)
 ]
 
-pub mapped_image : (f : ℕ → ℕ) (cells : List (ℕ × Cell)) (n image : ℕ) → image_in (map (λ (x : ℕ × Cell). (x.0, f x.0)) cells) n ≡ Some image → (c : Cell) × ((cell_in cells n ≡ Some c) × (image ≡ f n))
+pub mapped_image : (f : ℕ → ℕ) (cells : List (ℕ × Cell)) (n image : ℕ)
+    → image_in (map (λ (x : ℕ × Cell). (x.0, f x.0)) cells) n ≡ Some image → (c : Cell) × ((cell_in cells n ≡ Some c) × (image ≡ f n))
 mapped_image f [] n image e = absurd (none-some image e)
 mapped_image f (x ∷ cells) n image e = elim (cases_eq x.0 n) [
   | inl same ↦
       let t : eqb x.0 n ≡ true = eq-eqb x.0 n same in
-      let is : f x.0 ≡ image = some_is (sym (ap (λ (b : Bool). cond b (Some (f x.0)) (image_in (map (λ (y : ℕ × Cell). (y.0, f y.0)) cells) n)) t) ∙ e) in
+      let is : f x.0 ≡ image = some_is
+      (sym (ap (λ (b : Bool). cond b (Some (f x.0)) (image_in (map (λ (y : ℕ × Cell). (y.0, f y.0)) cells) n)) t) ∙ e) in
       (x.1, (ap (λ (b : Bool). cond b (Some x.1) (cell_in cells n)) t, sym is ∙ ap f same))
   | inr differ ↦
       let t : eqb x.0 n ≡ false = ne_eqb x.0 n differ in
-      let rest = mapped_image f cells n image (sym (ap (λ (b : Bool). cond b (Some (f x.0)) (image_in (map (λ (y : ℕ × Cell). (y.0, f y.0)) cells) n)) t) ∙ e) in
+      let rest = mapped_image f cells n image
+      (sym (ap (λ (b : Bool). cond b (Some (f x.0)) (image_in (map (λ (y : ℕ × Cell). (y.0, f y.0)) cells) n)) t) ∙ e) in
       (rest.0, (ap (λ (b : Bool). cond b (Some x.1) (cell_in cells n)) t ∙ rest.1.0, rest.1.1))
 ]
 
-pub same_ids : (f : ℕ → ℕ) (cells : List (ℕ × Cell)) → map (λ (entry : ℕ × ℕ). entry.0) (map (λ (x : ℕ × Cell). (x.0, f x.0)) cells) ≡ map (λ (c : ℕ × Cell). c.0) cells
+pub same_ids : (f : ℕ → ℕ) (cells : List (ℕ × Cell))
+    → map (λ (entry : ℕ × ℕ). entry.0) (map (λ (x : ℕ × Cell). (x.0, f x.0)) cells) ≡ map (λ (c : ℕ × Cell). c.0) cells
 same_ids f [] = refl
 same_ids f (x ∷ cells) = ap (λ (rest : List ℕ). x.0 ∷ rest) (same_ids f cells)
 
 -- ---- ids at positions
 
 module _ (state : AbstractState) where
-  in_given : (locals : List (Option ℕ)) (n id : ℕ) → slice_get locals n ≡ Some (Some id) → list_any (λ x. x == id) (given_ids locals) ≡ true
+  in_given : (locals : List (Option ℕ)) (n id : ℕ) → slice_get locals n ≡ Some (Some id)
+      → list_any (λ x. x == id) (given_ids locals) ≡ true
   in_given [] n id e = absurd (none-some (Some id) e)
   in_given (None ∷ locals) zero id e = absurd (none-some id (some_is e))
   in_given (Some x ∷ locals) zero id e = or_left (x == id) (list_any (λ y. y == id) (given_ids locals)) (eq-eqb x id (some_is (some_is e)))
   in_given (None ∷ locals) (suc n) id e = in_given locals n id e
   in_given (Some x ∷ locals) (suc n) id e = or_right (x == id) (list_any (λ y. y == id) (given_ids locals)) (in_given locals n id e)
 
-  in_frame : (f : ℕ) (frame : AbstractFrame) (id : ℕ) → frame_at state f ≡ Some frame → list_any (λ x. x == id) (ids_of_frame frame) ≡ true → list_any (λ x. x == id) (positions state) ≡ true
+  in_frame : (f : ℕ) (frame : AbstractFrame) (id : ℕ) → frame_at state f ≡ Some frame
+      → list_any (λ x. x == id) (ids_of_frame frame) ≡ true → list_any (λ x. x == id) (positions state) ≡ true
   in_frame f frame id e h =
       list_any-append (λ (x : ℕ). x == id) (flat_map ids_of_frame state.frames) (given_ids (state.throwing ∷ []))
       ∙ or_left (list_any (λ x. x == id) (flat_map ids_of_frame state.frames)) (list_any (λ x. x == id) (given_ids (state.throwing ∷ [])))
@@ -78,18 +87,21 @@ module _ (state : AbstractState) where
 
   pub in_places : (place : Place) (id : ℕ) → id_at state place ≡ Some id → list_any (λ x. x == id) (positions state) ≡ true
   in_places (local f n) id e =
-      let frame = then_some (λ (g : AbstractFrame). option_and_then (λ (x : Option ℕ). x) (slice_get g.locals n)) (frame_at state f) id e in
+      let frame = then_some (λ (g : AbstractFrame). option_and_then (λ (x : Option ℕ). x) (slice_get g.locals n)) (frame_at state f)
+      id e in
       let found = then_some (λ (x : Option ℕ). x) (slice_get frame.0.locals n) id frame.1.1 in
       let stands : slice_get frame.0.locals n ≡ Some (Some id) = found.1.0 ∙ ap Some found.1.1 in
       in_frame f frame.0 id frame.1.0
       (list_any-append (λ (x : ℕ). x == id) (given_ids frame.0.locals) frame.0.stack
-      ∙ or_left (list_any (λ x. x == id) (given_ids frame.0.locals)) (list_any (λ x. x == id) frame.0.stack) (in_given frame.0.locals n id stands))
+      ∙ or_left (list_any (λ x. x == id) (given_ids frame.0.locals)) (list_any (λ x. x == id) frame.0.stack)
+      (in_given frame.0.locals n id stands))
   in_places (entry f n) id e =
       let frame = then_some (λ (g : AbstractFrame). slice_get (reverse g.stack) n) (frame_at state f) id e in
       in_frame f frame.0 id frame.1.0
       (list_any-append (λ (x : ℕ). x == id) (given_ids frame.0.locals) frame.0.stack
       ∙ or_right (list_any (λ x. x == id) (given_ids frame.0.locals)) (list_any (λ x. x == id) frame.0.stack)
-      (sym (any_reversed (λ (x : ℕ). x == id) frame.0.stack) ∙ any_passes_from_place (λ (x : ℕ). x == id) (reverse frame.0.stack) n id frame.1.1 (eq-eqb id id refl)))
+      (sym (any_reversed (λ (x : ℕ). x == id) frame.0.stack) ∙ any_passes_from_place (λ (x : ℕ). x == id) (reverse frame.0.stack) n
+      id frame.1.1 (eq-eqb id id refl)))
 
   pub in_thrown : (id : ℕ) → state.throwing ≡ Some id → list_any (λ x. x == id) (positions state) ≡ true
   in_thrown id e =
@@ -101,10 +113,14 @@ module _ (state : AbstractState) where
   module _ (good : IsWellFormed state) where
     positions_there : All (HasCell (λ _. true) state) (positions state)
     positions_there =
-        every_front (HasCell (λ _. true) state) (flat_map ids_of_frame state.frames ++ given_ids (state.throwing ∷ [])) (flat_map (λ c. ids_in c.1) state.cells)
-        (subst (λ (xs : List ℕ). All (HasCell (λ _. true) state) xs) (sym (append_assoc (flat_map ids_of_frame state.frames) (given_ids (state.throwing ∷ [])) (flat_map (λ c. ids_in c.1) state.cells))) good.used)
+        every_front (HasCell (λ _. true) state) (flat_map ids_of_frame state.frames ++ given_ids (state.throwing ∷ []))
+        (flat_map (λ c. ids_in c.1) state.cells)
+        (subst (λ (xs : List ℕ). All (HasCell (λ _. true) state) xs)
+        (sym (append_assoc (flat_map ids_of_frame state.frames) (given_ids (state.throwing ∷ []))
+        (flat_map (λ c. ids_in c.1) state.cells))) good.used)
 
-    path_there : (path : List ℕ) (x y : ℕ) → HasCell (λ _. true) state x → follow (named_steps state) path x ≡ Some y → HasCell (λ _. true) state y
+    path_there : (path : List ℕ) (x y : ℕ) → HasCell (λ _. true) state x → follow (named_steps state) path x ≡ Some y
+        → HasCell (λ _. true) state y
     path_there [] x y h e = subst (HasCell (λ _. true) state) (some_is e) h
     path_there (i ∷ path) x y h e =
         let step = then_some (follow (named_steps state) path) (named_steps state x i) y e in
@@ -112,14 +128,18 @@ module _ (state : AbstractState) where
         path_there path step.0 y (named_has_cell state good x i step.0 cell.0 cell.1.0 cell.1.1) step.1.1
 
     pub reached_has : (id : ℕ) → IsReached state id → HasCell (λ _. true) state id
-    reached_has id r = path_there r.reaches.path r.start id (all_at (HasCell (λ _. true) state) (positions state) r.place r.start positions_there r.stands) r.reaches.leads
+    reached_has id r = path_there r.reaches.path r.start id
+        (all_at (HasCell (λ _. true) state) (positions state) r.place r.start positions_there r.stands) r.reaches.leads
 
-  pub named_reached : (x i y : ℕ) (c : Cell) → IsReached state x → cell_at state x ≡ Some c → slice_get (ids_in c) i ≡ Some y → IsReached state y
+  pub named_reached : (x i y : ℕ) (c : Cell) → IsReached state x → cell_at state x ≡ Some c → slice_get (ids_in c) i ≡ Some y
+      → IsReached state y
   named_reached x i y c r e f = record {
     place = r.place;
     start = r.start;
     stands = r.stands;
-    reaches = onward (named_steps state) r.start x y r.reaches (one_more (named_steps state) x i y y (ap (option_and_then (λ (d : Cell). slice_get (ids_in d) i)) e ∙ f) (here (named_steps state) y y refl));
+    reaches = onward (named_steps state) r.start x y r.reaches
+        (one_more (named_steps state) x i y y (ap (option_and_then (λ (d : Cell). slice_get (ids_in d) i)) e ∙ f)
+        (here (named_steps state) y y refl));
   }
 
   pub position_reached : (id : ℕ) → list_any (λ x. x == id) (positions state) ≡ true → IsReached state id
@@ -130,7 +150,8 @@ module _ (state : AbstractState) where
 -- ---- the widening
 
 -- an id of the widening: its pair, and the ids that its cell names
-pub record IsLeft (types : WorldTypes) (a b : AbstractState) (pairs : List (ℕ × ℕ)) (result : AbstractState) (n : ℕ) (c : Cell) : Type 0 where
+pub record IsLeft (types : WorldTypes) (a b : AbstractState) (pairs : List (ℕ × ℕ)) (result : AbstractState) (n : ℕ)
+    (c : Cell) : Type 0 where
   pub pair : ℕ × ℕ
   pub pair_is : slice_get pairs n ≡ Some pair
   pub made : IsMergedCell types a b pairs pair c
@@ -155,7 +176,8 @@ module _ (types : WorldTypes) (a b result : AbstractState) (alike : AreAlike a b
   left n c e =
       let r : IsReached merged n = w.is.dropped.gone n (record { cell = c; is = e; sort_is = refl }) in
       let is : cell_at merged n ≡ Some c = sym (w.is.dropped.kept n r) ∙ e in
-      let stands : slice_get merged.cells n ≡ Some (n, c) = at_number w.pairs merged.cells (numbered types a b w.pairs merged w.are_pairs w.few long w.is.is_merged) n c is in
+      let stands : slice_get merged.cells n ≡ Some (n, c) = at_number w.pairs merged.cells
+      (numbered types a b w.pairs merged w.are_pairs w.few long w.is.is_merged) n c is in
       let pair = pair_at types a b w.pairs merged w.are_pairs w.few long w.is.is_merged n (n, c) stands in
       record {
         pair = pair.0;
@@ -184,7 +206,8 @@ module _ (types : WorldTypes) (a b result : AbstractState) (alike : AreAlike a b
     abbrev pub entries : List (ℕ × ℕ)
     entries = map (λ (x : ℕ × Cell). (x.0, pick (get_or w.pairs x.0 (0, 0)))) result.cells
 
-    pub image_at : (n : ℕ) (pair : ℕ × ℕ) → HasCell (λ _. true) result n → slice_get w.pairs n ≡ Some pair → image_in entries n ≡ Some (pick pair)
+    pub image_at : (n : ℕ) (pair : ℕ × ℕ) → HasCell (λ _. true) result n → slice_get w.pairs n ≡ Some pair
+        → image_in entries n ≡ Some (pick pair)
     image_at n pair h e =
         image_mapped (λ (k : ℕ). pick (get_or w.pairs k (0, 0))) result.cells n h.cell h.is
         ∙ ap (λ (p : ℕ × ℕ). Some (pick p)) (get_or_from_slice_get w.pairs n pair (0, 0) e)
@@ -204,10 +227,12 @@ module _ (types : WorldTypes) (a b result : AbstractState) (alike : AreAlike a b
 
 -- ---- the cells of a pair
 
-module _ (types : WorldTypes) (a b result : AbstractState) (first : IsSound types a) (second : IsSound types b) (alike : AreAlike a b) (w : IsWidening types a b result) where
+module _ (types : WorldTypes) (a b result : AbstractState) (first : IsSound types a) (second : IsSound types b)
+    (alike : AreAlike a b) (w : IsWidening types a b result) where
   pub cells_of : (n : ℕ) (c : Cell) (l : IsLeft types a b w.pairs result n c) → AreCellsOf types a b l.pair l.made.p l.made.q
   cells_of n c l =
-      let is = paired_cells a b types first second alike l.pair (among_paired a b w.pairs w.are_pairs l.pair (among_at w.pairs n l.pair l.pair_is)) in
+      let is = paired_cells a b types first second alike l.pair
+      (among_paired a b w.pairs w.are_pairs l.pair (among_at w.pairs n l.pair l.pair_is)) in
       let same_first : is.p ≡ l.made.p = some_is (sym is.of.first ∙ l.made.first) in
       let same_second : is.q ≡ l.made.q = some_is (sym is.of.second ∙ l.made.second) in
       record {
@@ -218,5 +243,7 @@ module _ (types : WorldTypes) (a b result : AbstractState) (first : IsSound type
         alike = ap is_int (sym same_first) ∙ is.of.alike ∙ ap is_int same_second;
       }
 
-  pub closed_at : (n : ℕ) (c : Cell) (l : IsLeft types a b w.pairs result n c) (r : ℕ × ℕ) → is_among r (pairs_of l.made.row) ≡ true → is_among r w.pairs ≡ true
-  closed_at n c l r h = below_among a b w.pairs w.are_pairs l.pair r (among_at w.pairs n l.pair l.pair_is) (ap (λ (o : Option Row). is_among r (pairs_in o)) l.made.row_is ∙ h)
+  pub closed_at : (n : ℕ) (c : Cell) (l : IsLeft types a b w.pairs result n c) (r : ℕ × ℕ) → is_among r (pairs_of l.made.row) ≡ true
+      → is_among r w.pairs ≡ true
+  closed_at n c l r h = below_among a b w.pairs w.are_pairs l.pair r (among_at w.pairs n l.pair l.pair_is)
+      (ap (λ (o : Option Row). is_among r (pairs_in o)) l.made.row_is ∙ h)

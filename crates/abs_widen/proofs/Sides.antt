@@ -28,7 +28,8 @@ field_cell class (Unk bound nullable shape) more e = absurd (none-some more e)
 
 module _ (types : WorldTypes) (a b : AbstractState) (pair : ℕ × ℕ) (p q : Cell) (of : AreCellsOf types a b pair p q) where
   -- two instances of one class have as many fields
-  pub fields_long : (class : ℕ) (ids : List ℕ) → p ≡ Obj class ids → (more : List ℕ) → fields_in class q ≡ Some more → length ids ≡ length more
+  pub fields_long : (class : ℕ) (ids : List ℕ) → p ≡ Obj class ids → (more : List ℕ) → fields_in class q ≡ Some more
+      → length ids ≡ length more
   fields_long class ids e more f =
       let first = subst (IsSoundCell types a) e of.first_sound in
       let second = subst (IsSoundCell types b) (field_cell class q more f) of.second_sound in

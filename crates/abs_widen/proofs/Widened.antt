@@ -1,5 +1,6 @@
 -- What is left of the state of all pairs, without the ids that nothing reaches, is a widening.
-use Rattle.std.proofs.Common.{◌≡◌, ◌≢◌, ◌⊎◌, ℕ, ◌<◌, ◌≤◌, Bool, true, false, not, ◌&&◌, List, [], ◌∷◌, length, reverse, Option, Some, refl, sym, ap, subst, ◌∙◌, inl, inr, arith}
+use Rattle.std.proofs.Common.{◌≡◌, ◌≢◌, ◌⊎◌, ℕ, ◌<◌, ◌≤◌, Bool, true, false, not, ◌&&◌, List, [], ◌∷◌, length, reverse, Option}
+use Rattle.std.proofs.Common.{Some, refl, sym, ap, subst, ◌∙◌, inl, inr, arith}
 use Rattle.std.specs.Prelude.{◌↔◌, slice_get}
 use Rattle.std.specs.List.{AllByRecursion}
 use Rattle.std.specs.Option.{option_map}
@@ -18,8 +19,10 @@ use Rattle.abs_reach.specs.Reached.{IsDropped}
 use Rattle.abs_reach.specs.Instances.{MayBeOne}
 use Rattle.abs_widen.specs.Visits.{thrown_pair, ArePairs}
 use Rattle.abs_widen.specs.Visiting.{ArePairCells}
-use Rattle.abs_widen.specs.Widening.{number_of, merged_frames, AreMergedCells, MayJoin, OnOneSide, MustShare, without_pairs, IsMerged, IsWidening}
-use Rattle.abs_widen.specs.Pairing.{may_join_cells, IsPairedBy, IsPairedAs, AreOne, MayJoinAt, WantsOne, WantsShare, IsWithin, AreJoined, IsPaired}
+use Rattle.abs_widen.specs.Widening.{number_of, merged_frames, AreMergedCells, MayJoin, OnOneSide, MustShare, without_pairs}
+use Rattle.abs_widen.specs.Widening.{IsMerged, IsWidening}
+use Rattle.abs_widen.specs.Pairing.{may_join_cells, IsPairedBy, IsPairedAs, AreOne, MayJoinAt, WantsOne, WantsShare, IsWithin}
+use Rattle.abs_widen.specs.Pairing.{AreJoined, IsPaired}
 use Rattle.abs_widen.proofs.Whole.{in_order, may_join_parts}
 
 -- ---- what holds of two ids holds of them turned
@@ -43,7 +46,8 @@ meet_turned state x y h = record {
 }
 
 module _ (a b : AbstractState) (pairs : List (ℕ × ℕ)) where
-  side_turned : (holds : AbstractState → ℕ → ℕ → Type 0) → ((state : AbstractState) (x y : ℕ) → holds state x y → holds state y x) → (m n : ℕ) → OnOneSide holds a b pairs m n → OnOneSide holds a b pairs n m
+  side_turned : (holds : AbstractState → ℕ → ℕ → Type 0) → ((state : AbstractState) (x y : ℕ) → holds state x y → holds state y x)
+      → (m n : ℕ) → OnOneSide holds a b pairs m n → OnOneSide holds a b pairs n m
   side_turned holds turn m n h = record {
     p = h.q;
     q = h.p;
@@ -59,7 +63,8 @@ module _ (a b : AbstractState) (pairs : List (ℕ × ℕ)) where
     joins_turned : (m n : ℕ) → MayJoin result m n → MayJoin result n m
     joins_turned m n h = record { differ = λ e. h.differ (sym e); first = h.second; second = h.first; not_both = λ k l. h.not_both l k }
 
-    said_one_turned : (m n : ℕ) → MayJoin result m n × OnOneSide MayBeOne a b pairs m n → MayJoin result n m × OnOneSide MayBeOne a b pairs n m
+    said_one_turned : (m n : ℕ) → MayJoin result m n × OnOneSide MayBeOne a b pairs m n
+        → MayJoin result n m × OnOneSide MayBeOne a b pairs n m
     said_one_turned m n h = (joins_turned m n h.0, side_turned MayBeOne one_turned m n h.1)
 
     must_turned : (m n : ℕ) → MustShare a b pairs result m n → MustShare a b pairs result n m
@@ -68,7 +73,8 @@ module _ (a b : AbstractState) (pairs : List (ℕ × ℕ)) where
     must_turned m n (inr (inr (inl h))) = inr (inr (inr h))
     must_turned m n (inr (inr (inr h))) = inr (inr (inl h))
 
-    said_share_turned : (m n : ℕ) → MayJoin result m n × MustShare a b pairs result m n → MayJoin result n m × MustShare a b pairs result n m
+    said_share_turned : (m n : ℕ) → MayJoin result m n × MustShare a b pairs result m n
+        → MayJoin result n m × MustShare a b pairs result n m
     said_share_turned m n h = (joins_turned m n h.0, must_turned m n h.1)
 
 -- ---- sorts of cells
@@ -86,13 +92,15 @@ not_both_true false t h = refl
 
 -- ---- the result
 
-module _ (types : WorldTypes) (a b : AbstractState) (pairs : List (ℕ × ℕ)) (merged left result : AbstractState) (is : IsMerged types a b pairs merged) (dropped : IsDropped merged left) (paired : IsPaired a b pairs left result) where
+module _ (types : WorldTypes) (a b : AbstractState) (pairs : List (ℕ × ℕ)) (merged left result : AbstractState)
+    (is : IsMerged types a b pairs merged) (dropped : IsDropped merged left) (paired : IsPaired a b pairs left result) where
   bare_dropped : IsDropped merged (without_pairs result)
   bare_dropped = record {
     frames = paired.frames ∙ sym is.frames;
     throwing = paired.throwing ∙ dropped.throwing;
     kept = λ id r. ap (λ (cells : List (ℕ × Cell)). cell_in cells id) paired.cells ∙ dropped.kept id r;
-    gone = λ id h. dropped.gone id (record { cell = h.cell; is = ap (λ (cells : List (ℕ × Cell)). cell_in cells id) (sym paired.cells) ∙ h.is; sort_is = refl });
+    gone = λ id h. dropped.gone id
+        (record { cell = h.cell; is = ap (λ (cells : List (ℕ × Cell)). cell_in cells id) (sym paired.cells) ∙ h.is; sort_is = refl });
     eq = λ m n. ((λ h. absurd (false≢true h)), (λ h. absurd (false≢true (ap (has m n) (sym is.eq) ∙ h.0))));
     share = λ m n. ((λ h. absurd (false≢true h)), (λ h. absurd (false≢true (ap (has m n) (sym is.share) ∙ h.0))));
   }
@@ -123,13 +131,31 @@ module _ (types : WorldTypes) (a b : AbstractState) (pairs : List (ℕ × ℕ)) 
     they_share true t e f h =
         let parts = may_join_parts c d at.joins in
         let hazy = hazy_of d parts.1.0 (false_from_ne_true (is_known d) (parts.1.1 e)) in
-        inr (inr (inl ((record { cell = c; is = at.c_is; sort_is = e }, record { cell = d; is = at.d_is; sort_is = hazy }), one_side MayBeIn h)))
+        inr (inr (inl (
+          (record { cell = c; is = at.c_is; sort_is = e }, record { cell = d; is = at.d_is; sort_is = hazy }),
+          one_side
+              MayBeIn h,
+        )))
     they_share false true e f h =
         let parts = may_join_parts c d at.joins in
-        inr (inr (inr ((record { cell = d; is = at.d_is; sort_is = f }, record { cell = c; is = at.c_is; sort_is = hazy_of c parts.0 e }), other_side MayBeIn h)))
+        inr (inr (inr (
+          (
+            record { cell = d; is = at.d_is; sort_is = f },
+            record
+                { cell = c; is = at.c_is; sort_is = hazy_of c parts.0 e },
+          ),
+          other_side MayBeIn h,
+        )))
     they_share false false e f h =
         let parts = may_join_parts c d at.joins in
-        inr (inl ((record { cell = c; is = at.c_is; sort_is = hazy_of c parts.0 e }, record { cell = d; is = at.d_is; sort_is = hazy_of d parts.1.0 f }), one_side MayMeet h))
+        inr (inl (
+          (
+            record { cell = c; is = at.c_is; sort_is = hazy_of c parts.0 e },
+            record
+                { cell = d; is = at.d_is; sort_is = hazy_of d parts.1.0 f },
+          ),
+          one_side MayMeet h,
+        ))
 
     they_must : AreOne a b p q ⊎ IsPairedAs a b p q c d → MustShare a b pairs result m n
     they_must (inl h) = inl (one_side MayBeOne h)
@@ -155,7 +181,8 @@ module _ (types : WorldTypes) (a b : AbstractState) (pairs : List (ℕ × ℕ)) 
         and_from (is_reference c && is_reference d) (not (is_known c && is_known d))
         (and_from (is_reference c) (is_reference d) join.first.sort_is join.second.sort_is)
         (not_both_true (is_known c) (is_known d)
-        (λ h k. join.not_both (record { cell = c; is = join.first.is; sort_is = h }) (record { cell = d; is = join.second.is; sort_is = k })))
+        (λ h k. join.not_both (record { cell = c; is = join.first.is; sort_is = h })
+        (record { cell = d; is = join.second.is; sort_is = k })))
 
     join_at : (p q : ℕ × ℕ) → slice_get pairs m ≡ Some p → slice_get pairs n ≡ Some q → MayJoinAt pairs result.cells m n p q c d
     join_at p q e f = record {
@@ -275,7 +302,8 @@ module _ (types : WorldTypes) (a b : AbstractState) (pairs : List (ℕ × ℕ)) 
 -- ---- for the calls
 
 -- both ids of pairs have cells
-pub all_within : (types : WorldTypes) (a b : AbstractState) (pairs : List (ℕ × ℕ)) → AllByRecursion (ArePairCells types a b) pairs → AllByRecursion (IsWithin a b) pairs
+pub all_within : (types : WorldTypes) (a b : AbstractState) (pairs : List (ℕ × ℕ)) → AllByRecursion (ArePairCells types a b) pairs
+    → AllByRecursion (IsWithin a b) pairs
 all_within types a b [] h = tt
 all_within types a b (p ∷ pairs) h =
     let cells = h.0 in (
@@ -287,15 +315,18 @@ all_within types a b (p ∷ pairs) h =
     )
 
 -- a state that is made of its parts
-pub merged_of : (types : WorldTypes) (a b : AbstractState) (pairs : List (ℕ × ℕ)) (frames : List AbstractFrame) (thrown : Option ℕ) (cells : List (ℕ × Cell)) (eq share : List (ℕ × ℕ)) (made : AbstractState)
+pub merged_of : (types : WorldTypes) (a b : AbstractState) (pairs : List (ℕ × ℕ)) (frames : List AbstractFrame) (thrown : Option ℕ)
+    (cells : List (ℕ × Cell)) (eq share : List (ℕ × ℕ)) (made : AbstractState)
     → made ≡ record { frames = reverse frames; throwing = thrown; cells = cells; eq = eq; share = share }
-    → reverse frames ≡ merged_frames a b pairs a.frames b.frames → thrown ≡ option_map (number_of pairs) (thrown_pair a.throwing b.throwing)
+    → reverse frames ≡ merged_frames a b pairs a.frames b.frames
+    → thrown ≡ option_map (number_of pairs) (thrown_pair a.throwing b.throwing)
     → (length cells ≡ length pairs) × AreMergedCells types a b pairs cells → eq ≡ [] → share ≡ [] → IsMerged types a b pairs made
 merged_of types a b pairs frames thrown cells eq share made e f t c none empty =
     subst (IsMerged types a b pairs) (sym e) (record { frames = f; throwing = t; long = c.0; cells = c.1; eq = none; share = empty })
 
 -- a state that is given its pairs
-pub paired_of : (a b : AbstractState) (pairs : List (ℕ × ℕ)) (left : AbstractState) (frames : List AbstractFrame) (thrown : Option ℕ) (cells : List (ℕ × Cell)) (eq share : List (ℕ × ℕ)) (made : AbstractState)
+pub paired_of : (a b : AbstractState) (pairs : List (ℕ × ℕ)) (left : AbstractState) (frames : List AbstractFrame)
+    (thrown : Option ℕ) (cells : List (ℕ × Cell)) (eq share : List (ℕ × ℕ)) (made : AbstractState)
     → made ≡ record { frames = reverse frames; throwing = thrown; cells = cells; eq = eq; share = share }
     → reverse frames ≡ merged_frames a b pairs a.frames b.frames → thrown ≡ left.throwing → cells ≡ left.cells
     → AreJoined (WantsOne a b pairs left.cells) eq × AreJoined (WantsShare a b pairs left.cells) share → IsPaired a b pairs left made

@@ -1,5 +1,6 @@
 -- What two cells become as one, and which ids of theirs stand beside one another.
-use Rattle.std.specs.Prelude.{◌≡◌, ℕ, ℤ, pos, negsuc, ◌==◌, Bool, true, false, if◌then◌else◌, List, [], ◌∷◌, zip, Option, Some, None, int_le}
+use Rattle.std.specs.Prelude.{◌≡◌, ℕ, ℤ, pos, negsuc, ◌==◌, Bool, true, false, if◌then◌else◌, List, [], ◌∷◌, zip, Option, Some}
+use Rattle.std.specs.Prelude.{None, int_le}
 use Rattle.std.specs.Option.{option_map_or}
 use Rattle.lin_core.specs.declared.intervals.Interval.{Interval}
 use Rattle.jvm_values.specs.declared.types.Kind.{Kind}

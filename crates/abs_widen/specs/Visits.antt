@@ -1,7 +1,8 @@
 -- Which ids of two states stand beside one another, and in which order these pairs are met: those at the positions, bottom
 -- frame first, locals, operand stack from the bottom up, and the thrown ids at the end; behind each pair, at its first visit,
 -- those that the cells of its ids name.
-use Rattle.std.specs.Prelude.{◌≡◌, ℕ, ◌<◌, ◌&&◌, ◌||◌, Bool, true, false, if◌then◌else◌, List, [], ◌∷◌, ◌++◌, zip, reverse, length, Option, Some, None}
+use Rattle.std.specs.Prelude.{◌≡◌, ℕ, ◌<◌, ◌&&◌, ◌||◌, Bool, true, false, if◌then◌else◌, List, [], ◌∷◌, ◌++◌, zip, reverse, length}
+use Rattle.std.specs.Prelude.{Option, Some, None}
 use Rattle.std.specs.List.{AllByRecursion, list_any, flat_map}
 use Rattle.abs_cells.specs.declared.cells.Cell.{Cell}
 use Rattle.abs_cells.specs.AbstractStates.{AbstractFrame, AbstractState}
@@ -15,7 +16,8 @@ use Rattle.abs_widen.specs.Rows.{Row, row_of, pairs_of}
 
 -- the id of the one state is an int and that of the other one too, or neither is
 abbrev pub are_alike : AbstractState → AbstractState → ℕ → ℕ → Bool
-are_alike a b x y = (is_of_sort is_int (cell_at a x) && is_of_sort is_int (cell_at b y)) || (is_of_sort is_no_int (cell_at a x) && is_of_sort is_no_int (cell_at b y))
+are_alike a b x y = (is_of_sort is_int (cell_at a x) && is_of_sort is_int (cell_at b y))
+    || (is_of_sort is_no_int (cell_at a x) && is_of_sort is_no_int (cell_at b y))
 
 -- the pair of two locals: none where one is unset, or an int stands beside a reference
 abbrev pub local_pair : AbstractState → AbstractState → Option ℕ → Option ℕ → Option (ℕ × ℕ)
@@ -77,8 +79,10 @@ is_among pair pairs = list_any (is_same pair) pairs
 -- pairs in the end.
 pub data Visits (a b : AbstractState) : List (ℕ × ℕ) → List (ℕ × ℕ) → List (ℕ × ℕ) → Type 0 where
   ends : (met : List (ℕ × ℕ)) → Visits a b met [] met
-  again : (met rest all : List (ℕ × ℕ)) (pair : ℕ × ℕ) → is_among pair met ≡ true → Visits a b met rest all → Visits a b met (pair ∷ rest) all
-  first : (met rest all : List (ℕ × ℕ)) (pair : ℕ × ℕ) → is_among pair met ≡ false → Visits a b (met ++ pair ∷ []) (pairs_below a b pair ++ rest) all → Visits a b met (pair ∷ rest) all
+  again : (met rest all : List (ℕ × ℕ)) (pair : ℕ × ℕ) → is_among pair met ≡ true → Visits a b met rest all
+      → Visits a b met (pair ∷ rest) all
+  first : (met rest all : List (ℕ × ℕ)) (pair : ℕ × ℕ) → is_among pair met ≡ false
+      → Visits a b (met ++ pair ∷ []) (pairs_below a b pair ++ rest) all → Visits a b met (pair ∷ rest) all
 
 -- the pairs of two states, each once, in the order in which they are met: a pair's number is its place
 abbrev pub ArePairs : AbstractState → AbstractState → List (ℕ × ℕ) → Type 0

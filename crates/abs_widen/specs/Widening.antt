@@ -1,6 +1,7 @@
 -- The widening of an abstract state by another one: a state of which both are instances. Its ids stand for pairs of ids of
 -- the two, and are numbered as the pairs are met.
-use Rattle.std.specs.Prelude.{◌≡◌, ◌≢◌, ◌↔◌, ◌⊎◌, ℕ, ◌≤◌, ◌&&◌, ◌||◌, ◌==◌, Bool, true, false, not, List, [], map, zip, length, Option, Some, None, slice_get}
+use Rattle.std.specs.Prelude.{◌≡◌, ◌≢◌, ◌↔◌, ◌⊎◌, ℕ, ◌≤◌, ◌&&◌, ◌||◌, ◌==◌, Bool, true, false, not, List, [], map, zip, length}
+use Rattle.std.specs.Prelude.{Option, Some, None, slice_get}
 use Rattle.std.specs.List.{list_any, AllZip, position_or_len}
 use Rattle.std.specs.Option.{option_map}
 use Rattle.jvm_values.specs.declared.types.Ty.{Ty}
@@ -47,7 +48,13 @@ abbrev pub merged_locals : AbstractState → AbstractState → List (ℕ × ℕ)
 merged_locals a b pairs locals others = map (λ both. option_map (number_of pairs) (local_pair a b both.0 both.1)) (zip locals others)
 
 abbrev pub merged_frame : AbstractState → AbstractState → List (ℕ × ℕ) → AbstractFrame → AbstractFrame → AbstractFrame
-merged_frame a b pairs frame other = record { method = frame.method; pc = frame.pc; locals = merged_locals a b pairs frame.locals other.locals; stack = map (number_of pairs) (zip frame.stack other.stack) }
+merged_frame a b pairs frame other = record {
+  method = frame.method;
+  pc = frame.pc;
+  locals = merged_locals a b pairs frame.locals
+      other.locals;
+  stack = map (number_of pairs) (zip frame.stack other.stack);
+}
 
 abbrev pub merged_frames : AbstractState → AbstractState → List (ℕ × ℕ) → List AbstractFrame → List AbstractFrame → List AbstractFrame
 merged_frames a b pairs frames others = map (λ both. merged_frame a b pairs both.0 both.1) (zip frames others)
@@ -70,7 +77,8 @@ pub record IsHazed (types : WorldTypes) (a b : AbstractState) (pair : ℕ × ℕ
   pub is : cell ≡ Unk bound (can_be_null p || can_be_null q) shape
 
 -- an array of references
-pub record IsMergedArray (types : WorldTypes) (a b : AbstractState) (pairs : List (ℕ × ℕ)) (pair : ℕ × ℕ) (element other : Ty) (lengths : ℕ × ℕ) (cell : Cell) : Type 0 where
+pub record IsMergedArray (types : WorldTypes) (a b : AbstractState) (pairs : List (ℕ × ℕ)) (pair : ℕ × ℕ) (element other : Ty)
+    (lengths : ℕ × ℕ) (cell : Cell) : Type 0 where
   pub join : Ty
   pub shape : Shape
   pub type_is : IsJoin types.sub types.erase element other join
@@ -125,7 +133,8 @@ pub record IsMergedCell (types : WorldTypes) (a b : AbstractState) (pairs : List
 
 -- the cells of the first pairs, each with its pair's number
 abbrev pub AreMergedCells : WorldTypes → AbstractState → AbstractState → List (ℕ × ℕ) → List (ℕ × Cell) → Type 0
-AreMergedCells types a b pairs cells = (n : ℕ) (pair : ℕ × ℕ) (entry : ℕ × Cell) → slice_get pairs n ≡ Some pair → slice_get cells n ≡ Some entry → (entry.0 ≡ n) × IsMergedCell types a b pairs pair entry.1
+AreMergedCells types a b pairs cells = (n : ℕ) (pair : ℕ × ℕ) (entry : ℕ × Cell) → slice_get pairs n ≡ Some pair
+    → slice_get cells n ≡ Some entry → (entry.0 ≡ n) × IsMergedCell types a b pairs pair entry.1
 
 -- the state of all pairs, in which no two ids are a pair yet
 pub record IsMerged (types : WorldTypes) (a b : AbstractState) (pairs : List (ℕ × ℕ)) (merged : AbstractState) : Type 0 where
@@ -163,7 +172,8 @@ KnownIsIn a b pairs result m n = (HasCell is_known result m × HasCell is_hazy r
 
 -- two ids share: they have one object, may meet, or the one may be in the other's region
 abbrev pub MustShare : AbstractState → AbstractState → List (ℕ × ℕ) → AbstractState → ℕ → ℕ → Type 0
-MustShare a b pairs result m n = OnOneSide MayBeOne a b pairs m n ⊎ (HazyMeet a b pairs result m n ⊎ (KnownIsIn a b pairs result m n ⊎ KnownIsIn a b pairs result n m))
+MustShare a b pairs result m n = OnOneSide MayBeOne a b pairs m n
+    ⊎ (HazyMeet a b pairs result m n ⊎ (KnownIsIn a b pairs result m n ⊎ KnownIsIn a b pairs result n m))
 
 -- ---- the result
 

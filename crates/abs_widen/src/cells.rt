@@ -39,7 +39,9 @@ fn type_of(cell: &Cell) -> Option<Ty>
 fn type_over<T: Types>(types: &T, cell: &Cell, other: &Cell) -> Option<Ty>
     requires left { (t : Ty) → type_of_cell cell.now ≡ Some t → IsReference (T.classes types.now) t }
     requires right { (t : Ty) → type_of_cell other.now ≡ Some t → IsReference (T.classes types.now) t }
-    ensures { MatchOption result ((type_of_cell cell.now ≡ None) × (type_of_cell other.now ≡ None)) (λ bound. IsTypeOver (world_types (T.sub types.now) (T.erase types.now) (T.classes types.now) (T.fields types.now) (T.can_be_made types.now)) (type_of_cell cell.now) (type_of_cell other.now) bound) }
+    ensures { MatchOption result ((type_of_cell cell.now ≡ None) × (type_of_cell other.now ≡ None))
+        (λ bound. IsTypeOver (world_types (T.sub types.now) (T.erase types.now) (T.classes types.now) (T.fields types.now)
+        (T.can_be_made types.now)) (type_of_cell cell.now) (type_of_cell other.now) bound) }
 {
     let Some(left) = type_of(cell) else {
         let right = type_of(other)?;
@@ -68,7 +70,9 @@ pub(crate) fn hazed<T: Types, P: Pairs>(
     requires beside { cell_at b.now pair.1 ≡ Some other.now }
     requires left { (t : Ty) → type_of_cell cell.now ≡ Some t → IsReference (T.classes types.now) t }
     requires right { (t : Ty) → type_of_cell other.now ≡ Some t → IsReference (T.classes types.now) t }
-    ensures { MatchOption result ((type_of_cell cell.now ≡ None) × (type_of_cell other.now ≡ None)) (λ merged. IsHazed (world_types (T.sub types.now) (T.erase types.now) (T.classes types.now) (T.fields types.now) (T.can_be_made types.now)) a.now b.now pair cell.now other.now merged) }
+    ensures { MatchOption result ((type_of_cell cell.now ≡ None) × (type_of_cell other.now ≡ None))
+        (λ merged. IsHazed (world_types (T.sub types.now) (T.erase types.now) (T.classes types.now) (T.fields types.now)
+        (T.can_be_made types.now)) a.now b.now pair cell.now other.now merged) }
 {
     let Some(bound) = type_over(types, cell, other) else {
         return None;
@@ -88,7 +92,10 @@ pub(crate) fn instance_cell(
 ) -> Result<Option<Cell>, AllocError>
     requires few { length pairs.now ≤ most_ids }
     requires long { (more : List ℕ) → fields_in class other.now ≡ Some more → length ids.now ≡ length more }
-    ensures { IfOk result (λ found. MatchOption found (fields_in class other.now ≡ None) (λ cell. (more : List ℕ) × ((fields_in class other.now ≡ Some more) × (cell ≡ Obj class (map (number_of pairs.now) (zip ids.now more)))))) }
+    ensures { IfOk result
+        (λ found. MatchOption found (fields_in class other.now ≡ None)
+        (λ cell. (more : List ℕ)
+        × ((fields_in class other.now ≡ Some more) × (cell ≡ Obj class (map (number_of pairs.now) (zip ids.now more)))))) }
 {
     let Some(more) = fields_in(class, other) else {
         return Ok(None);
@@ -100,7 +107,8 @@ pub(crate) fn instance_cell(
 /// The cell of two arrays of numbers of one kind, or None where the other cell is no such array.
 pub(crate) fn numbers_cell(pairs: &[(Id, Id)], kind: Kind, len: Id, other: &Cell) -> Option<Cell>
     requires few { length pairs.now ≤ most_ids }
-    ensures { MatchOption result (length_in kind other.now ≡ None) (λ cell. (more : ℕ) × ((length_in kind other.now ≡ Some more) × (cell ≡ Nums kind (number_of pairs.now (len, more))))) }
+    ensures { MatchOption result (length_in kind other.now ≡ None)
+        (λ cell. (more : ℕ) × ((length_in kind other.now ≡ Some more) × (cell ≡ Nums kind (number_of pairs.now (len, more))))) }
 {
     let Some(more) = length_in(kind, other) else {
         return None;
@@ -110,7 +118,8 @@ pub(crate) fn numbers_cell(pairs: &[(Id, Id)], kind: Kind, len: Id, other: &Cell
 
 /// The cell of two ints, or None where the other cell is no int's.
 pub(crate) fn int_cell(interval: Interval, other: &Cell) -> Option<Cell>
-    ensures { MatchOption result (interval_in other.now ≡ None) (λ cell. (j : Interval) × ((interval_in other.now ≡ Some j) × IsWidenedInt interval j cell)) }
+    ensures { MatchOption result (interval_in other.now ≡ None)
+        (λ cell. (j : Interval) × ((interval_in other.now ≡ Some j) × IsWidenedInt interval j cell)) }
 {
     let Some(beside) = interval_in(other) else {
         return None;
@@ -140,7 +149,11 @@ pub(crate) fn array_cell<T: Types, P: Pairs>(
     requires beside { HasCell (λ _. true) b.now pair.1 }
     requires left { IsReference (T.classes types.now) element }
     requires right { (item : Ty) (more : ℕ) → array_in other.now ≡ Some (item, more) → IsReference (T.classes types.now) item }
-    ensures { MatchOption result (array_in other.now ≡ None) (λ cell. (item : Ty) × ((more : ℕ) × ((array_in other.now ≡ Some (item, more)) × IsMergedArray (world_types (T.sub types.now) (T.erase types.now) (T.classes types.now) (T.fields types.now) (T.can_be_made types.now)) a.now b.now pairs.now pair element item (len, more) cell))) }
+    ensures { MatchOption result (array_in other.now ≡ None)
+        (λ cell. (item : Ty) × ((more : ℕ)
+        × ((array_in other.now ≡ Some (item, more))
+        × IsMergedArray (world_types (T.sub types.now) (T.erase types.now) (T.classes types.now) (T.fields types.now)
+        (T.can_be_made types.now)) a.now b.now pairs.now pair element item (len, more) cell))) }
 {
     let (item, more) = array_in(other)?;
     let shape = worse_shape(a, b, pair, marks);

@@ -44,8 +44,12 @@ fn row_cell<T: Types, P: Pairs>(
     requires first { IsWellFormed a.now }
     requires second { IsWellFormed b.now }
     requires few { length pairs.now ≤ most_ids }
-    requires cells { AreCellsOf (world_types (T.sub types.now) (T.erase types.now) (T.classes types.now) (T.fields types.now) (T.can_be_made types.now)) a.now b.now pair cell.now other.now }
-    ensures { IfOk result (λ found. MatchOption found (row_of cell.now other.now ≡ unlike) (λ made. IsRowCell (world_types (T.sub types.now) (T.erase types.now) (T.classes types.now) (T.fields types.now) (T.can_be_made types.now)) a.now b.now pairs.now pair cell.now other.now (row_of cell.now other.now) made)) }
+    requires cells { AreCellsOf (world_types (T.sub types.now) (T.erase types.now) (T.classes types.now) (T.fields types.now)
+        (T.can_be_made types.now)) a.now b.now pair cell.now other.now }
+    ensures { IfOk result
+        (λ found. MatchOption found (row_of cell.now other.now ≡ unlike)
+        (λ made. IsRowCell (world_types (T.sub types.now) (T.erase types.now) (T.classes types.now) (T.fields types.now)
+        (T.can_be_made types.now)) a.now b.now pairs.now pair cell.now other.now (row_of cell.now other.now) made)) }
 {
     match cell {
         Cell::Int(interval) => Ok(int_cell(*interval, other)),
@@ -72,8 +76,12 @@ fn merged_cell<T: Types, P: Pairs>(
     requires first { IsWellFormed a.now }
     requires second { IsWellFormed b.now }
     requires few { length pairs.now ≤ most_ids }
-    requires cells { ArePairCells (world_types (T.sub types.now) (T.erase types.now) (T.classes types.now) (T.fields types.now) (T.can_be_made types.now)) a.now b.now pair }
-    ensures { IfOk result (λ found. MatchOption found ⊥ (λ made. IsMergedCell (world_types (T.sub types.now) (T.erase types.now) (T.classes types.now) (T.fields types.now) (T.can_be_made types.now)) a.now b.now pairs.now pair made)) }
+    requires cells { ArePairCells (world_types (T.sub types.now) (T.erase types.now) (T.classes types.now) (T.fields types.now)
+        (T.can_be_made types.now)) a.now b.now pair }
+    ensures { IfOk result
+        (λ found. MatchOption found ⊥
+        (λ made. IsMergedCell (world_types (T.sub types.now) (T.erase types.now) (T.classes types.now) (T.fields types.now)
+        (T.can_be_made types.now)) a.now b.now pairs.now pair made)) }
 {
     let Some(cell) = cell_of(a.cells(), pair.0) else {
         return Ok(None);
@@ -103,8 +111,12 @@ pub(crate) fn merged_cells<T: Types, P: Pairs>(
     requires first { IsWellFormed a.now }
     requires second { IsWellFormed b.now }
     requires few { length pairs.now ≤ most_ids }
-    requires cells { AllByRecursion (ArePairCells (world_types (T.sub types.now) (T.erase types.now) (T.classes types.now) (T.fields types.now) (T.can_be_made types.now)) a.now b.now) pairs.now }
-    ensures { IfOk result (λ cells. (length cells ≡ length pairs.now) × AreMergedCells (world_types (T.sub types.now) (T.erase types.now) (T.classes types.now) (T.fields types.now) (T.can_be_made types.now)) a.now b.now pairs.now cells) }
+    requires cells { AllByRecursion
+        (ArePairCells (world_types (T.sub types.now) (T.erase types.now) (T.classes types.now) (T.fields types.now)
+        (T.can_be_made types.now)) a.now b.now) pairs.now }
+    ensures { IfOk result (λ cells. (length cells ≡ length pairs.now)
+        × AreMergedCells (world_types (T.sub types.now) (T.erase types.now) (T.classes types.now) (T.fields types.now)
+        (T.can_be_made types.now)) a.now b.now pairs.now cells) }
 {
     let mut cells = Vec::with_capacity(alloc, pairs.len())?;
     for n in 0..pairs.len() {

@@ -1,5 +1,6 @@
 //! Which ids of a widening may have one object, and which share.
-ghost use Rattle.std.specs.Prelude.{◌≡◌, ◌⊎◌, ◌↔◌, ◌+◌, ◌<◌, ◌≤◌, ℕ, List, true, length, if◌then◌else◌, IsTrue, None, Some, OnOk, IfOk, MatchOption};
+ghost use Rattle.std.specs.Prelude.{◌≡◌, ◌⊎◌, ◌↔◌, ◌+◌, ◌<◌, ◌≤◌, ℕ, List, true, length, if◌then◌else◌, IsTrue, None, Some, OnOk};
+ghost use Rattle.std.specs.Prelude.{IfOk, MatchOption};
 ghost use Rattle.std.specs.List.{AllByRecursion};
 ghost use Rattle.abs_cells.specs.PairLists.{added};
 ghost use Rattle.abs_cells.specs.Cells.{cell_in, AreEqual};
@@ -7,7 +8,8 @@ ghost use Rattle.abs_cells.specs.Closures.{MayMeet, MayBeIn};
 ghost use Rattle.abs_cells.specs.Sound.{AreIdsRising, IsWellFormed};
 ghost use Rattle.abs_cells.specs.Limits.{most_ids};
 ghost use Rattle.abs_reach.specs.Instances.{MayBeOne};
-ghost use Rattle.abs_widen.specs.Pairing.{IsWithin, AreOne, may_join_cells, IsPairedAs, WantsOne, WantsShare, IsPut, AreJoinedTo, AreJoined};
+ghost use Rattle.abs_widen.specs.Pairing.{IsWithin, AreOne, may_join_cells, IsPairedAs, WantsOne, WantsShare, IsPut, AreJoinedTo};
+ghost use Rattle.abs_widen.specs.Pairing.{AreJoined};
 
 use abs_cells::{AbsState, Cell, Id, Pairs};
 use abs_reach::{Marks, cell_of, has_reference, may_be_in, may_meet};
@@ -19,7 +21,7 @@ fn are_equal<P: Pairs>(state: &AbsState<P>, x: Id, y: Id) -> bool
     ensures { IsTrue result ↔ AreEqual state.now x y }
 {
     let pairs = state.eq();
-    let _first = pairs.nth(0);
+    pairs.rise();
     x != y && pairs.has(x, y)
 }
 
@@ -162,7 +164,8 @@ fn is_shared<P: Pairs>(
     requires second { IsWellFormed b.now }
     requires p_within { IsWithin a.now b.now p }
     requires q_within { IsWithin a.now b.now q }
-    ensures { IsTrue result ↔ ((may_join_cells first.now second.now ≡ true) × (AreOne a.now b.now p q ⊎ IsPairedAs a.now b.now p q first.now second.now)) }
+    ensures { IsTrue result ↔ ((may_join_cells first.now second.now ≡ true)
+        × (AreOne a.now b.now p q ⊎ IsPairedAs a.now b.now p q first.now second.now)) }
 {
     may_join_cells(first, second) && are_sharing(a, b, p, q, first, second, marks)
 }
@@ -198,7 +201,9 @@ fn join_cells<P: Pairs>(
     requires few { length pairs.now ≤ most_ids }
     requires order { m < n }
     requires there { n < length pairs.now }
-    ensures { OnOk result ((cells : List (ℕ × Cell)) → cell_in cells m ≡ Some first.now → cell_in cells n ≡ Some second.now → IsPut (WantsOne a.now b.now pairs.now cells) m n (P.pairs eq.old) (P.pairs eq.new) × IsPut (WantsShare a.now b.now pairs.now cells) m n (P.pairs shared.old) (P.pairs shared.new)) }
+    ensures { OnOk result ((cells : List (ℕ × Cell)) → cell_in cells m ≡ Some first.now → cell_in cells n ≡ Some second.now
+        → IsPut (WantsOne a.now b.now pairs.now cells) m n (P.pairs eq.old) (P.pairs eq.new)
+        × IsPut (WantsShare a.now b.now pairs.now cells) m n (P.pairs shared.old) (P.pairs shared.new)) }
 {
     let one = is_one(a, b, pairs[m], pairs[n], first, second);
     let share = is_shared(a, b, pairs[m], pairs[n], first, second, marks);
@@ -236,7 +241,8 @@ fn join_one<P: Pairs>(
     requires cell { cell_in cells.now n ≡ Some second.now }
     requires order { m < n }
     requires there { n < length pairs.now }
-    ensures { OnOk result (IsPut (WantsOne a.now b.now pairs.now cells.now) m n (P.pairs eq.old) (P.pairs eq.new) × IsPut (WantsShare a.now b.now pairs.now cells.now) m n (P.pairs shared.old) (P.pairs shared.new)) }
+    ensures { OnOk result (IsPut (WantsOne a.now b.now pairs.now cells.now) m n (P.pairs eq.old) (P.pairs eq.new)
+        × IsPut (WantsShare a.now b.now pairs.now cells.now) m n (P.pairs shared.old) (P.pairs shared.new)) }
 {
     match cell_at(cells, m) {
         None => Ok(()),
@@ -265,7 +271,8 @@ fn join_below<P: Pairs>(
     requires there { n < length pairs.now }
     requires eq { AreJoinedTo (WantsOne a.now b.now pairs.now cells.now) n 0 (P.pairs eq.old) }
     requires shared { AreJoinedTo (WantsShare a.now b.now pairs.now cells.now) n 0 (P.pairs shared.old) }
-    ensures { OnOk result (AreJoinedTo (WantsOne a.now b.now pairs.now cells.now) (n + 1) 0 (P.pairs eq.new) × AreJoinedTo (WantsShare a.now b.now pairs.now cells.now) (n + 1) 0 (P.pairs shared.new)) }
+    ensures { OnOk result (AreJoinedTo (WantsOne a.now b.now pairs.now cells.now) (n + 1) 0 (P.pairs eq.new)
+        × AreJoinedTo (WantsShare a.now b.now pairs.now cells.now) (n + 1) 0 (P.pairs shared.new)) }
 {
     for m in 0..n {
         join_one(a, b, pairs, cells, m, n, second, eq, shared, marks)?;
@@ -292,7 +299,8 @@ fn join_row<P: Pairs>(
     requires there { n < length pairs.now }
     requires eq { AreJoinedTo (WantsOne a.now b.now pairs.now cells.now) n 0 (P.pairs eq.old) }
     requires shared { AreJoinedTo (WantsShare a.now b.now pairs.now cells.now) n 0 (P.pairs shared.old) }
-    ensures { OnOk result (AreJoinedTo (WantsOne a.now b.now pairs.now cells.now) (n + 1) 0 (P.pairs eq.new) × AreJoinedTo (WantsShare a.now b.now pairs.now cells.now) (n + 1) 0 (P.pairs shared.new)) }
+    ensures { OnOk result (AreJoinedTo (WantsOne a.now b.now pairs.now cells.now) (n + 1) 0 (P.pairs eq.new)
+        × AreJoinedTo (WantsShare a.now b.now pairs.now cells.now) (n + 1) 0 (P.pairs shared.new)) }
 {
     match cell_at(cells, n) {
         None => Ok(()),
@@ -315,14 +323,15 @@ pub(crate) fn joined<P: Pairs>(
     requires within { AllByRecursion (IsWithin a.now b.now) pairs.now }
     requires few { length pairs.now ≤ most_ids }
     requires rising { AreIdsRising 0 cells.now }
-    ensures { IfOk result (λ both. AreJoined (WantsOne a.now b.now pairs.now cells.now) (P.pairs both.0) × AreJoined (WantsShare a.now b.now pairs.now cells.now) (P.pairs both.1)) }
+    ensures { IfOk result (λ both. AreJoined (WantsOne a.now b.now pairs.now cells.now) (P.pairs both.0)
+        × AreJoined (WantsShare a.now b.now pairs.now cells.now) (P.pairs both.1)) }
 {
     let mut eq = P::empty(alloc);
     let mut shared = P::empty(alloc);
     for n in 0..pairs.len() {
         join_row(a, b, pairs, cells, n, &mut eq, &mut shared, marks)?;
     }
-    let _one = eq.nth(0);
-    let _share = shared.nth(0);
+    eq.rise();
+    shared.rise();
     Ok((eq, shared))
 }

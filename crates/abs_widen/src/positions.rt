@@ -3,7 +3,8 @@ ghost use Rattle.std.specs.Prelude.{◌≡◌, false, length, zip, OnOk, Err, Ok
 ghost use Rattle.std.specs.List.{AllZip};
 ghost use Rattle.abs_cells.specs.Sound.{IsWellFormed};
 ghost use Rattle.abs_widen.specs.declared.fault.WidenFault.TheVariants.{TooManyIds};
-ghost use Rattle.abs_widen.specs.Visits.{AreTooMany, are_alike, local_pair, local_pairs, frame_pairs, frames_pairs, thrown_pair, some_in, ArePairs};
+ghost use Rattle.abs_widen.specs.Visits.{AreTooMany, are_alike, local_pair, local_pairs, frame_pairs, frames_pairs, thrown_pair};
+ghost use Rattle.abs_widen.specs.Visits.{some_in, ArePairs};
 ghost use Rattle.abs_widen.specs.Visiting.{Continues, AreAsLong, AreFew, ArePaired};
 
 use crate::fault::WidenFault;
@@ -99,7 +100,8 @@ fn visit_locals<P: Pairs>(
     requires few { AreFew a.now b.now met.old.items }
     requires paired { ArePaired a.now b.now (local_pairs a.now b.now locals.now others.now) }
     requires long { length locals.now ≡ length others.now }
-    ensures ok { OnOk result (AreFew a.now b.now met.new.items × Continues a.now b.now met.old.items (local_pairs a.now b.now locals.now others.now) met.new.items) }
+    ensures ok { OnOk result (AreFew a.now b.now met.new.items
+        × Continues a.now b.now met.old.items (local_pairs a.now b.now locals.now others.now) met.new.items) }
     ensures err { result ≡ Err TooManyIds → AreTooMany a.now b.now }
 {
     for n in 0..locals.len() {
@@ -122,7 +124,8 @@ fn visit_entries<P: Pairs>(
     requires few { AreFew a.now b.now met.old.items }
     requires paired { ArePaired a.now b.now (zip ids.now others.now) }
     requires long { length ids.now ≡ length others.now }
-    ensures ok { OnOk result (AreFew a.now b.now met.new.items × Continues a.now b.now met.old.items (zip ids.now others.now) met.new.items) }
+    ensures ok { OnOk result (AreFew a.now b.now met.new.items × Continues a.now b.now met.old.items (zip ids.now others.now)
+        met.new.items) }
     ensures err { result ≡ Err TooManyIds → AreTooMany a.now b.now }
 {
     for n in 0..ids.len() {
@@ -145,7 +148,8 @@ fn visit_frame<P: Pairs>(
     requires few { AreFew a.now b.now met.old.items }
     requires paired { ArePaired a.now b.now (frame_pairs a.now b.now frame.now other.now) }
     requires long { (length frame.now.locals ≡ length other.now.locals) × (length frame.now.stack ≡ length other.now.stack) }
-    ensures ok { OnOk result (AreFew a.now b.now met.new.items × Continues a.now b.now met.old.items (frame_pairs a.now b.now frame.now other.now) met.new.items) }
+    ensures ok { OnOk result (AreFew a.now b.now met.new.items
+        × Continues a.now b.now met.old.items (frame_pairs a.now b.now frame.now other.now) met.new.items) }
     ensures err { result ≡ Err TooManyIds → AreTooMany a.now b.now }
 {
     visit_locals(alloc, a, b, met, frame.locals(), other.locals())?;
@@ -166,7 +170,8 @@ fn visit_frames<P: Pairs>(
     requires few { AreFew a.now b.now met.old.items }
     requires paired { ArePaired a.now b.now (frames_pairs a.now b.now frames.now others.now) }
     requires long { AllZip AreAsLong frames.now others.now }
-    ensures ok { OnOk result (AreFew a.now b.now met.new.items × Continues a.now b.now met.old.items (frames_pairs a.now b.now frames.now others.now) met.new.items) }
+    ensures ok { OnOk result (AreFew a.now b.now met.new.items
+        × Continues a.now b.now met.old.items (frames_pairs a.now b.now frames.now others.now) met.new.items) }
     ensures err { result ≡ Err TooManyIds → AreTooMany a.now b.now }
 {
     for n in 0..frames.len() {

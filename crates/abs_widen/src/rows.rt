@@ -86,7 +86,8 @@ pub(crate) fn push_pair(todo: &mut Todo, id: Id, other: Id) -> Result<(), AllocE
 
 /// Adds the pairs of the fields of two instances of one class.
 fn push_fields(todo: &mut Todo, class: u32, ids: &Ids, other: &Cell) -> Result<(), AllocError>
-    ensures { OnOk result (todo.new.0 ≡ pairs_of (option_map_or (λ more. instances class ids.now more) (fields_in class other.now) unlike) ++ todo.old.0) }
+    ensures { OnOk result
+        (todo.new.0 ≡ pairs_of (option_map_or (λ more. instances class ids.now more) (fields_in class other.now) unlike) ++ todo.old.0) }
 {
     let Some(more) = fields_in(class, other) else {
         return Ok(());
@@ -96,7 +97,8 @@ fn push_fields(todo: &mut Todo, class: u32, ids: &Ids, other: &Cell) -> Result<(
 
 /// Adds the pair of the lengths of two arrays of numbers of one kind.
 fn push_length(todo: &mut Todo, kind: Kind, len: Id, other: &Cell) -> Result<(), AllocError>
-    ensures { OnOk result (todo.new.0 ≡ pairs_of (option_map_or (λ more. numbers kind len more) (length_in kind other.now) unlike) ++ todo.old.0) }
+    ensures { OnOk result (todo.new.0 ≡ pairs_of (option_map_or (λ more. numbers kind len more) (length_in kind other.now) unlike)
+        ++ todo.old.0) }
 {
     let Some(more) = length_in(kind, other) else {
         return Ok(());
@@ -106,7 +108,8 @@ fn push_length(todo: &mut Todo, kind: Kind, len: Id, other: &Cell) -> Result<(),
 
 /// Adds the pair of the lengths of two arrays of references.
 fn push_array(todo: &mut Todo, element: Ty, len: Id, other: &Cell) -> Result<(), AllocError>
-    ensures { OnOk result (todo.new.0 ≡ pairs_of (option_map_or (λ array. arrays element array.0 len array.1) (array_in other.now) unlike) ++ todo.old.0) }
+    ensures { OnOk result
+        (todo.new.0 ≡ pairs_of (option_map_or (λ array. arrays element array.0 len array.1) (array_in other.now) unlike) ++ todo.old.0) }
 {
     let Some((_item, more)) = array_in(other) else {
         return Ok(());

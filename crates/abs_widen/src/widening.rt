@@ -34,8 +34,12 @@ fn bare_state<T: Types, P: Pairs>(
     requires second { IsWellFormed b.now }
     requires long { AllZip AreAsLong a.now.frames b.now.frames }
     requires few { length pairs.now ≤ most_ids }
-    requires cells { AllByRecursion (ArePairCells (world_types (T.sub types.now) (T.erase types.now) (T.classes types.now) (T.fields types.now) (T.can_be_made types.now)) a.now b.now) pairs.now }
-    ensures { IfOk result (λ bare. IsMerged (world_types (T.sub types.now) (T.erase types.now) (T.classes types.now) (T.fields types.now) (T.can_be_made types.now)) a.now b.now pairs.now bare) }
+    requires cells { AllByRecursion
+        (ArePairCells (world_types (T.sub types.now) (T.erase types.now) (T.classes types.now) (T.fields types.now)
+        (T.can_be_made types.now)) a.now b.now) pairs.now }
+    ensures { IfOk result
+        (λ bare. IsMerged (world_types (T.sub types.now) (T.erase types.now) (T.classes types.now) (T.fields types.now)
+        (T.can_be_made types.now)) a.now b.now pairs.now bare) }
 {
     let frames = frames_of(alloc, a, b, pairs)?;
     let thrown = number_of_some(pairs, thrown_pair(a.throwing(), b.throwing()));
@@ -75,10 +79,14 @@ fn widening_of<T: Types, P: Pairs>(
     b: &AbsState<P>,
     marks: &mut Marks,
 ) -> Result<AbsState<P>, WidenFault>
-    requires first { IsSound (world_types (T.sub types.now) (T.erase types.now) (T.classes types.now) (T.fields types.now) (T.can_be_made types.now)) a.now }
-    requires second { IsSound (world_types (T.sub types.now) (T.erase types.now) (T.classes types.now) (T.fields types.now) (T.can_be_made types.now)) b.now }
+    requires first { IsSound (world_types (T.sub types.now) (T.erase types.now) (T.classes types.now) (T.fields types.now)
+        (T.can_be_made types.now)) a.now }
+    requires second { IsSound (world_types (T.sub types.now) (T.erase types.now) (T.classes types.now) (T.fields types.now)
+        (T.can_be_made types.now)) b.now }
     requires alike { AreAlike a.now b.now }
-    ensures ok { IfOk result (λ wide. IsWidening (world_types (T.sub types.now) (T.erase types.now) (T.classes types.now) (T.fields types.now) (T.can_be_made types.now)) a.now b.now wide) }
+    ensures ok { IfOk result
+        (λ wide. IsWidening (world_types (T.sub types.now) (T.erase types.now) (T.classes types.now) (T.fields types.now)
+        (T.can_be_made types.now)) a.now b.now wide) }
     ensures err { result ≡ Err TooManyIds → AreTooMany a.now b.now }
 {
     let pairs = pairs_of(alloc, a, b)?;
@@ -106,15 +114,25 @@ pub fn widen<T: Types, P: Pairs>(
     b: &AbsState<P>,
     marks: &mut Marks,
 ) -> Result<AbsState<P>, WidenFault>
-    requires first { IsSound (world_types (T.sub types.now) (T.erase types.now) (T.classes types.now) (T.fields types.now) (T.can_be_made types.now)) a.now }
-    requires second { IsSound (world_types (T.sub types.now) (T.erase types.now) (T.classes types.now) (T.fields types.now) (T.can_be_made types.now)) b.now }
+    requires first { IsSound (world_types (T.sub types.now) (T.erase types.now) (T.classes types.now) (T.fields types.now)
+        (T.can_be_made types.now)) a.now }
+    requires second { IsSound (world_types (T.sub types.now) (T.erase types.now) (T.classes types.now) (T.fields types.now)
+        (T.can_be_made types.now)) b.now }
     requires alike { AreAlike a.now b.now }
-    ensures ok { IfOk result (λ wide. IsWidening (world_types (T.sub types.now) (T.erase types.now) (T.classes types.now) (T.fields types.now) (T.can_be_made types.now)) a.now b.now wide) }
-    ensures wider { IfOk result (λ wide. IsInstance (world_types (T.sub types.now) (T.erase types.now) (T.classes types.now) (T.fields types.now) (T.can_be_made types.now)) a.now wide × IsInstance (world_types (T.sub types.now) (T.erase types.now) (T.classes types.now) (T.fields types.now) (T.can_be_made types.now)) b.now wide) }
-    ensures sound { IfOk result (λ wide. IsSound (world_types (T.sub types.now) (T.erase types.now) (T.classes types.now) (T.fields types.now) (T.can_be_made types.now)) wide) }
+    ensures ok { IfOk result
+        (λ wide. IsWidening (world_types (T.sub types.now) (T.erase types.now) (T.classes types.now) (T.fields types.now)
+        (T.can_be_made types.now)) a.now b.now wide) }
+    ensures wider { IfOk result
+        (λ wide. IsInstance (world_types (T.sub types.now) (T.erase types.now) (T.classes types.now) (T.fields types.now)
+        (T.can_be_made types.now)) a.now wide
+        × IsInstance (world_types (T.sub types.now) (T.erase types.now) (T.classes types.now) (T.fields types.now)
+        (T.can_be_made types.now)) b.now wide) }
+    ensures sound { IfOk result
+        (λ wide. IsSound (world_types (T.sub types.now) (T.erase types.now) (T.classes types.now) (T.fields types.now)
+        (T.can_be_made types.now)) wide) }
     ensures err { result ≡ Err TooManyIds → AreTooMany a.now b.now }
 {
-    let _first = a.eq().nth(0);
-    let _second = b.eq().nth(0);
+    a.eq().rise();
+    b.eq().rise();
     widening_of(alloc, types, a, b, marks)
 }

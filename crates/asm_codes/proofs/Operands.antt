@@ -1,5 +1,6 @@
 -- The instruction that an operation gives has bytes, and as many wherever its labels are.
-use Rattle.std.proofs.Common.{◌≡◌, ℕ, suc, ◌+◌, ◌-◌, ◌*◌, ◌^◌, ◌<◌, ◌≤ℤ◌, Bool, true, false, cond, ◌&&◌, eqb, List, [], ◌∷◌, length, map, Option, Some, None, refl, sym, ap, subst, ◌∙◌, arith, ℤ, pos, negsuc, ◌+ℤ◌, inl, inr}
+use Rattle.std.proofs.Common.{◌≡◌, ℕ, suc, ◌+◌, ◌-◌, ◌*◌, ◌^◌, ◌<◌, ◌≤ℤ◌, Bool, true, false, cond, ◌&&◌, eqb, List, [], ◌∷◌, length}
+use Rattle.std.proofs.Common.{map, Option, Some, None, refl, sym, ap, subst, ◌∙◌, arith, ℤ, pos, negsuc, ◌+ℤ◌, inl, inr}
 use Rattle.std.specs.Prelude.{option_map, nat_le, nat_lt, if◌then◌else◌}
 use Rattle.std.specs.Option.{option_and_then}
 use Rattle.std.specs.List.{AllByRecursion, list_all}
@@ -19,16 +20,21 @@ use Rattle.code_forms.specs.Spellings.{Spelling, spelling}
 use Rattle.code_forms.specs.Cases.{rises_from, is_rising}
 use Rattle.code_decode.specs.Texts.{padding_of, zeros, spelling_text, Reaches, IsTable, IsLookup, FitsSpelling, Fits}
 use Rattle.code_decode.specs.Encoding.{plain_text}
-use Rattle.code_forms.specs.Opcodes.{opcode_of, find, find_by, plain_low, plain_high, plain, with_byte, with_pair, with_jump, wide_local, first_of}
+use Rattle.code_forms.specs.Opcodes.{opcode_of, find, find_by, plain_low, plain_high, plain, with_byte, with_pair, with_jump}
+use Rattle.code_forms.specs.Opcodes.{wide_local, first_of}
 use Rattle.code_decode.proofs.Takes.{some_is, found_by}
 use Rattle.code_decode.proofs.Lengths.{table_len, lookup_len}
 use Rattle.asm_lines.specs.declared.number.Number.{Number}
 use Rattle.asm_lines.specs.declared.operation.Operation.{Operation}
-use Rattle.asm_lines.specs.declared.operation.Operation.TheVariants.{Plain, Local, Bipush, Sipush, LoadInt, LoadString, Member, Class, Newarray, Iinc, Jump, GotoW, Tableswitch, Lookupswitch}
+use Rattle.asm_lines.specs.declared.operation.Operation.TheVariants.{Plain, Local, Bipush, Sipush, LoadInt, LoadString, Member}
+use Rattle.asm_lines.specs.declared.operation.Operation.TheVariants.{Class, Newarray, Iinc, Jump, GotoW, Tableswitch, Lookupswitch}
 use Rattle.asm_lines.proofs.NumberFits.{chained, lies, int_fits}
 use Rattle.asm_codes.specs.declared.pooled.PoolOperand.{PoolOperand}
 use Rattle.asm_lines.specs.Numbers.{signed_of, unsigned_of, pair_of, int_of}
-use Rattle.asm_codes.specs.Instructions.{Places, target, between, byte_value, pair_value, with_operand, local_insn, entry_insn, load_insn, interface_insn, member_insn, array_insn, increment, increment_insn, highest_fits, table_of_low, table_insn, make_case, cases_of, lookup_of, lookup_insn, insn_of}
+use Rattle.asm_codes.specs.Instructions.{Places, target, between, byte_value, pair_value, with_operand, local_insn, entry_insn}
+use Rattle.asm_codes.specs.Instructions.{load_insn, interface_insn, member_insn, array_insn, increment, increment_insn}
+use Rattle.asm_codes.specs.Instructions.{highest_fits, table_of_low, table_insn, make_case, cases_of, lookup_of, lookup_insn}
+use Rattle.asm_codes.specs.Instructions.{insn_of}
 use Rattle.asm_codes.specs.Places.{IsNear}
 use Rattle.asm_codes.specs.LineFaults.{is_within, is_far, reaches}
 
@@ -40,10 +46,46 @@ pub byte_rows : AllByRecursion (λ make. (n : ℕ) → spelling (make n) ≡ spe
 byte_rows = (λ n. refl, (λ n. refl, (λ n. refl, (λ n. refl, (λ n. refl, tt)))))
 
 pub pair_rows : AllByRecursion (λ make. (n : ℕ) → spelling (make n) ≡ spellings.Pair (opcode_of (spelling (make 0))) n) with_pair
-pair_rows = (λ n. refl, (λ n. refl, (λ n. refl, (λ n. refl, (λ n. refl, (λ n. refl, (λ n. refl, (λ n. refl, (λ n. refl, (λ n. refl, (λ n. refl, (λ n. refl, tt))))))))))))
+pair_rows = (
+  λ n. refl,
+  (
+    λ n. refl,
+    (
+      λ n. refl,
+      (λ n. refl, (λ n. refl, (λ n. refl, (λ n. refl, (λ n. refl, (λ n. refl, (λ n. refl, (λ n. refl, (λ n. refl, tt))))))))),
+    ),
+  ),
+)
 
 pub jump_rows : AllByRecursion (λ make. (n : ℕ) → spelling (make n) ≡ spellings.Jump (opcode_of (spelling (make 0))) n) with_jump
-jump_rows = (λ n. refl, (λ n. refl, (λ n. refl, (λ n. refl, (λ n. refl, (λ n. refl, (λ n. refl, (λ n. refl, (λ n. refl, (λ n. refl, (λ n. refl, (λ n. refl, (λ n. refl, (λ n. refl, (λ n. refl, (λ n. refl, (λ n. refl, tt)))))))))))))))))
+jump_rows = (
+  λ n. refl,
+  (
+    λ n. refl,
+    (
+      λ n. refl,
+      (
+        λ n. refl,
+        (
+          λ n. refl,
+          (
+            λ n. refl,
+            (
+              λ n. refl,
+              (
+                λ n. refl,
+                (
+                  λ n. refl,
+                  (λ n. refl, (λ n. refl, (λ n. refl, (λ n. refl, (λ n. refl, (λ n. refl, (λ n. refl, (λ n. refl, tt)))))))),
+                ),
+              ),
+            ),
+          ),
+        ),
+      ),
+    ),
+  ),
+)
 
 pub local_rows : AllByRecursion (λ make. (n : ℕ) → spelling (make n) ≡ spellings.WideLocal (opcode_of (spelling (make 0))) n) wide_local
 local_rows = (λ n. refl, (λ n. refl, (λ n. refl, (λ n. refl, tt))))
@@ -52,10 +94,142 @@ abbrev IsPlain : Insn → Type 0
 IsPlain i = spelling i ≡ spellings.Plain (opcode_of (spelling i))
 
 low_rows : AllByRecursion IsPlain plain_low
-low_rows = (refl, (refl, (refl, (refl, (refl, (refl, (refl, (refl, (refl, (refl, (refl, (refl, (refl, (refl, (refl, (refl, (refl, (refl, (refl, (refl, (refl, (refl, (refl, (refl, (refl, (refl, (refl, (refl, (refl, (refl, (refl, (refl, (refl, (refl, (refl, tt)))))))))))))))))))))))))))))))))))
+low_rows = (
+  refl,
+  (
+    refl,
+    (
+      refl,
+      (
+        refl,
+        (
+          refl,
+          (
+            refl,
+            (
+              refl,
+              (
+                refl,
+                (
+                  refl,
+                  (
+                    refl,
+                    (
+                      refl,
+                      (
+                        refl,
+                        (
+                          refl,
+                          (
+                            refl,
+                            (
+                              refl,
+                              (
+                                refl,
+                                (
+                                  refl,
+                                  (
+                                    refl,
+                                    (
+                                      refl,
+                                      (
+                                        refl,
+                                        (
+                                          refl,
+                                          (
+                                            refl,
+                                            (
+                                              refl,
+                                              (
+                                                refl,
+                                                (
+                                                  refl,
+                                                  (
+                                                    refl,
+                                                    (refl, (refl, (refl, (refl, (refl, (refl, (refl, (refl, (refl, tt))))))))),
+                                                  ),
+                                                ),
+                                              ),
+                                            ),
+                                          ),
+                                        ),
+                                      ),
+                                    ),
+                                  ),
+                                ),
+                              ),
+                            ),
+                          ),
+                        ),
+                      ),
+                    ),
+                  ),
+                ),
+              ),
+            ),
+          ),
+        ),
+      ),
+    ),
+  ),
+)
 
 high_rows : AllByRecursion IsPlain plain_high
-high_rows = (refl, (refl, (refl, (refl, (refl, (refl, (refl, (refl, (refl, (refl, (refl, (refl, (refl, (refl, (refl, (refl, (refl, (refl, (refl, (refl, (refl, (refl, (refl, (refl, (refl, (refl, (refl, (refl, (refl, tt)))))))))))))))))))))))))))))
+high_rows = (
+  refl,
+  (
+    refl,
+    (
+      refl,
+      (
+        refl,
+        (
+          refl,
+          (
+            refl,
+            (
+              refl,
+              (
+                refl,
+                (
+                  refl,
+                  (
+                    refl,
+                    (
+                      refl,
+                      (
+                        refl,
+                        (
+                          refl,
+                          (
+                            refl,
+                            (
+                              refl,
+                              (
+                                refl,
+                                (
+                                  refl,
+                                  (
+                                    refl,
+                                    (refl, (refl, (refl, (refl, (refl, (refl, (refl, (refl, (refl, (refl, (refl, tt))))))))))),
+                                  ),
+                                ),
+                              ),
+                            ),
+                          ),
+                        ),
+                      ),
+                    ),
+                  ),
+                ),
+              ),
+            ),
+          ),
+        ),
+      ),
+    ),
+  ),
+)
 
 found : (is : List Insn) (op : ℕ) (i : Insn) → AllByRecursion IsPlain is → find is op ≡ Some i → IsPlain i
 found [] op i rows e = absurd cc
@@ -72,7 +246,9 @@ either None b op i ea eb e = found plain_high op i high_rows (eb ∙ e)
 pub plain_spelling : (op : ℕ) (i : Insn) → plain op ≡ Some i → spelling i ≡ spellings.Plain (opcode_of (spelling i))
 plain_spelling op i e = either (find plain_low op) (find plain_high op) op i refl refl e
 
-pub operand : (S : ℕ → ℕ → Spelling) (table : List (ℕ → Insn)) (op n : ℕ) (i : Insn) → AllByRecursion (λ make. (n : ℕ) → spelling (make n) ≡ S (opcode_of (spelling (make 0))) n) table → with_operand table op n ≡ Some i → spelling i ≡ S op n
+pub operand : (S : ℕ → ℕ → Spelling) (table : List (ℕ → Insn)) (op n : ℕ) (i : Insn)
+    → AllByRecursion (λ make. (n : ℕ) → spelling (make n) ≡ S (opcode_of (spelling (make 0))) n) table
+    → with_operand table op n ≡ Some i → spelling i ≡ S op n
 operand S table op n i rows e =
     let m = map_some (λ (make : ℕ → Insn). make n) (find_by table op) i e in
     ap spelling (sym m.1.1) ∙ found_by S table op m.0 rows m.1.0 n
@@ -172,22 +348,26 @@ far_reaches pc place small h =
 
 -- ---- switches
 
-all_far : (places : Places) (pc : ℕ) (labels : List (List ℕ)) → IsNear places → list_all (is_far places pc) labels ≡ true → AllByRecursion (Reaches w32 pc) (map (target places) labels)
+all_far : (places : Places) (pc : ℕ) (labels : List (List ℕ)) → IsNear places → list_all (is_far places pc) labels ≡ true
+    → AllByRecursion (Reaches w32 pc) (map (target places) labels)
 all_far places pc [] near h = tt
 all_far places pc (l ∷ ls) near h =
     let t = and_parts (is_far places pc l) (list_all (is_far places pc) ls) h in
     (far_reaches pc (target places l) (near l) t.0, all_far places pc ls near t.1)
 
-highest : (low : ℤ) (n : ℕ) → FitsSigned w32 low → int_le (low +ℤ pos (n - 1)) (pos 2147483647) ≡ true → FitsSigned w32 (low +ℤ pos (n - 1))
+highest : (low : ℤ) (n : ℕ) → FitsSigned w32 low → int_le (low +ℤ pos (n - 1)) (pos 2147483647) ≡ true
+    → FitsSigned w32 (low +ℤ pos (n - 1))
 highest low n fits h =
     let most : (low +ℤ pos (n - 1)) ≤ℤ pos 2147483647 = grind (arith, ints) in
     omega (arith, ints, fits, most)
 
 table_fits : (places : Places) (pc : ℕ) (low : Number) (default : List ℕ) (labels : List (List ℕ)) (i : Insn) → IsNear places
-    → is_far places pc default ≡ true → list_all (is_far places pc) labels ≡ true → table_insn places low default labels ≡ Some i → Fits pc i
+    → is_far places pc default ≡ true → list_all (is_far places pc) labels ≡ true → table_insn places low default labels ≡ Some i
+    → Fits pc i
 table_fits places pc low default labels i near far all h =
     let c = chained (table_of_low places default labels) (int_of low) i h in
-    let g = cond_guarded (highest_fits c.0 (length labels)) (Some (insns.Tableswitch (target places default) c.0 (map (target places) labels))) i c.2 in
+    let g = cond_guarded (highest_fits c.0 (length labels))
+    (Some (insns.Tableswitch (target places default) c.0 (map (target places) labels))) i c.2 in
     let t = and_parts (nat_lt 0 (length labels)) (int_le (c.0 +ℤ pos (length labels - 1)) (pos 2147483647)) g.0 in
     let same = length_mapped (target places) labels in
     let lowest = int_fits low c.0 c.1 in
@@ -210,7 +390,8 @@ cases_fit places pc (c ∷ cs) cases near all h =
     let k = chained (λ key. option_map (λ rest. make_case key (target places c.1) ∷ rest) (cases_of places cs)) (int_of c.0) cases h in
     let m = map_some (λ (rest : List Case). make_case k.0 (target places c.1) ∷ rest) (cases_of places cs) cases k.2 in
     let t = and_parts (is_far places pc c.1) (list_all (λ (d : Number × List ℕ). is_far places pc d.1) cs) all in
-    subst (AllByRecursion (IsFitCase pc)) m.1.1 ((int_fits c.0 k.0 k.1, far_reaches pc (target places c.1) (near c.1) t.0), cases_fit places pc cs m.0 near t.1 m.1.0)
+    subst (AllByRecursion (IsFitCase pc)) m.1.1
+    ((int_fits c.0 k.0 k.1, far_reaches pc (target places c.1) (near c.1) t.0), cases_fit places pc cs m.0 near t.1 m.1.0)
 
 lookup_fits : (places : Places) (pc : ℕ) (default : List ℕ) (cs : List (Number × List ℕ)) (i : Insn) → IsNear places
     → is_far places pc default ≡ true → list_all (λ c. is_far places pc c.1) cs ≡ true → lookup_insn places default cs ≡ Some i → Fits pc i
@@ -229,7 +410,8 @@ lookup_fits places pc default cs i near far all h =
 -- ---- all forms
 
 -- An instruction that reaches its targets has bytes at its place.
-pub fits : (places : Places) (need : PoolOperand) (operation : Operation) (pc : ℕ) (i : Insn) → IsNear places → reaches places pc operation ≡ true → insn_of places need operation ≡ Some i → Fits pc i
+pub fits : (places : Places) (need : PoolOperand) (operation : Operation) (pc : ℕ) (i : Insn) → IsNear places
+    → reaches places pc operation ≡ true → insn_of places need operation ≡ Some i → Fits pc i
 fits places need (Plain op) pc i near r h = fits_as pc i (spellings.Plain (opcode_of (spelling i))) (plain_spelling op i h) tt
 fits places need (Local op n) pc i near r h =
     let c = chained (local_insn op) (pair_of n) i h in
@@ -247,8 +429,10 @@ fits places need (Class op class) pc i near r h = entry_fits pc op need.entry i 
 fits places need (Newarray code) pc i near r h = array_fits pc code i h
 fits places need (Iinc n m) pc i near r h = increment_insn_fits pc n m i h
 fits places need (Jump op label) pc i near r h =
-    fits_as pc i (spellings.Jump op (target places label)) (operand spellings.Jump with_jump op (target places label) i jump_rows h) (near_reaches pc (target places label) (near label) r)
-fits places need (GotoW label) pc i near r h = subst (Fits pc) (some_is (insns.GotoW (target places label)) i h) (far_reaches pc (target places label) (near label) r)
+    fits_as pc i (spellings.Jump op (target places label)) (operand spellings.Jump with_jump op (target places label) i jump_rows h)
+    (near_reaches pc (target places label) (near label) r)
+fits places need (GotoW label) pc i near r h = subst (Fits pc) (some_is (insns.GotoW (target places label)) i h)
+    (far_reaches pc (target places label) (near label) r)
 fits places need (Tableswitch low default labels) pc i near r h =
     let t = and_parts (is_far places pc default) (list_all (is_far places pc) labels) r in
     table_fits places pc low default labels i near t.0 t.1 h
@@ -268,16 +452,21 @@ alike_self : (o : Option Insn) → Alike o o
 alike_self None = tt
 alike_self (Some i) = λ pc. refl
 
-jump_alike : (op s t : ℕ) (o : Option (ℕ → Insn)) → find_by with_jump op ≡ o → Alike (option_map (λ make. make s) o) (option_map (λ make. make t) o)
+jump_alike : (op s t : ℕ) (o : Option (ℕ → Insn)) → find_by with_jump op ≡ o
+    → Alike (option_map (λ make. make s) o) (option_map (λ make. make t) o)
 jump_alike op s t None h = tt
 jump_alike op s t (Some make) h = λ pc.
     let is = found_by spellings.Jump with_jump op make jump_rows h in
-    ap (λ (x : Spelling). length (spelling_text pc (zeros (padding_of pc)) x)) (is s) ∙ sym (ap (λ (x : Spelling). length (spelling_text pc (zeros (padding_of pc)) x)) (is t))
+    ap (λ (x : Spelling). length (spelling_text pc (zeros (padding_of pc)) x)) (is s)
+    ∙ sym (ap (λ (x : Spelling). length (spelling_text pc (zeros (padding_of pc)) x)) (is t))
 
-table_alike : (p q : Places) (default : List ℕ) (labels : List (List ℕ)) (low : Option ℤ) → Alike (option_and_then (table_of_low p default labels) low) (option_and_then (table_of_low q default labels) low)
+table_alike : (p q : Places) (default : List ℕ) (labels : List (List ℕ)) (low : Option ℤ)
+    → Alike (option_and_then (table_of_low p default labels) low) (option_and_then (table_of_low q default labels) low)
 table_alike p q default labels None = tt
 table_alike p q default labels (Some low) =
-    elim (highest_fits low (length labels)) as (λ b. Alike (cond b (Some (insns.Tableswitch (target p default) low (map (target p) labels))) None) (cond b (Some (insns.Tableswitch (target q default) low (map (target q) labels))) None)) [
+    elim (highest_fits low (length labels)) as
+    (λ b. Alike (cond b (Some (insns.Tableswitch (target p default) low (map (target p) labels))) None)
+    (cond b (Some (insns.Tableswitch (target q default) low (map (target q) labels))) None)) [
       | true ↦ λ pc. ap suc (
           table_len pc (target p default) low (map (target p) labels)
           ∙ ap (λ (n : ℕ). padding_of pc + 12 + 4 * n) (length_mapped (target p) labels ∙ sym (length_mapped (target q) labels))
@@ -317,7 +506,8 @@ CasesAlike (Some cs) None = ⊥
 CasesAlike (Some cs) (Some ds) = SameKeys cs ds
 
 one_alike : (s t : ℕ) (k : Option ℤ) (a b : Option (List Case)) → CasesAlike a b
-    → CasesAlike (option_and_then (λ key. option_map (λ cases. make_case key s ∷ cases) a) k) (option_and_then (λ key. option_map (λ cases. make_case key t ∷ cases) b) k)
+    → CasesAlike (option_and_then (λ key. option_map (λ cases. make_case key s ∷ cases) a) k)
+    (option_and_then (λ key. option_map (λ cases. make_case key t ∷ cases) b) k)
 one_alike s t None a b h = tt
 one_alike s t (Some key) None None h = tt
 one_alike s t (Some key) None (Some ds) h = absurd h
@@ -328,7 +518,8 @@ cases_alike : (p q : Places) (cs : List (Number × List ℕ)) → CasesAlike (ca
 cases_alike p q [] = tt
 cases_alike p q (c ∷ cs) = one_alike (target p c.1) (target q c.1) (int_of c.0) (cases_of p cs) (cases_of q cs) (cases_alike p q cs)
 
-lookup_alike : (s t : ℕ) (a b : Option (List Case)) → CasesAlike a b → Alike (option_and_then (lookup_of s) a) (option_and_then (lookup_of t) b)
+lookup_alike : (s t : ℕ) (a b : Option (List Case)) → CasesAlike a b
+    → Alike (option_and_then (lookup_of s) a) (option_and_then (lookup_of t) b)
 lookup_alike s t None None h = tt
 lookup_alike s t None (Some ds) h = absurd h
 lookup_alike s t (Some cs) None h = absurd h
@@ -336,8 +527,10 @@ lookup_alike s t (Some cs) (Some ds) h =
     let n = same_number cs ds h in
     let e : (nat_lt (length cs) (2 ^ 31) && is_rising cs) ≡ (nat_lt (length ds) (2 ^ 31) && is_rising ds) =
     ap (λ (m : ℕ). nat_lt m (2 ^ 31) && is_rising cs) n ∙ ap (λ b. nat_lt (length ds) (2 ^ 31) && b) (same_rising cs ds h) in
-    subst (λ (v : Bool). Alike (cond v (Some (insns.Lookupswitch s cs)) None) (cond (nat_lt (length ds) (2 ^ 31) && is_rising ds) (Some (insns.Lookupswitch t ds)) None)) (sym e)
-    (elim (nat_lt (length ds) (2 ^ 31) && is_rising ds) as (λ b. Alike (cond b (Some (insns.Lookupswitch s cs)) None) (cond b (Some (insns.Lookupswitch t ds)) None)) [
+    subst (λ (v : Bool). Alike (cond v (Some (insns.Lookupswitch s cs)) None)
+    (cond (nat_lt (length ds) (2 ^ 31) && is_rising ds) (Some (insns.Lookupswitch t ds)) None)) (sym e)
+    (elim (nat_lt (length ds) (2 ^ 31) && is_rising ds) as
+    (λ b. Alike (cond b (Some (insns.Lookupswitch s cs)) None) (cond b (Some (insns.Lookupswitch t ds)) None)) [
       | true ↦ λ pc. ap suc (
           lookup_len pc s cs
           ∙ ap (λ (m : ℕ). padding_of pc + 8 + 8 * m) n
@@ -360,4 +553,5 @@ alike p q need (Iinc n m) = alike_self (increment_insn n m)
 alike p q need (Jump op label) = jump_alike op (target p label) (target q label) (find_by with_jump op) refl
 alike p q need (GotoW label) = λ pc. refl
 alike p q need (Tableswitch low default labels) = table_alike p q default labels (int_of low)
-alike p q need (Lookupswitch default cases) = lookup_alike (target p default) (target q default) (cases_of p cases) (cases_of q cases) (cases_alike p q cases)
+alike p q need (Lookupswitch default cases) = lookup_alike (target p default) (target q default) (cases_of p cases)
+    (cases_of q cases) (cases_alike p q cases)

@@ -1,5 +1,6 @@
 -- The code of lines without a fault says what its lines say.
-use Rattle.std.proofs.Common.{◌≡◌, ℕ, zero, ◌+◌, ◌<◌, ◌^◌, Bool, true, false, cond, not, ◌&&◌, ◌||◌, List, [], ◌∷◌, ◌++◌, length, map, Option, Some, None, Ok, is_some, refl, sym, ap, subst, ◌∙◌, arith}
+use Rattle.std.proofs.Common.{◌≡◌, ℕ, zero, ◌+◌, ◌<◌, ◌^◌, Bool, true, false, cond, not, ◌&&◌, ◌||◌, List, [], ◌∷◌, ◌++◌, length}
+use Rattle.std.proofs.Common.{map, Option, Some, None, Ok, is_some, refl, sym, ap, subst, ◌∙◌, arith}
 use Rattle.std.specs.Option.{option_map_or, option_and_then}
 use Rattle.std.specs.List.{AllByRecursion, filter_map, cons_option}
 use Rattle.std.proofs.Math.Path.{fun_ext}
@@ -22,9 +23,11 @@ use Rattle.asm_codes.specs.declared.pooled.PoolOperand.{PoolOperand}
 use Rattle.asm_codes.specs.Pooled.{Pooled}
 use Rattle.asm_codes.specs.Instructions.{Places, nowhere, insn_of, item_insn, insn_in}
 use Rattle.asm_codes.specs.Places.{size_of, size_at, end_from, has_label, place_from, places_of, placed, insns_from, item_entry, table_of}
-use Rattle.asm_codes.specs.LineFaults.{item_labels, knows, reaches, passes, item_is_out, entries_of, line_fault, first_fault_from, first_fault}
+use Rattle.asm_codes.specs.LineFaults.{item_labels, knows, reaches, passes, item_is_out, entries_of, line_fault, first_fault_from}
+use Rattle.asm_codes.specs.LineFaults.{first_fault}
 use Rattle.asm_codes.specs.MethodCodes.{FitsAt, IsWritable, code_at, answered}
-use Rattle.asm_codes.specs.Said.{NamedBy, IsNamed, InTurn, SaysInsn, next_place, behind, label_place, SaysLine, SaysLines, with_catch, catches_in, SaysEntry, SaysCode}
+use Rattle.asm_codes.specs.Said.{NamedBy, IsNamed, InTurn, SaysInsn, next_place, behind, label_place, SaysLine, SaysLines}
+use Rattle.asm_codes.specs.Said.{with_catch, catches_in, SaysEntry, SaysCode}
 use Rattle.asm_codes.proofs.CodeSizes.{code_long}
 use Rattle.asm_codes.proofs.FirstFaults.{IsSound, sound}
 use Rattle.asm_codes.proofs.Operands.{Alike, alike}
@@ -40,39 +43,51 @@ pub record IsLine (named : Operation → PoolOperand → Type 0) (places : Place
   pub says : SaysLine (SaysInsn named places) item insns
   pub behind : behind item insns ≡ rest
 
-fitting : (named : Operation → PoolOperand → Type 0) (places : Places) (pc : ℕ) (need : PoolOperand) (operation : Operation) (o p : Option Insn) (rest : List (ℕ × Insn))
-    → insn_of places need operation ≡ o → Alike o p → is_some p ≡ true → knows places (item_labels (items.Insn operation)) ≡ true → named operation need → IsLine named places (items.Insn operation) (placed pc o ++ rest) rest
-fitting named places pc need operation (Some i) p rest e a s k n = record { says = (need, n, insn_said places need operation i k e); behind = refl }
+fitting : (named : Operation → PoolOperand → Type 0) (places : Places) (pc : ℕ) (need : PoolOperand) (operation : Operation)
+    (o p : Option Insn) (rest : List (ℕ × Insn))
+    → insn_of places need operation ≡ o → Alike o p → is_some p ≡ true → knows places (item_labels (items.Insn operation)) ≡ true
+    → named operation need → IsLine named places (items.Insn operation) (placed pc o ++ rest) rest
+fitting named places pc need operation (Some i) p rest e a s k n = record
+    { says = (need, n, insn_said places need operation i k e); behind = refl }
 fitting named places pc need operation None None rest e a s k n = absurd cc
 fitting named places pc need operation None (Some j) rest e a s k n = absurd a
 
-line_is : (named : Operation → PoolOperand → Type 0) (caught : Option (List ℕ) → ℕ → Type 0) (places : Places) (entries pc size : ℕ) (need : Option PoolOperand) (item : Item) (rest : List (ℕ × Insn)) → is_some need ≡ true
-    → item_is_out places entries pc (is_some (option_and_then (item_insn nowhere item) need)) size item ≡ false → knows places (item_labels item) ≡ true → NamedBy named caught item need
+line_is : (named : Operation → PoolOperand → Type 0) (caught : Option (List ℕ) → ℕ → Type 0) (places : Places) (entries pc size : ℕ)
+    (need : Option PoolOperand) (item : Item) (rest : List (ℕ × Insn)) → is_some need ≡ true
+    → item_is_out places entries pc (is_some (option_and_then (item_insn nowhere item) need)) size item ≡ false
+    → knows places (item_labels item) ≡ true → NamedBy named caught item need
     → IsLine named places item (placed pc (option_and_then (item_insn places item) need) ++ rest) rest
 line_is named caught places entries pc size None item rest s out k n = absurd cc
 line_is named caught places entries pc size (Some need) (items.Insn operation) rest s out k n =
     let a = or_parts (not (is_some (insn_of nowhere need operation)) || not (reaches places pc operation)) (passes pc size) out in
     let b = or_parts (not (is_some (insn_of nowhere need operation))) (not (reaches places pc operation)) a.0 in
-    fitting named places pc need operation (insn_of places need operation) (insn_of nowhere need operation) rest refl (alike places nowhere need operation) (not-false (is_some (insn_of nowhere need operation)) b.0) k n
+    fitting named places pc need operation (insn_of places need operation) (insn_of nowhere need operation) rest refl
+    (alike places nowhere need operation) (not-false (is_some (insn_of nowhere need operation)) b.0) k n
 line_is named caught places entries pc size (Some need) items.Nothing rest s out k n = record { says = tt; behind = refl }
 line_is named caught places entries pc size (Some need) (items.Catch c) rest s out k n = record { says = tt; behind = refl }
 line_is named caught places entries pc size (Some need) (items.Attribute a) rest s out k n = record { says = tt; behind = refl }
 line_is named caught places entries pc size (Some need) items.End rest s out k n = record { says = tt; behind = refl }
 
-here : (named : Operation → PoolOperand → Type 0) (caught : Option (List ℕ) → ℕ → Type 0) (places : Places) (before : List Pooled) (pc : ℕ) (x : Pooled) (rest : List (ℕ × Insn)) → IsSound places before pc x → IsNamed named caught x
+here : (named : Operation → PoolOperand → Type 0) (caught : Option (List ℕ) → ℕ → Type 0) (places : Places) (before : List Pooled)
+    (pc : ℕ) (x : Pooled) (rest : List (ℕ × Insn)) → IsSound places before pc x → IsNamed named caught x
     → IsLine named places x.code.item (placed pc (insn_in places x) ++ rest) rest
-here named caught places before pc x rest s n = line_is named caught places (entries_of before) pc (size_at pc x) x.need x.code.item rest s.needed s.inside s.known n
+here named caught places before pc x rest s n = line_is named caught places (entries_of before) pc (size_at pc x) x.need x.code.item
+    rest s.needed s.inside s.known n
 
 -- ---- all lines
 
-lines_said : (named : Operation → PoolOperand → Type 0) (caught : Option (List ℕ) → ℕ → Type 0) (places : Places) (before : List Pooled) (pc : ℕ) (lines : List Pooled) → first_fault_from places before pc lines ≡ None
+lines_said : (named : Operation → PoolOperand → Type 0) (caught : Option (List ℕ) → ℕ → Type 0) (places : Places)
+    (before : List Pooled) (pc : ℕ) (lines : List Pooled) → first_fault_from places before pc lines ≡ None
     → AllByRecursion (IsNamed named caught) lines → SaysLines (SaysInsn named places) (codes lines) (insns_from places pc lines)
 lines_said named caught places before pc [] h n = refl
 lines_said named caught places before pc (x ∷ xs) h n =
     let b = both_none (line_fault places before pc x) (first_fault_from places (before ++ x ∷ []) (pc + size_at pc x) xs) h in
     let rest = insns_from places (pc + size_at pc x) xs in
-    let l = here named caught places before pc x rest (sound places before pc x b.0) n.0 in
-    (l.says, subst (SaysLines (SaysInsn named places) (codes xs)) (sym l.behind) (lines_said named caught places (before ++ x ∷ []) (pc + size_at pc x) xs b.1 n.1))
+    let l = here named caught places before pc x rest (sound places before pc x b.0) n.0 in (
+      l.says,
+      subst (SaysLines (SaysInsn named places) (codes xs)) (sym l.behind)
+          (lines_said named caught places (before ++ x ∷ []) (pc + size_at pc x) xs b.1 n.1),
+    )
 
 -- ---- labels
 
@@ -95,39 +110,54 @@ choice : (b : Bool) (p q : ℕ) (o r : Option ℕ) → p ≡ q → o ≡ r → c
 choice true p q o r e f = ap (λ (k : ℕ). Some k) e
 choice false p q o r e f = f
 
-place_is : (named : Operation → PoolOperand → Type 0) (caught : Option (List ℕ) → ℕ → Type 0) (places : Places) (before : List Pooled) (pc : ℕ) (lines : List Pooled) (label : List ℕ) → first_fault_from places before pc lines ≡ None
-    → AllByRecursion (IsNamed named caught) lines → place_from pc lines label ≡ label_place (end_from pc lines) (insns_from places pc lines) (codes lines) label
+place_is : (named : Operation → PoolOperand → Type 0) (caught : Option (List ℕ) → ℕ → Type 0) (places : Places)
+    (before : List Pooled) (pc : ℕ) (lines : List Pooled) (label : List ℕ) → first_fault_from places before pc lines ≡ None
+    → AllByRecursion (IsNamed named caught) lines
+    → place_from pc lines label ≡ label_place (end_from pc lines) (insns_from places pc lines) (codes lines) label
 place_is named caught places before pc [] label h n = refl
 place_is named caught places before pc (x ∷ xs) label h n =
     let b = both_none (line_fault places before pc x) (first_fault_from places (before ++ x ∷ []) (pc + size_at pc x) xs) h in
     let rest = insns_from places (pc + size_at pc x) xs in
     let l = here named caught places before pc x rest (sound places before pc x b.0) n.0 in
     let end = end_from pc (x ∷ xs) in
-    choice (has_label label x) pc (next_place end (insns_from places pc (x ∷ xs))) (place_from (pc + size_at pc x) xs label) (label_place end (behind x.code.item (insns_from places pc (x ∷ xs))) (codes xs) label)
+    choice (has_label label x) pc (next_place end (insns_from places pc (x ∷ xs))) (place_from (pc + size_at pc x) xs label)
+    (label_place end (behind x.code.item (insns_from places pc (x ∷ xs))) (codes xs) label)
     (sym (next_is places pc (x ∷ xs)))
-    (place_is named caught places (before ++ x ∷ []) (pc + size_at pc x) xs label b.1 n.1 ∙ ap (λ (is : List (ℕ × Insn)). label_place end is (codes xs) label) (sym l.behind))
+    (place_is named caught places (before ++ x ∷ []) (pc + size_at pc x) xs label b.1 n.1
+    ∙ ap (λ (is : List (ℕ × Insn)). label_place end is (codes xs) label) (sym l.behind))
 
 -- ---- bytes
 
 spelled_by : (places : Places) (pc : ℕ) (x : Pooled) (xs : List Pooled) (o : Option Insn) → insn_in places x ≡ o → FitsAt pc o
     → Spells (pc + size_at pc x) (insns_from places (pc + size_at pc x) xs) (code_of (insns_from places (pc + size_at pc x) xs))
-    → Spells pc (placed pc o ++ insns_from places (pc + size_at pc x) xs) (code_of (placed pc o ++ insns_from places (pc + size_at pc x) xs))
+    → Spells pc (placed pc o ++ insns_from places (pc + size_at pc x) xs)
+    (code_of (placed pc o ++ insns_from places (pc + size_at pc x) xs))
 spelled_by places pc x xs (Some i) e fits h =
     let rest = insns_from places (pc + size_at pc x) xs in
-    let size : size_at pc x ≡ length (plain_text pc i) = sym (item_size places pc x.need x.code.item) ∙ ap (size_of pc) e in
-    (zeros (padding_of pc), code_of rest, refl, length-zeros (padding_of pc), fits, refl, subst (λ (k : ℕ). Spells (pc + k) rest (code_of rest)) size h)
+    let size : size_at pc x ≡ length (plain_text pc i) = sym (item_size places pc x.need x.code.item) ∙ ap (size_of pc) e in (
+      zeros (padding_of pc),
+      code_of rest,
+      refl,
+      length-zeros (padding_of pc),
+      fits,
+      refl,
+      subst
+          (λ (k : ℕ). Spells (pc + k) rest (code_of rest)) size h,
+    )
 spelled_by places pc x xs None e fits h =
     let rest = insns_from places (pc + size_at pc x) xs in
     let size : size_at pc x ≡ 0 = sym (item_size places pc x.need x.code.item) ∙ ap (size_of pc) e in
     subst (λ (k : ℕ). Spells k rest (code_of rest)) (ap (λ (k : ℕ). pc + k) size ∙ no_more pc) h
 
-spelled : (places : Places) (pc : ℕ) (lines : List Pooled) → IsWritable places pc lines → Spells pc (insns_from places pc lines) (code_of (insns_from places pc lines))
+spelled : (places : Places) (pc : ℕ) (lines : List Pooled) → IsWritable places pc lines
+    → Spells pc (insns_from places pc lines) (code_of (insns_from places pc lines))
 spelled places pc [] w = refl
 spelled places pc (x ∷ xs) w = spelled_by places pc x xs (insn_in places x) refl w.1 (spelled places (pc + size_at pc x) xs w.2)
 
 -- ---- the exception table
 
-entry_is : (named : Operation → PoolOperand → Type 0) (caught : Option (List ℕ) → ℕ → Type 0) (places : Places) (need : Option PoolOperand) (item : Item) (cs : List CatchLine) (hs : List Handler) → is_some need ≡ true
+entry_is : (named : Operation → PoolOperand → Type 0) (caught : Option (List ℕ) → ℕ → Type 0) (places : Places)
+    (need : Option PoolOperand) (item : Item) (cs : List CatchLine) (hs : List Handler) → is_some need ≡ true
     → knows places (item_labels item) ≡ true → NamedBy named caught item need → InTurn (SaysEntry caught places) cs hs
     → InTurn (SaysEntry caught places) (with_catch item cs) (cons_option (item_entry places need item) hs)
 entry_is named caught places None item cs hs s k n h = absurd cc
@@ -146,17 +176,20 @@ entry_is named caught places (Some need) items.Nothing cs hs s k n h = h
 entry_is named caught places (Some need) (items.Attribute a) cs hs s k n h = h
 entry_is named caught places (Some need) items.End cs hs s k n h = h
 
-entries_said : (named : Operation → PoolOperand → Type 0) (caught : Option (List ℕ) → ℕ → Type 0) (places : Places) (before : List Pooled) (pc : ℕ) (lines : List Pooled) → first_fault_from places before pc lines ≡ None
+entries_said : (named : Operation → PoolOperand → Type 0) (caught : Option (List ℕ) → ℕ → Type 0) (places : Places)
+    (before : List Pooled) (pc : ℕ) (lines : List Pooled) → first_fault_from places before pc lines ≡ None
     → AllByRecursion (IsNamed named caught) lines → InTurn (SaysEntry caught places) (catches_in (codes lines)) (table_of places lines)
 entries_said named caught places before pc [] h n = tt
 entries_said named caught places before pc (x ∷ xs) h n =
     let b = both_none (line_fault places before pc x) (first_fault_from places (before ++ x ∷ []) (pc + size_at pc x) xs) h in
     let s = sound places before pc x b.0 in
-    entry_is named caught places x.need x.code.item (catches_in (codes xs)) (table_of places xs) s.needed s.known n.0 (entries_said named caught places (before ++ x ∷ []) (pc + size_at pc x) xs b.1 n.1)
+    entry_is named caught places x.need x.code.item (catches_in (codes xs)) (table_of places xs) s.needed s.known n.0
+    (entries_said named caught places (before ++ x ∷ []) (pc + size_at pc x) xs b.1 n.1)
 
 -- ---- the code
 
-pub code_said : (named : Operation → PoolOperand → Type 0) (caught : Option (List ℕ) → ℕ → Type 0) (lines : List Pooled) → first_fault (places_of lines) lines ≡ None → AllByRecursion (IsNamed named caught) lines
+pub code_said : (named : Operation → PoolOperand → Type 0) (caught : Option (List ℕ) → ℕ → Type 0) (lines : List Pooled)
+    → first_fault (places_of lines) lines ≡ None → AllByRecursion (IsNamed named caught) lines
     → SaysCode named caught (codes lines) (code_at (places_of lines) lines).bytes (code_at (places_of lines) lines).table
 code_said named caught lines h n =
     let places = places_of lines in
@@ -168,7 +201,8 @@ code_said named caught lines h n =
       insns = insns;
       spelled = spelled places 0 lines (writable lines h);
       each = subst (λ (p : Places). SaysLines (SaysInsn named p) (codes lines) insns) same (lines_said named caught places [] 0 lines h n);
-      entries = subst (λ (p : Places). InTurn (SaysEntry caught p) (catches_in (codes lines)) (table_of places lines)) same (entries_said named caught places [] 0 lines h n);
+      entries = subst (λ (p : Places). InTurn (SaysEntry caught p) (catches_in (codes lines)) (table_of places lines)) same
+          (entries_said named caught places [] 0 lines h n);
     }
 
 unfaulty : (o : Option AsmFault) (code answer : MethodCode) → answered o code ≡ Ok answer → (o ≡ None) × (code ≡ answer)

@@ -1,16 +1,20 @@
 -- How many bytes instructions have.
-use Rattle.std.proofs.Common.{◌≡◌, ℕ, suc, ◌+◌, ◌-◌, ◌*◌, ◌%◌, ◌^◌, ◌<◌, true, List, [], ◌∷◌, length, Option, Some, None, refl, sym, ap, subst, ◌∙◌, arith, ◌&&◌}
+use Rattle.std.proofs.Common.{◌≡◌, ℕ, suc, ◌+◌, ◌-◌, ◌*◌, ◌%◌, ◌^◌, ◌<◌, true, List, [], ◌∷◌, length, Option, Some, None, refl, sym}
+use Rattle.std.proofs.Common.{ap, subst, ◌∙◌, arith, ◌&&◌}
 use Rattle.std.specs.Option.{option_and_then}
 use Rattle.std.specs.List.{list_all}
 use Rattle.std.proofs.lemmas.Bool.Decides.{nat_tests}
 use Rattle.code_forms.specs.declared.insn.Insn.{Insn}
-use Rattle.code_forms.specs.Spellings.{Spelling, spelling, Plain, Byte, Pair, SignedByte, SignedPair, Jump, FarJump, Increment, Table, Lookup, Interface, Array, WideLocal, WideIncrement}
+use Rattle.code_forms.specs.Spellings.{Spelling, spelling, Plain, Byte, Pair, SignedByte, SignedPair, Jump, FarJump, Increment}
+use Rattle.code_forms.specs.Spellings.{Table, Lookup, Interface, Array, WideLocal, WideIncrement}
 use Rattle.code_decode.specs.Texts.{padding_of, zeros, spelling_text, FitsSpelling, Fits}
 use Rattle.code_decode.specs.Encoding.{plain_text}
 use Rattle.code_decode.proofs.Lengths.{table_len, lookup_len, few_targets}
 use Rattle.asm_lines.specs.declared.number.Number.{Number}
 use Rattle.asm_lines.specs.declared.operation.Operation.{Operation}
-use Rattle.asm_lines.specs.declared.operation.Operation.TheVariants.{Plain as PlainOp, Local, Bipush, Sipush, LoadInt, LoadString, Member, Class, Newarray, Iinc, Jump as JumpOp, GotoW, Tableswitch, Lookupswitch}
+use Rattle.asm_lines.specs.declared.operation.Operation.TheVariants.{Plain as PlainOp, Local, Bipush, Sipush, LoadInt, LoadString}
+use Rattle.asm_lines.specs.declared.operation.Operation.TheVariants.{Member, Class, Newarray, Iinc, Jump as JumpOp, GotoW}
+use Rattle.asm_lines.specs.declared.operation.Operation.TheVariants.{Tableswitch, Lookupswitch}
 use Rattle.asm_lines.specs.declared.item.Item.{Item}
 use Rattle.asm_lines.specs.declared.item.Item.TheVariants as items
 use Rattle.asm_codes.specs.declared.pooled.PoolOperand.{PoolOperand}
@@ -27,9 +31,11 @@ padding_again : (pc : ℕ) → padding_of (pc % 4) ≡ padding_of pc
 padding_again pc = ap (λ (n : ℕ). 3 - n) (mod_again pc)
 
 -- Places four bytes apart give the same size.
-turned : (pc : ℕ) (s : Spelling) → length (spelling_text (pc % 4) (zeros (padding_of (pc % 4))) s) ≡ length (spelling_text pc (zeros (padding_of pc)) s)
+turned : (pc : ℕ) (s : Spelling)
+    → length (spelling_text (pc % 4) (zeros (padding_of (pc % 4))) s) ≡ length (spelling_text pc (zeros (padding_of pc)) s)
 turned pc (Table op default low targets) = ap suc (
-    table_len (pc % 4) default low targets ∙ ap (λ (n : ℕ). n + 12 + 4 * length targets) (padding_again pc) ∙ sym (table_len pc default low targets))
+    table_len (pc % 4) default low targets ∙ ap (λ (n : ℕ). n + 12 + 4 * length targets) (padding_again pc)
+    ∙ sym (table_len pc default low targets))
 turned pc (Lookup op default cases) = ap suc (
     lookup_len (pc % 4) default cases ∙ ap (λ (n : ℕ). n + 8 + 8 * length cases) (padding_again pc) ∙ sym (lookup_len pc default cases))
 turned pc (Plain op) = refl
@@ -74,13 +80,16 @@ within_first limit pc l h = grind (arith, nat_tests)
 
 all_first : {A : Type 0} (f : A → List ℕ) (pc : ℕ) → pc < 4 → (xs : List A) → list_all (λ x. is_far nowhere pc (f x)) xs ≡ true
 all_first f pc h [] = refl
-all_first f pc h (x ∷ xs) = ap (λ b. b && list_all (λ y. is_far nowhere pc (f y)) xs) (within_first 2147483647 pc (omega arith) h) ∙ all_first f pc h xs
+all_first f pc h (x ∷ xs) = ap (λ b. b && list_all (λ y. is_far nowhere pc (f y)) xs) (within_first 2147483647 pc (omega arith) h)
+    ∙ all_first f pc h xs
 
 reaches_first : (pc : ℕ) (operation : Operation) → pc < 4 → reaches nowhere pc operation ≡ true
 reaches_first pc (JumpOp op label) h = within_first 32767 pc (omega arith) h
 reaches_first pc (GotoW label) h = within_first 2147483647 pc (omega arith) h
-reaches_first pc (Tableswitch low default labels) h = ap (λ b. b && list_all (is_far nowhere pc) labels) (within_first 2147483647 pc (omega arith) h) ∙ all_first (λ (l : List ℕ). l) pc h labels
-reaches_first pc (Lookupswitch default cases) h = ap (λ b. b && list_all (λ (c : Number × List ℕ). is_far nowhere pc c.1) cases) (within_first 2147483647 pc (omega arith) h) ∙ all_first (λ (c : Number × List ℕ). c.1) pc h cases
+reaches_first pc (Tableswitch low default labels) h = ap (λ b. b && list_all (is_far nowhere pc) labels)
+    (within_first 2147483647 pc (omega arith) h) ∙ all_first (λ (l : List ℕ). l) pc h labels
+reaches_first pc (Lookupswitch default cases) h = ap (λ b. b && list_all (λ (c : Number × List ℕ). is_far nowhere pc c.1) cases)
+    (within_first 2147483647 pc (omega arith) h) ∙ all_first (λ (c : Number × List ℕ). c.1) pc h cases
 reaches_first pc (PlainOp op) h = refl
 reaches_first pc (Local op n) h = refl
 reaches_first pc (Bipush n) h = refl

@@ -1,6 +1,7 @@
 -- The instruction that a line of a method says, with its numbers and its targets in their fields.
 -- JVM specification, section 6.5 (each instruction's operands; `wide`) and section 4.9.1 (switches, `newarray`).
-use Rattle.std.specs.Prelude.{ℕ, ◌-◌, ◌^◌, ℤ, pos, negsuc, ◌+ℤ◌, Bool, ◌&&◌, ◌==◌, nat_lt, nat_le, List, [], ◌∷◌, length, map, Option, Some, None, option_map, if◌then◌else◌}
+use Rattle.std.specs.Prelude.{ℕ, ◌-◌, ◌^◌, ℤ, pos, negsuc, ◌+ℤ◌, Bool, ◌&&◌, ◌==◌, nat_lt, nat_le, List, [], ◌∷◌, length, map}
+use Rattle.std.specs.Prelude.{Option, Some, None, option_map, if◌then◌else◌}
 use Rattle.std.specs.Option.{option_map_or, option_and_then}
 use Rattle.std.specs.Int.RustNames.{int_le}
 use Rattle.code_forms.specs.declared.insn.Case.{Case}
@@ -10,7 +11,8 @@ use Rattle.code_forms.specs.Cases.{is_rising}
 use Rattle.code_forms.specs.Opcodes.{find_by, plain, with_byte, with_pair, with_jump, wide_local}
 use Rattle.asm_lines.specs.declared.number.Number.{Number}
 use Rattle.asm_lines.specs.declared.operation.Operation.{Operation}
-use Rattle.asm_lines.specs.declared.operation.Operation.TheVariants.{Plain, Local, Bipush, Sipush, LoadInt, LoadString, Member, Class, Newarray, Iinc, Jump, GotoW, Tableswitch, Lookupswitch}
+use Rattle.asm_lines.specs.declared.operation.Operation.TheVariants.{Plain, Local, Bipush, Sipush, LoadInt, LoadString, Member}
+use Rattle.asm_lines.specs.declared.operation.Operation.TheVariants.{Class, Newarray, Iinc, Jump, GotoW, Tableswitch, Lookupswitch}
 use Rattle.asm_lines.specs.declared.item.Item.{Item}
 use Rattle.asm_lines.specs.declared.item.Item.TheVariants as items
 use Rattle.asm_codes.specs.declared.pooled.PoolOperand.{PoolOperand}
@@ -74,7 +76,8 @@ array_insn code = if nat_le 4 code && nat_le code 11 then Some (insns.Newarray c
 
 -- `iinc`, behind `wide` where the local or the number has two bytes
 abbrev pub increment : ℕ → ℤ → Insn
-increment local value = if nat_lt local 256 && between (negsuc 127) (pos 127) value then insns.Iinc local value else insns.WideIinc local value
+increment local value = if nat_lt local 256 && between (negsuc 127) (pos 127) value then insns.Iinc local value else insns.WideIinc
+    local value
 
 abbrev pub increment_insn : Number → Number → Option Insn
 increment_insn local value = option_and_then (λ n. option_map (λ v. increment n v) (pair_value value)) (pair_of local)
@@ -96,7 +99,8 @@ make_case key target = record { key = key; target = target }
 -- the cases, where each key is an int
 abbrev pub cases_of : Places → List (Number × List ℕ) → Option (List Case)
 cases_of places [] = Some []
-cases_of places (c ∷ cs) = option_and_then (λ key. option_map (λ cases. make_case key (target places c.1) ∷ cases) (cases_of places cs)) (int_of c.0)
+cases_of places (c ∷ cs) = option_and_then
+    (λ key. option_map (λ cases. make_case key (target places c.1) ∷ cases) (cases_of places cs)) (int_of c.0)
 
 -- Keys rise, and the count of cases has a field of four bytes.
 abbrev pub lookup_of : ℕ → List Case → Option Insn

@@ -1,5 +1,6 @@
 -- The faults of a method's lines that are none of their words: labels, distances, sizes.
-use Rattle.std.specs.Prelude.{ℕ, ◌+◌, ◌-◌, Bool, true, false, ◌&&◌, ◌||◌, not, ◌==◌, nat_lt, nat_le, List, [], ◌∷◌, ◌++◌, map, count_by, Option, Some, None, is_some, if◌then◌else◌}
+use Rattle.std.specs.Prelude.{ℕ, ◌+◌, ◌-◌, Bool, true, false, ◌&&◌, ◌||◌, not, ◌==◌, nat_lt, nat_le, List, [], ◌∷◌, ◌++◌, map}
+use Rattle.std.specs.Prelude.{count_by, Option, Some, None, is_some, if◌then◌else◌}
 use Rattle.std.specs.Option.{option_map_or, option_or}
 use Rattle.std.specs.List.{list_all, list_any}
 use Rattle.std.specs.Str.{bytes_eq}
@@ -102,7 +103,8 @@ item_is_out places entries pc fits size _ = false
 
 -- What a line needs of the pool isn't there, its item is out of range, or it ends an empty code.
 abbrev pub is_out : Places → ℕ → ℕ → Bool → ℕ → Pooled → Bool
-is_out places entries pc fits size x = not (is_some x.need) || item_is_out places entries pc fits size x.code.item || (x.code.ends && pc == 0)
+is_out places entries pc fits size x = not (is_some x.need) || item_is_out places entries pc fits size x.code.item
+    || (x.code.ends && pc == 0)
 
 -- ---- the first fault
 
@@ -120,7 +122,8 @@ line_fault places before pc x =
 -- the first fault of the lines, which stand at a place behind other lines
 abbrev pub first_fault_from : Places → List Pooled → ℕ → List Pooled → Option AsmFault
 first_fault_from places before pc [] = None
-first_fault_from places before pc (x ∷ xs) = option_or (line_fault places before pc x) (first_fault_from places (before ++ x ∷ []) (pc + size_at pc x) xs)
+first_fault_from places before pc (x ∷ xs) = option_or (line_fault places before pc x)
+    (first_fault_from places (before ++ x ∷ []) (pc + size_at pc x) xs)
 
 abbrev pub first_fault : Places → List Pooled → Option AsmFault
 first_fault places lines = first_fault_from places [] 0 lines

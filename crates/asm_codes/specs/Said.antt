@@ -1,6 +1,7 @@
 -- What the code of a method's lines says, line by line: a reading of the code that leans on no assembler.
 -- JVM specification, section 6.5 (each instruction) and section 4.7.3 (the code array and the exception table).
-use Rattle.std.specs.Prelude.{◌≡◌, Bool, ℕ, ℤ, pos, negsuc, ◌&&◌, ◌==◌, nat_lt, List, [], ◌∷◌, length, map, Option, Some, None, false, if◌then◌else◌}
+use Rattle.std.specs.Prelude.{◌≡◌, Bool, ℕ, ℤ, pos, negsuc, ◌&&◌, ◌==◌, nat_lt, List, [], ◌∷◌, length, map, Option, Some, None}
+use Rattle.std.specs.Prelude.{false, if◌then◌else◌}
 use Rattle.std.specs.Option.{option_map_or}
 use Rattle.std.specs.Str.{bytes_eq}
 use Rattle.code_decode.specs.Codes.{Spells}
@@ -16,7 +17,8 @@ use Rattle.asm_lines.specs.declared.item.Item.TheVariants as items
 use Rattle.asm_lines.specs.declared.listing.CodeLine.{CodeLine}
 use Rattle.asm_lines.specs.declared.number.Number.{Number}
 use Rattle.asm_lines.specs.declared.operation.Operation.{Operation}
-use Rattle.asm_lines.specs.declared.operation.Operation.TheVariants.{Plain, Local, Bipush, Sipush, LoadInt, LoadString, Member, Class, Newarray, Iinc, Jump, GotoW, Tableswitch, Lookupswitch}
+use Rattle.asm_lines.specs.declared.operation.Operation.TheVariants.{Plain, Local, Bipush, Sipush, LoadInt, LoadString, Member}
+use Rattle.asm_lines.specs.declared.operation.Operation.TheVariants.{Class, Newarray, Iinc, Jump, GotoW, Tableswitch, Lookupswitch}
 use Rattle.asm_codes.specs.Instructions.{Places, between}
 use Rattle.asm_codes.specs.Pooled.{Pooled}
 use Rattle.asm_codes.specs.declared.pooled.PoolOperand.{PoolOperand}
@@ -62,14 +64,17 @@ IsInsn place need (LoadString op text) s = s ≡ load_spelling op need.entry
 IsInsn place need (Member op class name desc) s = s ≡ member_spelling op need.entry need.words
 IsInsn place need (Class op name) s = s ≡ spellings.Pair op need.entry
 IsInsn place need (Newarray code) s = s ≡ spellings.Array 188 code
-IsInsn place need (Iinc n m) s = (local : ℕ) × (v : ℤ) × (pair_of n ≡ Some local) × (signed_of m ≡ Some v) × (s ≡ increment_spelling local v)
+IsInsn place need (Iinc n m) s = (local : ℕ) × (v : ℤ) × (pair_of n ≡ Some local) × (signed_of m ≡ Some v)
+    × (s ≡ increment_spelling local v)
 IsInsn place need (Jump op label) s = (target : ℕ) × (place label ≡ Some target) × (s ≡ spellings.Jump op target)
 IsInsn place need (GotoW label) s = (target : ℕ) × (place label ≡ Some target) × (s ≡ spellings.FarJump 200 target)
 IsInsn place need (Tableswitch low default labels) s =
-    (target : ℕ) × (key : ℤ) × (targets : List ℕ) × (place default ≡ Some target) × (int_of low ≡ Some key) × (map place labels ≡ map Some targets)
+    (target : ℕ) × (key : ℤ) × (targets : List ℕ) × (place default ≡ Some target) × (int_of low ≡ Some key)
+    × (map place labels ≡ map Some targets)
     × (s ≡ spellings.Table 170 target key targets)
 IsInsn place need (Lookupswitch default cs) s =
-    (target : ℕ) × (cases : List Case) × (place default ≡ Some target) × InTurn (IsCase place) cs cases × (s ≡ spellings.Lookup 171 target cases)
+    (target : ℕ) × (cases : List Case) × (place default ≡ Some target) × InTurn (IsCase place) cs cases
+    × (s ≡ spellings.Lookup 171 target cases)
 
 -- the same, where the pool entry is one that the line names
 abbrev pub SaysInsn : (Operation → PoolOperand → Type 0) → Places → Operation → Insn → Type 0
@@ -126,7 +131,8 @@ pub record SaysEntry (caught : Option (List ℕ) → ℕ → Type 0) (place : Pl
 
 -- The bytes are those of instructions, one behind the other, which are the lines'; the exception table is that of the
 -- `catch` lines.
-pub record SaysCode (named : Operation → PoolOperand → Type 0) (caught : Option (List ℕ) → ℕ → Type 0) (codes : List CodeLine) (bytes : List ℕ) (table : List Handler) : Type 0 where
+pub record SaysCode (named : Operation → PoolOperand → Type 0) (caught : Option (List ℕ) → ℕ → Type 0) (codes : List CodeLine)
+    (bytes : List ℕ) (table : List Handler) : Type 0 where
   pub insns : List (ℕ × Insn)
   pub spelled : Spells 0 insns bytes
   pub each : SaysLines (SaysInsn named (label_place (length bytes) insns codes)) codes insns

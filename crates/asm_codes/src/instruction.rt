@@ -2,7 +2,9 @@
 
 ghost use Rattle.std.specs.Prelude.{◌≡◌, map, IfOk};
 ghost use Rattle.asm_codes.specs.Places.{place_in, IsNear};
-ghost use Rattle.asm_codes.specs.Instructions.{target, byte_value, pair_value, local_insn, entry_insn, load_insn, interface_insn, member_insn, array_insn, increment, increment_insn, highest_fits, table_insn, cases_of, lookup_of, lookup_insn, insn_of};
+ghost use Rattle.asm_codes.specs.Instructions.{target, byte_value, pair_value, local_insn, entry_insn, load_insn, interface_insn};
+ghost use Rattle.asm_codes.specs.Instructions.{member_insn, array_insn, increment, increment_insn, highest_fits, table_insn};
+ghost use Rattle.asm_codes.specs.Instructions.{cases_of, lookup_of, lookup_insn, insn_of};
 
 use crate::labels::Labels;
 use crate::pooled::PoolOperand;

@@ -4,7 +4,9 @@ ghost use Rattle.std.specs.Prelude.{◌≡◌, [], ◌+◌, ◌<◌, ◌^◌, if
 ghost use Rattle.std.specs.List.{list_all};
 ghost use Rattle.std.specs.Option.{option_map_or};
 ghost use Rattle.asm_codes.specs.Places.{place_in, size_at};
-ghost use Rattle.asm_codes.specs.LineFaults.{operation_labels, catch_labels, item_labels, is_among, knows, is_within, is_near, is_far, reaches, passes, operation_is_out, is_catch, catch_is_out, item_is_out, is_out, fault_of, with_seen, first_fault};
+ghost use Rattle.asm_codes.specs.LineFaults.{operation_labels, catch_labels, item_labels, is_among, knows, is_within, is_near};
+ghost use Rattle.asm_codes.specs.LineFaults.{is_far, reaches, passes, operation_is_out, is_catch, catch_is_out, item_is_out, is_out};
+ghost use Rattle.asm_codes.specs.LineFaults.{fault_of, with_seen, first_fault};
 
 use crate::labels::{Labels, add_label};
 use crate::places::size_at;

@@ -14,7 +14,8 @@ Cases = List (Number × List ℕ)
 abbrev pub with_front : Cases → Said Cases → Said Cases
 with_front front said = said >>= λ cases. Ok (front ++ cases)
 
-regroup : (front : Cases) (x : Number × List ℕ) (said : Said Cases) → with_front front (said >>= λ cases. Ok (x ∷ cases)) ≡ with_front (front ++ x ∷ []) said
+regroup : (front : Cases) (x : Number × List ℕ) (said : Said Cases)
+    → with_front front (said >>= λ cases. Ok (x ∷ cases)) ≡ with_front (front ++ x ∷ []) said
 regroup front x (Ok cases) = ap (λ (cs : Cases). Ok cs) (sym (append_assoc front (x ∷ []) cases))
 regroup front x (Err fault) = refl
 
@@ -25,13 +26,17 @@ pub begins : (said : Said Cases) → with_front [] said ≡ said
 begins (Ok cases) = refl
 begins (Err fault) = refl
 
-pub goes : (line : ℕ) (front : Cases) (key label : List ℕ) (words : Words) (n : Number) → number_word line key ≡ Ok n → with_front front (cases_of line (key ∷ label ∷ words)) ≡ with_front (front ++ (n, label) ∷ []) (cases_of line words)
-goes line front key label words n h = ap (λ (r : Said Number). with_front front (case_with line label words r)) h ∙ regroup front (n, label) (cases_of line words)
+pub goes : (line : ℕ) (front : Cases) (key label : List ℕ) (words : Words) (n : Number) → number_word line key ≡ Ok n
+    → with_front front (cases_of line (key ∷ label ∷ words)) ≡ with_front (front ++ (n, label) ∷ []) (cases_of line words)
+goes line front key label words n h = ap (λ (r : Said Number). with_front front (case_with line label words r)) h
+    ∙ regroup front (n, label) (cases_of line words)
 
-pub no_number : (line : ℕ) (front : Cases) (key label : List ℕ) (words : Words) (fault : AsmFault) → number_word line key ≡ Err fault → with_front front (cases_of line (key ∷ label ∷ words)) ≡ Err fault
+pub no_number : (line : ℕ) (front : Cases) (key label : List ℕ) (words : Words) (fault : AsmFault)
+    → number_word line key ≡ Err fault → with_front front (cases_of line (key ∷ label ∷ words)) ≡ Err fault
 no_number line front key label words fault h = ap (λ (r : Said Number). with_front front (case_with line label words r)) h
 
-pub no_label : (line : ℕ) (front : Cases) (key : List ℕ) (words : Words) (fault : AsmFault) → next_word line words ≡ Err fault → with_front front (cases_of line (key ∷ words)) ≡ Err fault
+pub no_label : (line : ℕ) (front : Cases) (key : List ℕ) (words : Words) (fault : AsmFault) → next_word line words ≡ Err fault
+    → with_front front (cases_of line (key ∷ words)) ≡ Err fault
 no_label line front key [] fault h = let e : next_word line [] ≡ Err fault = h in cc
 no_label line front key (w ∷ words) fault h = absurd cc
 
@@ -44,7 +49,8 @@ answered x = Ok x
 ok_is : (x y : List ℕ × Words) → answered x ≡ answered y → x ≡ y
 ok_is x y h = cc
 
-pub step : (line : ℕ) (front : Cases) (rest : Words) (key : List ℕ) (after : Words) (label : List ℕ) (after2 : Words) (n : Number) (copied : List ℕ) (whole : Said Cases)
+pub step : (line : ℕ) (front : Cases) (rest : Words) (key : List ℕ) (after : Words) (label : List ℕ) (after2 : Words) (n : Number)
+    (copied : List ℕ) (whole : Said Cases)
     → rest ≡ key ∷ after → next_word line after ≡ Ok (label, after2) → number_word line key ≡ Ok n → copied ≡ label
     → with_front front (cases_of line rest) ≡ whole → with_front (front ++ (n, copied) ∷ []) (cases_of line after2) ≡ whole
 step line front rest key [] label after2 n copied whole r w num c h = absurd cc

@@ -1,5 +1,6 @@
 -- Decimal and hexadecimal digits, as loops read them.
-use Rattle.std.proofs.Common.{◌≡◌, ℕ, ◌+◌, ◌-◌, ◌*◌, ◌^◌, ◌<◌, ◌≤◌, ltb, List, [], ◌∷◌, ◌++◌, length, get_or, take, Option, Some, None, refl, sym, ap, ◌∙◌, append_assoc, arith, inl, inr}
+use Rattle.std.proofs.Common.{◌≡◌, ℕ, ◌+◌, ◌-◌, ◌*◌, ◌^◌, ◌<◌, ◌≤◌, ltb, List, [], ◌∷◌, ◌++◌, length, get_or, take, Option, Some}
+use Rattle.std.proofs.Common.{None, refl, sym, ap, ◌∙◌, append_assoc, arith, inl, inr}
 use Rattle.std.specs.Option.{option_map}
 use Rattle.std.proofs.lemmas.Bool.{cases_Bool, ltb-false, ltb-true, lt-ltb, le-ltb}
 use Rattle.std.proofs.lemmas.Grind.{take_at_read}
@@ -23,7 +24,8 @@ grown_capped n b = elim (cases_Bool (ltb n (2 ^ 64))) [
       ap (λ o. grown o b) (capped_none n large) ∙ sym (capped_none (n * 10 + (b - 48)) (omega arith))
 ]
 
-pub grows : (digits : List ℕ) (i : ℕ) → i < length digits → grown (capped (decimal (take i digits))) (get_or digits i 0) ≡ capped (decimal (take (i + 1) digits))
+pub grows : (digits : List ℕ) (i : ℕ) → i < length digits
+    → grown (capped (decimal (take i digits))) (get_or digits i 0) ≡ capped (decimal (take (i + 1) digits))
 grows digits i h =
     grown_capped (decimal (take i digits)) (get_or digits i 0)
     ∙ ap capped (sym (decimal_behind 0 (take i digits) (get_or digits i 0)))
@@ -41,8 +43,10 @@ behind_before : (front : List ℕ) (b : ℕ) (rest : Option (List ℕ)) → behi
 behind_before front b None = refl
 behind_before front b (Some bytes) = ap Some (sym (append_assoc front (b ∷ []) bytes))
 
-pub hex_step : (front : List ℕ) (first second b : ℕ) (rest : List ℕ) → byte_of (digit_of first) (digit_of second) ≡ Some b → behind front (bytes_of (first ∷ second ∷ rest)) ≡ behind (front ++ b ∷ []) (bytes_of rest)
+pub hex_step : (front : List ℕ) (first second b : ℕ) (rest : List ℕ) → byte_of (digit_of first) (digit_of second) ≡ Some b
+    → behind front (bytes_of (first ∷ second ∷ rest)) ≡ behind (front ++ b ∷ []) (bytes_of rest)
 hex_step front first second b rest h = ap (λ o. behind front (before o (bytes_of rest))) h ∙ behind_before front b (bytes_of rest)
 
-pub hex_stops : (front : List ℕ) (first second : ℕ) (rest : List ℕ) → byte_of (digit_of first) (digit_of second) ≡ None → behind front (bytes_of (first ∷ second ∷ rest)) ≡ None
+pub hex_stops : (front : List ℕ) (first second : ℕ) (rest : List ℕ) → byte_of (digit_of first) (digit_of second) ≡ None
+    → behind front (bytes_of (first ∷ second ∷ rest)) ≡ None
 hex_stops front first second rest h = ap (λ o. behind front (before o (bytes_of rest))) h

@@ -1,5 +1,6 @@
 -- What a listing without faults keeps.
-use Rattle.std.proofs.Common.{◌≡◌, ℕ, ◌<◌, suc, Bool, true, false, cond, ◌&&◌, List, [], ◌∷◌, ◌++◌, length, map, Option, Some, None, refl, ap}
+use Rattle.std.proofs.Common.{◌≡◌, ℕ, ◌<◌, suc, Bool, true, false, cond, ◌&&◌, List, [], ◌∷◌, ◌++◌, length, map, Option, Some, None}
+use Rattle.std.proofs.Common.{refl, ap}
 use Rattle.std.specs.Prelude.{nat_lt}
 use Rattle.std.specs.List.{flat_map, AllByRecursion}
 use Rattle.std.proofs.lemmas.Bool.{ltb-true}
@@ -8,7 +9,8 @@ use Rattle.asm_lines.specs.Firsts.{is_before, with_faults, unless}
 
 -- ---- no faults
 
-kept : (x y : AsmFault) (fs : List AsmFault) → ((z : AsmFault) → with_faults (Some z) fs ≡ None → ⊥) → (b : Bool) → with_faults (cond b (Some y) (Some x)) fs ≡ None → ⊥
+kept : (x y : AsmFault) (fs : List AsmFault) → ((z : AsmFault) → with_faults (Some z) fs ≡ None → ⊥) → (b : Bool)
+    → with_faults (cond b (Some y) (Some x)) fs ≡ None → ⊥
 kept x y fs more true h = more y h
 kept x y fs more false h = more x h
 
@@ -50,6 +52,7 @@ second_of_both false b h = absurd cc
 pub both_true : (a b : Bool) → a ≡ true → b ≡ true → a && b ≡ true
 both_true a b p q = rw (p, q) refl
 
-pub all_both : {A : Type 0} (P Q R : A → Type 0) → ((x : A) → P x → Q x → R x) → (xs : List A) → AllByRecursion P xs → AllByRecursion Q xs → AllByRecursion R xs
+pub all_both : {A : Type 0} (P Q R : A → Type 0) → ((x : A) → P x → Q x → R x) → (xs : List A) → AllByRecursion P xs
+    → AllByRecursion Q xs → AllByRecursion R xs
 all_both P Q R f [] p q = tt
 all_both P Q R f (x ∷ xs) p q = (f x p.0 q.0, all_both P Q R f xs p.1 q.1)

@@ -1,5 +1,6 @@
 -- What a listing's lines say together: plain texts, methods that are ended, and entries of a pool that fit.
-use Rattle.std.proofs.Common.{◌≡◌, ℕ, ◌+◌, Bool, true, false, cond, not, ◌&&◌, ◌||◌, List, [], ◌∷◌, ◌++◌, length, drop, Option, Some, None, is_some, Ok, Err, refl, ap}
+use Rattle.std.proofs.Common.{◌≡◌, ℕ, ◌+◌, Bool, true, false, cond, not, ◌&&◌, ◌||◌, List, [], ◌∷◌, ◌++◌, length, drop, Option}
+use Rattle.std.proofs.Common.{Some, None, is_some, Ok, Err, refl, ap}
 use Rattle.std.specs.Prelude.{codes}
 use Rattle.std.specs.List.{list_any, AllByRecursion}
 use Rattle.std.specs.Option.{option_map_or}
@@ -19,8 +20,12 @@ use Rattle.asm_lines.specs.Operations.{all_names}
 use Rattle.asm_lines.specs.LinesAndWords.{is_plain, lines_of, words_of}
 use Rattle.list_views.specs.Results.{◌>>=◌}
 use Rattle.asm_lines.specs.Statements.{Said, Words, constant_line, field_line, attribute_line, method_line}
-use Rattle.asm_lines.specs.Listings.{is_skipped, outside_of, make_method, with_outside, with_first, outside_line, labelled, read_item, item_in, code_line, with_code, with_said, method_of_line, plain_outside, with_line, with_lines, no_lines, with_unended, ended, class_said, first_line, listing_of}
-use Rattle.asm_lines.proofs.PlainWords.{ArePlain, words_plain, Holds, onward, either, PlainField, field_plain, PlainAttribute, attribute_plain, PlainConstant, constant_plain, PlainClass, class_plain, GoodHead, head_plain, PlainItem, item_plain}
+use Rattle.asm_lines.specs.Listings.{is_skipped, outside_of, make_method, with_outside, with_first, outside_line, labelled}
+use Rattle.asm_lines.specs.Listings.{read_item, item_in, code_line, with_code, with_said, method_of_line, plain_outside, with_line}
+use Rattle.asm_lines.specs.Listings.{with_lines, no_lines, with_unended, ended, class_said, first_line, listing_of}
+use Rattle.asm_lines.proofs.PlainWords.{ArePlain, words_plain, Holds, onward, either, PlainField, field_plain, PlainAttribute}
+use Rattle.asm_lines.proofs.PlainWords.{attribute_plain, PlainConstant, constant_plain, PlainClass, class_plain, GoodHead}
+use Rattle.asm_lines.proofs.PlainWords.{head_plain, PlainItem, item_plain}
 
 -- ---- methods
 
@@ -63,17 +68,32 @@ outside_good : (line : ℕ) (words : Words) → ArePlain words → Holds GoodOut
 unfolding outside_of
 outside_good line [] h = tt
 outside_good line (word ∷ words) h =
-    either GoodOutside (bytes_eq word (codes "constant")) (constant_line line words >>= λ x. Ok (outsides.Constant x)) (cond (bytes_eq word (codes "field")) (field_line line words >>= λ x. Ok (outsides.Field x)) (cond (bytes_eq word (codes "attribute")) (attribute_line line words >>= λ x. Ok (outsides.Attribute x)) (cond (bytes_eq word (codes "method")) (method_line line words >>= λ x. Ok (outsides.Method x)) (Err (Syntax line)))))
-    (onward PlainConstant GoodOutside (constant_line line words) (λ x. Ok (outsides.Constant x)) (constant_plain line words h.1) (λ x p. p))
-    (either GoodOutside (bytes_eq word (codes "field")) (field_line line words >>= λ x. Ok (outsides.Field x)) (cond (bytes_eq word (codes "attribute")) (attribute_line line words >>= λ x. Ok (outsides.Attribute x)) (cond (bytes_eq word (codes "method")) (method_line line words >>= λ x. Ok (outsides.Method x)) (Err (Syntax line))))
+    either GoodOutside (bytes_eq word (codes "constant")) (constant_line line words >>= λ x. Ok (outsides.Constant x))
+    (cond (bytes_eq word (codes "field")) (field_line line words >>= λ x. Ok (outsides.Field x))
+    (cond (bytes_eq word (codes "attribute")) (attribute_line line words >>= λ x. Ok (outsides.Attribute x))
+    (cond (bytes_eq word (codes "method")) (method_line line words >>= λ x. Ok (outsides.Method x)) (Err (Syntax line)))))
+    (onward PlainConstant GoodOutside (constant_line line words) (λ x. Ok (outsides.Constant x)) (constant_plain line words h.1)
+    (λ x p. p))
+    (either GoodOutside (bytes_eq word (codes "field")) (field_line line words >>= λ x. Ok (outsides.Field x))
+    (cond (bytes_eq word (codes "attribute")) (attribute_line line words >>= λ x. Ok (outsides.Attribute x))
+    (cond (bytes_eq word (codes "method")) (method_line line words >>= λ x. Ok (outsides.Method x)) (Err (Syntax line))))
     (onward PlainField GoodOutside (field_line line words) (λ x. Ok (outsides.Field x)) (field_plain line words h.1) (λ x p. p))
-    (either GoodOutside (bytes_eq word (codes "attribute")) (attribute_line line words >>= λ x. Ok (outsides.Attribute x)) (cond (bytes_eq word (codes "method")) (method_line line words >>= λ x. Ok (outsides.Method x)) (Err (Syntax line)))
-    (onward PlainAttribute GoodOutside (attribute_line line words) (λ x. Ok (outsides.Attribute x)) (attribute_plain line words h.1) (λ x p. p))
+    (either GoodOutside (bytes_eq word (codes "attribute")) (attribute_line line words >>= λ x. Ok (outsides.Attribute x))
+    (cond (bytes_eq word (codes "method")) (method_line line words >>= λ x. Ok (outsides.Method x)) (Err (Syntax line)))
+    (onward PlainAttribute GoodOutside (attribute_line line words) (λ x. Ok (outsides.Attribute x)) (attribute_plain line words h.1)
+    (λ x p. p))
     (either GoodOutside (bytes_eq word (codes "method")) (method_line line words >>= λ x. Ok (outsides.Method x)) (Err (Syntax line))
     (onward GoodHead GoodOutside (method_line line words) (λ x. Ok (outsides.Method x)) (head_plain line words h.1) (λ x p. p)) tt)))
 
-method_by : (l : Listing) (m : MethodLines) (b : Bool) → is_some m.head.sizes ≡ b → GoodListing l → OpenMethod m → GoodListing (cond b (record l { unended = Some m }) (record l { methods = l.methods ++ m ∷ [] }))
-method_by l m true e h o = record { constants = h.constants; fields = h.fields; methods = h.methods; attributes = h.attributes; unended = o }
+method_by : (l : Listing) (m : MethodLines) (b : Bool) → is_some m.head.sizes ≡ b → GoodListing l → OpenMethod m
+    → GoodListing (cond b (record l { unended = Some m }) (record l { methods = l.methods ++ m ∷ [] }))
+method_by l m true e h o = record {
+  constants = h.constants;
+  fields = h.fields;
+  methods = h.methods;
+  attributes = h.attributes;
+  unended = o;
+}
 method_by l m false e h o = record {
   constants = h.constants;
   fields = h.fields;
@@ -83,15 +103,44 @@ method_by l m false e h o = record {
 }
 
 outside_with : (l : Listing) (line : ℕ) (said : Outside) → GoodListing l → GoodOutside said → GoodListing (with_outside l line said)
-outside_with l line (outsides.Constant x) h g = record { constants = joined (λ c. PlainConstant c.1) l.constants (line, x) h.constants g; fields = h.fields; methods = h.methods; attributes = h.attributes; unended = h.unended }
-outside_with l line (outsides.Field x) h g = record { constants = h.constants; fields = joined (λ f. PlainField f.1) l.fields (line, x) h.fields g; methods = h.methods; attributes = h.attributes; unended = h.unended }
-outside_with l line (outsides.Attribute x) h g = record { constants = h.constants; fields = h.fields; methods = h.methods; attributes = joined (λ a. PlainAttribute a.1) l.attributes (line, x) h.attributes g; unended = h.unended }
-outside_with l line (outsides.Method head) h g = method_by l (make_method line head []) (is_some head.sizes) refl h (record { head = g; items = tt })
+outside_with l line (outsides.Constant x) h g = record {
+  constants = joined (λ c. PlainConstant c.1) l.constants (line, x) h.constants g;
+  fields = h.fields;
+  methods = h.methods;
+  attributes = h.attributes;
+  unended = h.unended;
+}
+outside_with l line (outsides.Field x) h g = record {
+  constants = h.constants;
+  fields = joined (λ f. PlainField f.1) l.fields (line, x) h.fields g;
+  methods = h.methods;
+  attributes
+      = h.attributes;
+  unended = h.unended;
+}
+outside_with l line (outsides.Attribute x) h g = record {
+  constants = h.constants;
+  fields = h.fields;
+  methods = h.methods;
+  attributes = joined (λ a. PlainAttribute a.1) l.attributes
+      (line, x) h.attributes g;
+  unended = h.unended;
+}
+outside_with l line (outsides.Method head) h g = method_by l (make_method line head []) (is_some head.sizes) refl h
+    (record { head = g; items = tt })
 
 faulty : (l : Listing) (fault : AsmFault) → GoodListing l → GoodListing (with_first l fault)
-faulty l fault h = record { constants = h.constants; fields = h.fields; methods = h.methods; attributes = h.attributes; unended = h.unended }
+faulty l fault h = record {
+  constants = h.constants;
+  fields = h.fields;
+  methods = h.methods;
+  attributes = h.attributes;
+  unended =
+      h.unended;
+}
 
-outside_said : (l : Listing) (line : ℕ) (said : Said Outside) → GoodListing l → Holds GoodOutside said → GoodListing (outside_line l line said)
+outside_said : (l : Listing) (line : ℕ) (said : Said Outside) → GoodListing l → Holds GoodOutside said
+    → GoodListing (outside_line l line said)
 outside_said l line (Ok x) h g = outside_with l line x h g
 outside_said l line (Err fault) h g = faulty l fault h
 
@@ -112,7 +161,8 @@ labelled_plain : (words : Words) → ArePlain words → ArePlain (labelled words
 labelled_plain [] h = tt
 labelled_plain (word ∷ words) h = labelled_by word words (label_of word) h
 
-read_by : (names : Names) (line : ℕ) (b has_label : Bool) (words : Words) → (b ≡ true → ArePlain words) → Holds PlainItem (read_item names line b has_label words)
+read_by : (names : Names) (line : ℕ) (b has_label : Bool) (words : Words) → (b ≡ true → ArePlain words)
+    → Holds PlainItem (read_item names line b has_label words)
 read_by names line true has_label words h = item_plain names line has_label words (h refl)
 read_by names line false has_label words h = tt
 
@@ -132,34 +182,52 @@ ended_by (x ∷ lines) code h = or_true x.ends (has_end (lines ++ code ∷ [])) 
     or_true true b k = refl
     or_true false b k = k
 
-code_by : (l : Listing) (m : MethodLines) (code : CodeLine) (b : Bool) → code.ends ≡ b → GoodListing l → OpenMethod (make_method m.line m.head (m.lines ++ code ∷ []))
-    → GoodListing (cond b (record l { methods = l.methods ++ make_method m.line m.head (m.lines ++ code ∷ []) ∷ []; unended = None }) (record l { unended = Some (make_method m.line m.head (m.lines ++ code ∷ [])) }))
+code_by : (l : Listing) (m : MethodLines) (code : CodeLine) (b : Bool) → code.ends ≡ b → GoodListing l
+    → OpenMethod (make_method m.line m.head (m.lines ++ code ∷ []))
+    → GoodListing (cond b
+    (record l { methods = l.methods ++ make_method m.line m.head (m.lines ++ code ∷ []) ∷ []; unended = None })
+    (record l { unended = Some (make_method m.line m.head (m.lines ++ code ∷ [])) }))
 code_by l m code true e h o = record {
   constants = h.constants;
   fields = h.fields;
-  methods = joined GoodMethod l.methods (make_method m.line m.head (m.lines ++ code ∷ [])) h.methods (record { open_method = o; ended = λ k. ended_by m.lines code e });
+  methods = joined GoodMethod l.methods (make_method m.line m.head (m.lines ++ code ∷ [])) h.methods
+      (record { open_method = o; ended = λ k. ended_by m.lines code e });
   attributes = h.attributes;
   unended = tt;
 }
-code_by l m code false e h o = record { constants = h.constants; fields = h.fields; methods = h.methods; attributes = h.attributes; unended = o }
+code_by l m code false e h o = record {
+  constants = h.constants;
+  fields = h.fields;
+  methods = h.methods;
+  attributes = h.attributes;
+  unended = o;
+}
 
-code_good : (l : Listing) (m : MethodLines) (code : CodeLine) → GoodListing l → OpenMethod m → PlainItem code.item → GoodListing (with_code l m code)
-code_good l m code h o p = code_by l m code code.ends refl h (record { head = o.head; items = joined (λ c. PlainItem c.item) m.lines code o.items p })
+code_good : (l : Listing) (m : MethodLines) (code : CodeLine) → GoodListing l → OpenMethod m → PlainItem code.item
+    → GoodListing (with_code l m code)
+code_good l m code h o p = code_by l m code code.ends refl h
+    (record { head = o.head; items = joined (λ c. PlainItem c.item) m.lines code o.items p })
 
-in_method : (names : Names) (l : Listing) (m : MethodLines) (line : ℕ) (b : Bool) (words : Option (List ℕ) × Words) → GoodListing l → OpenMethod m → (b ≡ true → ArePlain words.1)
+in_method : (names : Names) (l : Listing) (m : MethodLines) (line : ℕ) (b : Bool) (words : Option (List ℕ) × Words) → GoodListing l
+    → OpenMethod m → (b ≡ true → ArePlain words.1)
     → GoodListing (method_of_line names l m line b words)
 in_method names l m line b words h o p =
     let said = read_item names line b (is_some words.0) words.1 in
-    code_good (with_said l said) m (code_line line words said) (said_good l said h) o (in_item said (read_by names line b (is_some words.0) words.1 p))
+    code_good (with_said l said) m (code_line line words said) (said_good l said h) o
+    (in_item said (read_by names line b (is_some words.0) words.1 p))
 
 -- ---- all lines
 
 line_by : (names : Names) (line : ℕ) (text : List ℕ) (l : Listing) (o : Option MethodLines) → GoodListing l → OpenOption o
-    → GoodListing (option_map_or (λ m. method_of_line names (record l { unended = None }) m line (is_plain text) (labelled (words_of text))) o (outside_line l line (plain_outside line (is_plain text) (words_of text))))
-line_by names line text l None h o = outside_said l line (plain_outside line (is_plain text) (words_of text)) h (plain_by line (words_of text) (is_plain text) (λ p. words_plain text p))
+    → GoodListing (option_map_or
+    (λ m. method_of_line names (record l { unended = None }) m line (is_plain text) (labelled (words_of text))) o
+    (outside_line l line (plain_outside line (is_plain text) (words_of text))))
+line_by names line text l None h o = outside_said l line (plain_outside line (is_plain text) (words_of text)) h
+    (plain_by line (words_of text) (is_plain text) (λ p. words_plain text p))
 line_by names line text l (Some m) h o =
     in_method names (record l { unended = None }) m line (is_plain text) (labelled (words_of text))
-    (record { constants = h.constants; fields = h.fields; methods = h.methods; attributes = h.attributes; unended = tt }) o (λ p. labelled_plain (words_of text) (words_plain text p))
+    (record { constants = h.constants; fields = h.fields; methods = h.methods; attributes = h.attributes; unended = tt }) o
+    (λ p. labelled_plain (words_of text) (words_plain text p))
 
 skipped_by : (l k : Listing) (b : Bool) → GoodListing l → GoodListing k → GoodListing (cond b l k)
 skipped_by l k true h g = h
@@ -169,7 +237,9 @@ lines_good : (names : Names) (line : ℕ) (texts : List (List ℕ)) (l : Listing
 lines_good names line [] l h = h
 lines_good names line (text ∷ texts) l h =
     lines_good names (line + 1) texts (with_line names line text l)
-    (skipped_by l (option_map_or (λ m. method_of_line names (record l { unended = None }) m line (is_plain text) (labelled (words_of text))) l.unended (outside_line l line (plain_outside line (is_plain text) (words_of text))))
+    (skipped_by l (option_map_or
+    (λ m. method_of_line names (record l { unended = None }) m line (is_plain text) (labelled (words_of text))) l.unended
+    (outside_line l line (plain_outside line (is_plain text) (words_of text))))
     (is_plain text && is_skipped (words_of text)) h (line_by names line text l l.unended h h.unended))
 
 -- ---- the listing
@@ -202,11 +272,13 @@ first_by : (line : ℕ) (text : List ℕ) (rest : Said (ℕ × ClassLine)) (a b 
     → Holds GoodFirst (cond (not a) (Err (Syntax line)) (cond b rest (class_said line (words_of text) >>= λ class. Ok (line, class))))
 first_by line text rest false b e h = tt
 first_by line text rest true true e h = h
-first_by line text rest true false e h = onward PlainClass GoodFirst (class_said line (words_of text)) (λ class. Ok (line, class)) (class_good line (words_of text) (words_plain text e)) (λ class c. c)
+first_by line text rest true false e h = onward PlainClass GoodFirst (class_said line (words_of text)) (λ class. Ok (line, class))
+    (class_good line (words_of text) (words_plain text e)) (λ class c. c)
 
 first_good : (line : ℕ) (texts : List (List ℕ)) → Holds GoodFirst (first_line line texts)
 first_good line [] = tt
-first_good line (text ∷ texts) = first_by line text (first_line (line + 1) texts) (is_plain text) (is_skipped (words_of text)) refl (first_good (line + 1) texts)
+first_good line (text ∷ texts) = first_by line text (first_line (line + 1) texts) (is_plain text) (is_skipped (words_of text)) refl
+    (first_good (line + 1) texts)
 
 abbrev pub GoodLines : ℕ × ClassLine × Listing → Type 0
 GoodLines x = PlainClass x.1 × (x.2.first.fault ≡ None → GoodListing x.2)
@@ -215,6 +287,12 @@ pub listing_good : (text : List ℕ) → Holds GoodLines (listing_of text)
 unfolding listing_of
 listing_good text =
     let lines = lines_of text in
-    onward GoodFirst GoodLines (first_line 1 lines) (λ begin. Ok (begin.0, begin.1, ended (with_lines all_names (begin.0 + 1) (drop begin.0 lines) no_lines) (length lines))) (first_good 1 lines) (λ begin b.
-    let l = with_lines all_names (begin.0 + 1) (drop begin.0 lines) no_lines in
-    (b, ended_good l (length lines) l.unended (lines_good all_names (begin.0 + 1) (drop begin.0 lines) no_lines (record { constants = tt; fields = tt; methods = tt; attributes = tt; unended = tt }))))
+    onward GoodFirst GoodLines (first_line 1 lines)
+    (λ begin. Ok (begin.0, begin.1, ended (with_lines all_names (begin.0 + 1) (drop begin.0 lines) no_lines) (length lines)))
+    (first_good 1 lines) (λ begin b.
+    let l = with_lines all_names (begin.0 + 1) (drop begin.0 lines) no_lines in (
+      b,
+      ended_good l (length lines) l.unended
+          (lines_good all_names (begin.0 + 1) (drop begin.0 lines) no_lines
+          (record { constants = tt; fields = tt; methods = tt; attributes = tt; unended = tt })),
+    ))

@@ -12,7 +12,8 @@ names_more op = rw add-one refl
 abbrev pub seen : Bor (List ℕ) × ℕ → List ℕ × ℕ
 seen e = (e.0.now, e.1)
 
-pub one_name : (names : List (Bor (List ℕ) × ℕ)) (e : Bor (List ℕ) × ℕ) → map seen (names ++ e ∷ []) ≡ map seen names ++ (e.0.now, e.1) ∷ []
+pub one_name : (names : List (Bor (List ℕ) × ℕ)) (e : Bor (List ℕ) × ℕ)
+    → map seen (names ++ e ∷ []) ≡ map seen names ++ (e.0.now, e.1) ∷ []
 one_name names e = map-append seen names (e ∷ [])
 
 -- the names that an opcode adds, with and without an instruction

@@ -2,10 +2,12 @@
 use Rattle.std.proofs.Common.{◌≡◌, Result, Err, refl}
 use Rattle.list_views.specs.Results.{IsDue}
 use Rattle.asm_lines.specs.declared.fault.AsmFault.{AsmFault}
-use Rattle.asm_lines.specs.declared.fault.AsmFault.TheVariants.{Syntax, UnknownOpcode, UnknownLabel, DuplicateLabel, OutOfRange, NoEnd, Memory}
+use Rattle.asm_lines.specs.declared.fault.AsmFault.TheVariants.{Syntax, UnknownOpcode, UnknownLabel, DuplicateLabel, OutOfRange}
+use Rattle.asm_lines.specs.declared.fault.AsmFault.TheVariants.{NoEnd, Memory}
 use Rattle.asm_lines.specs.Statements.{is_memory}
 
-pub fails_is : {Y : Type 0} (fault : AsmFault) (said : Result Y AsmFault) → (fault ≡ Memory → ⊥) → IsDue is_memory fault said → said ≡ Err fault
+pub fails_is : {Y : Type 0} (fault : AsmFault) (said : Result Y AsmFault) → (fault ≡ Memory → ⊥) → IsDue is_memory fault said
+    → said ≡ Err fault
 fails_is (Syntax line) said differs h = h
 fails_is (UnknownOpcode line) said differs h = h
 fails_is (UnknownLabel line) said differs h = h

@@ -1,5 +1,6 @@
 -- What the lines of a listing say is made of their words, which are printable ASCII.
-use Rattle.std.proofs.Common.{◌≡◌, ℕ, ◌<◌, ◌^◌, Bool, true, false, cond, not, ◌&&◌, eqb, List, [], ◌∷◌, ◌++◌, Option, Some, None, is_some, Ok, Err, refl, arith}
+use Rattle.std.proofs.Common.{◌≡◌, ℕ, ◌<◌, ◌^◌, Bool, true, false, cond, not, ◌&&◌, eqb, List, [], ◌∷◌, ◌++◌, Option, Some, None}
+use Rattle.std.proofs.Common.{is_some, Ok, Err, refl, arith}
 use Rattle.std.specs.Prelude.{filter, codes, bit_and, bit_or, nat_lt}
 use Rattle.std.specs.List.{AllByRecursion}
 use Rattle.std.specs.Option.{option_map_or}
@@ -26,10 +27,14 @@ use Rattle.asm_lines.specs.declared.statement.MethodLine.{MethodLine}
 use Rattle.asm_lines.specs.ClassLines.{plain_class, any_word, class_word, ends_class, class_words, class_line}
 use Rattle.asm_lines.specs.Items.{caught, make_catch, catch_line, Names, operation_of, plain_item, item_of}
 use Rattle.asm_lines.specs.Numbers.{is_digits, decimal, capped, number_of_digits, number_of}
-use Rattle.asm_lines.specs.Operations.{one_number, load_value, load_operation, member_operation, increment_operation, some_labels, table_operation, cases_of, lookup_operation, array_operation, operands, template, opcode_in, kind_code}
+use Rattle.asm_lines.specs.Operations.{one_number, load_value, load_operation, member_operation, increment_operation, some_labels}
+use Rattle.asm_lines.specs.Operations.{table_operation, cases_of, lookup_operation, array_operation, operands, template, opcode_in}
+use Rattle.asm_lines.specs.Operations.{kind_code}
 use Rattle.asm_lines.specs.LinesAndWords.{onto, parts, is_word, words_of, is_plain_byte, is_plain}
 use Rattle.list_views.specs.Results.{◌>>=◌}
-use Rattle.asm_lines.specs.Statements.{Said, Words, next_word, no_more, is_new, number_word, one_word, constant_of, constant_line, static_word, make_field, field_line, flag_of, flag_words, size_words, sizes_of, make_method, method_line, hex_word, make_attribute, attribute_line}
+use Rattle.asm_lines.specs.Statements.{Said, Words, next_word, no_more, is_new, number_word, one_word, constant_of, constant_line}
+use Rattle.asm_lines.specs.Statements.{static_word, make_field, field_line, flag_of, flag_words, size_words, sizes_of, make_method}
+use Rattle.asm_lines.specs.Statements.{method_line, hex_word, make_attribute, attribute_line}
 
 -- ---- plain texts
 
@@ -75,7 +80,8 @@ abbrev pub Holds : {A : Type 0} → (A → Type 0) → Said A → Type 0
 Holds P (Ok x) = P x
 Holds P (Err fault) = Unit {0}
 
-pub onward : {A B : Type 0} (P : A → Type 0) (Q : B → Type 0) (r : Said A) (next : A → Said B) → Holds P r → ((x : A) → P x → Holds Q (next x)) → Holds Q (r >>= next)
+pub onward : {A B : Type 0} (P : A → Type 0) (Q : B → Type 0) (r : Said A) (next : A → Said B) → Holds P r
+    → ((x : A) → P x → Holds Q (next x)) → Holds Q (r >>= next)
 onward P Q (Ok x) next h k = k x h
 onward P Q (Err fault) next h k = tt
 
@@ -87,7 +93,8 @@ pub either : {B : Type 0} (Q : B → Type 0) (b : Bool) (x y : Said B) → Holds
 either Q true x y h k = h
 either Q false x y h k = k
 
-pub perhaps : {A B : Type 0} (Q : B → Type 0) (f : A → Said B) (o : Option A) (e : Said B) → ((x : A) → Holds Q (f x)) → Holds Q e → Holds Q (option_map_or f o e)
+pub perhaps : {A B : Type 0} (Q : B → Type 0) (f : A → Said B) (o : Option A) (e : Said B) → ((x : A) → Holds Q (f x)) → Holds Q e
+    → Holds Q (option_map_or f o e)
 perhaps Q f (Some x) e h k = h x
 perhaps Q f None e h k = k
 
@@ -100,7 +107,8 @@ next_plain line (word ∷ words) h = h
 
 one_plain : (line : ℕ) (words : Words) → ArePlain words → Holds IsPlain (one_word line words)
 unfolding one_word
-one_plain line words h = onward PlainNext IsPlain _ _ (next_plain line words h) (λ word w. after IsPlain (no_more line word.1) (λ x0. Ok word.0) (λ _. w.0))
+one_plain line words h = onward PlainNext IsPlain _ _ (next_plain line words h)
+    (λ word w. after IsPlain (no_more line word.1) (λ x0. Ok word.0) (λ _. w.0))
 
 -- ---- fields and attributes
 
@@ -110,8 +118,11 @@ PlainField f = IsPlain f.name × IsPlain f.desc
 pub field_plain : (line : ℕ) (words : Words) → ArePlain words → Holds PlainField (field_line line words)
 unfolding field_line
 field_plain line words h =
-    onward PlainNext PlainField (next_word line words) (λ name. next_word line name.1 >>= λ desc. static_word line desc.1 >>= λ is_static. Ok (make_field name.0 desc.0 is_static)) (next_plain line words h) (λ name n.
-    onward PlainNext PlainField (next_word line name.1) (λ desc. static_word line desc.1 >>= λ is_static. Ok (make_field name.0 desc.0 is_static)) (next_plain line name.1 n.1) (λ desc d.
+    onward PlainNext PlainField (next_word line words)
+    (λ name. next_word line name.1 >>= λ desc. static_word line desc.1 >>= λ is_static. Ok (make_field name.0 desc.0 is_static))
+    (next_plain line words h) (λ name n.
+    onward PlainNext PlainField (next_word line name.1)
+    (λ desc. static_word line desc.1 >>= λ is_static. Ok (make_field name.0 desc.0 is_static)) (next_plain line name.1 n.1) (λ desc d.
     after PlainField (static_word line desc.1) (λ is_static. Ok (make_field name.0 desc.0 is_static)) (λ is_static. (n.0, d.0))))
 
 abbrev pub PlainAttribute : AttributeLine → Type 0
@@ -121,7 +132,12 @@ pub attribute_plain : (line : ℕ) (words : Words) → ArePlain words → Holds 
 unfolding attribute_line
 attribute_plain line words h =
     onward PlainNext PlainAttribute _ _ (next_plain line words h) (λ name n.
-    after PlainAttribute (next_word line name.1) (λ x0. ◌>>=◌ {B = AttributeLine} (no_more line x0.1) (λ y. ◌>>=◌ {B = AttributeLine} (hex_word line x0.0) (λ z. Ok (make_attribute name.0 z)))) (λ hex. after PlainAttribute (no_more line hex.1) (λ x0. ◌>>=◌ {B = AttributeLine} (hex_word line hex.0) (λ y. Ok (make_attribute name.0 y))) (λ _. after PlainAttribute (hex_word line hex.0) (λ y. Ok (make_attribute name.0 y)) (λ content. n.0))))
+    after PlainAttribute (next_word line name.1)
+    (λ x0. ◌>>=◌ {B = AttributeLine} (no_more line x0.1)
+    (λ y. ◌>>=◌ {B = AttributeLine} (hex_word line x0.0) (λ z. Ok (make_attribute name.0 z))))
+    (λ hex. after PlainAttribute (no_more line hex.1)
+    (λ x0. ◌>>=◌ {B = AttributeLine} (hex_word line hex.0) (λ y. Ok (make_attribute name.0 y)))
+    (λ _. after PlainAttribute (hex_word line hex.0) (λ y. Ok (make_attribute name.0 y)) (λ content. n.0))))
 
 -- ---- constants
 
@@ -144,7 +160,8 @@ capped_by n false h = tt
 pub capped_small : (n : ℕ) → IsCapped (capped n)
 capped_small n = capped_by n (nat_lt n (2 ^ 64)) refl
 
-digits_by : (negative : Bool) (digits : List ℕ) (b : Bool) → SmallOption (cond b (Some (record { negative = negative; size = capped (decimal digits) })) None)
+digits_by : (negative : Bool) (digits : List ℕ) (b : Bool)
+    → SmallOption (cond b (Some (record { negative = negative; size = capped (decimal digits) })) None)
 digits_by negative digits true = capped_small (decimal digits)
 digits_by negative digits false = tt
 
@@ -155,7 +172,8 @@ number_by false x y h k = k
 number_small : (word : List ℕ) → SmallOption (number_of word)
 number_small [] = tt
 number_small (b ∷ bytes) =
-    number_by (eqb b 45) (number_of_digits true bytes) (number_of_digits false (b ∷ bytes)) (digits_by true bytes (is_digits bytes)) (digits_by false (b ∷ bytes) (is_digits (b ∷ bytes)))
+    number_by (eqb b 45) (number_of_digits true bytes) (number_of_digits false (b ∷ bytes)) (digits_by true bytes (is_digits bytes))
+    (digits_by false (b ∷ bytes) (is_digits (b ∷ bytes)))
 
 said_number : (line : ℕ) (o : Option Number) → SmallOption o → Holds IsSmall (option_map_or (λ n. Ok n) o (Err (Syntax line)))
 said_number line (Some n) h = h
@@ -173,8 +191,10 @@ PlainConstant (constants.Str text) = IsPlain text
 constant_said : (line : ℕ) (kind value : List ℕ) → IsPlain value → Holds PlainConstant (constant_of line kind value)
 unfolding constant_of
 constant_said line kind value h =
-    either PlainConstant (bytes_eq kind (codes "long")) _ _ (after PlainConstant (number_word line value) (λ x0. Ok (constants.Long x0)) (λ n. tt))
-    (either PlainConstant (bytes_eq kind (codes "float")) _ _ (after PlainConstant (number_word line value) (λ x0. Ok (constants.Float x0)) (λ n. tt))
+    either PlainConstant (bytes_eq kind (codes "long")) _ _
+    (after PlainConstant (number_word line value) (λ x0. Ok (constants.Long x0)) (λ n. tt))
+    (either PlainConstant (bytes_eq kind (codes "float")) _ _
+    (after PlainConstant (number_word line value) (λ x0. Ok (constants.Float x0)) (λ n. tt))
     (either PlainConstant (bytes_eq kind (codes "double")) _ _ (onward IsSmall PlainConstant _ _ (word_small line value) (λ n s. s))
     (either PlainConstant (bytes_eq kind (codes "string")) _ _ h tt)))
 
@@ -200,18 +220,59 @@ one_more (x ∷ ws) w h k = (h.0, one_more ws w h.1 k)
 any_plain : (line : ℕ) (class : ClassLine) (word : List ℕ) → PlainClass class → Holds PlainStep (any_word line class word)
 unfolding any_word
 any_plain line class word h =
-    either PlainStep (bytes_eq word (codes "extends")) _ _ (after PlainStep (is_new line (is_some class.super_name)) (λ x0. Ok (SuperName, class)) (λ _. h))
+    either PlainStep (bytes_eq word (codes "extends")) _ _
+    (after PlainStep (is_new line (is_some class.super_name)) (λ x0. Ok (SuperName, class)) (λ _. h))
     (either PlainStep (bytes_eq word (codes "implements")) _ _ h
-    (either PlainStep (bytes_eq word (codes "interface")) _ _ (after PlainStep (is_new line class.is_interface) (λ x0. Ok (Any, record { name = class.name; super_name = class.super_name; interfaces = class.interfaces; is_interface = true; is_abstract = class.is_abstract; major = class.major })) (λ _. h))
-    (either PlainStep (bytes_eq word (codes "abstract")) _ _ (after PlainStep (is_new line class.is_abstract) (λ x0. Ok (Any, record { name = class.name; super_name = class.super_name; interfaces = class.interfaces; is_interface = class.is_interface; is_abstract = true; major = class.major })) (λ _. h))
-    (either PlainStep (bytes_eq word (codes "major")) _ _ (after PlainStep (is_new line (is_some class.major)) (λ x0. Ok (Major, class)) (λ _. h)) tt))))
+    (either PlainStep (bytes_eq word (codes "interface")) _ _
+    (after PlainStep (is_new line class.is_interface)
+    (λ x0. Ok (
+      Any,
+      record {
+        name = class.name;
+        super_name = class.super_name;
+        interfaces = class.interfaces;
+        is_interface =
+            true;
+        is_abstract = class.is_abstract;
+        major = class.major;
+      },
+    )) (λ _. h))
+    (either PlainStep (bytes_eq word (codes "abstract")) _ _
+    (after PlainStep (is_new line class.is_abstract)
+    (λ x0. Ok (
+      Any,
+      record {
+        name = class.name;
+        super_name = class.super_name;
+        interfaces = class.interfaces;
+        is_interface =
+            class.is_interface;
+        is_abstract = true;
+        major = class.major;
+      },
+    )) (λ _. h))
+    (either PlainStep (bytes_eq word (codes "major")) _ _
+    (after PlainStep (is_new line (is_some class.major)) (λ x0. Ok (Major, class)) (λ _. h)) tt))))
 
-word_plain : (line : ℕ) (expected : Expected) (class : ClassLine) (word : List ℕ) → PlainClass class → IsPlain word → Holds PlainStep (class_word line expected class word)
+word_plain : (line : ℕ) (expected : Expected) (class : ClassLine) (word : List ℕ) → PlainClass class → IsPlain word
+    → Holds PlainStep (class_word line expected class word)
 unfolding class_word
 word_plain line Any class word h w = any_plain line class word h
 word_plain line SuperName class word h w = (h.0, w, h.2)
 word_plain line InterfaceName class word h w = (h.0, h.1, one_more class.interfaces word h.2 w)
-word_plain line Major class word h w = after PlainStep (number_word line word) (λ x0. Ok (Any, record { name = class.name; super_name = class.super_name; interfaces = class.interfaces; is_interface = class.is_interface; is_abstract = class.is_abstract; major = Some x0 })) (λ n. h)
+word_plain line Major class word h w = after PlainStep (number_word line word)
+    (λ x0. Ok (
+      Any,
+      record {
+        name = class.name;
+        super_name = class.super_name;
+        interfaces = class.interfaces;
+        is_interface =
+            class.is_interface;
+        is_abstract = class.is_abstract;
+        major = Some x0;
+      },
+    )) (λ n. h)
 
 ends_plain : (line : ℕ) (expected : Expected) (class : ClassLine) → PlainClass class → Holds PlainClass (ends_class line expected class)
 ends_plain line Any class h = h
@@ -219,7 +280,8 @@ ends_plain line SuperName class h = tt
 ends_plain line InterfaceName class h = tt
 ends_plain line Major class h = tt
 
-class_words_plain : (line : ℕ) (expected : Expected) (class : ClassLine) (words : Words) → PlainClass class → ArePlain words → Holds PlainClass (class_words line expected class words)
+class_words_plain : (line : ℕ) (expected : Expected) (class : ClassLine) (words : Words) → PlainClass class → ArePlain words
+    → Holds PlainClass (class_words line expected class words)
 class_words_plain line expected class [] h k = ends_plain line expected class h
 class_words_plain line expected class (word ∷ words) h k =
     onward PlainStep PlainClass _ _ (word_plain line expected class word h k.0) (λ x p. class_words_plain line x.0 x.1 words p k.1)
@@ -227,7 +289,8 @@ class_words_plain line expected class (word ∷ words) h k =
 pub class_plain : (line : ℕ) (words : Words) → ArePlain words → Holds PlainClass (class_line line words)
 unfolding class_line
 class_plain line words h =
-    onward PlainNext PlainClass _ _ (next_plain line words h) (λ name n. class_words_plain line Any (plain_class name.0) name.1 (n.0, tt, tt) n.1)
+    onward PlainNext PlainClass _ _ (next_plain line words h)
+    (λ name n. class_words_plain line Any (plain_class name.0) name.1 (n.0, tt, tt) n.1)
 
 -- ---- the line that begins a method
 
@@ -259,9 +322,11 @@ PlainFlags x = (x.0 < 2 ^ 11) × ArePlain x.1
 
 flags_on : (line flags : ℕ) (o : Option ℕ) (word : List ℕ) (words : Words) → SmallFlag o → flags < 2 ^ 11 → ArePlain (word ∷ words)
     → ((f : ℕ) → f < 2 ^ 11 → Holds PlainFlags (flag_words line f words))
-    → Holds PlainFlags (option_map_or (λ flag. cond (eqb (bit_and flags flag) 0) (flag_words line (bit_or flags flag) words) (Err (Syntax line))) o (Ok (flags, word ∷ words)))
+    → Holds PlainFlags (option_map_or (λ flag. cond (eqb (bit_and flags flag) 0) (flag_words line (bit_or flags flag) words)
+    (Err (Syntax line))) o (Ok (flags, word ∷ words)))
 flags_on line flags None word words s small h more = (small, h)
-flags_on line flags (Some flag) word words s small h more = either PlainFlags (eqb (bit_and flags flag) 0) _ _ (more (bit_or flags flag) (or_lt 11 flags flag small s)) tt
+flags_on line flags (Some flag) word words s small h more = either PlainFlags (eqb (bit_and flags flag) 0) _ _
+    (more (bit_or flags flag) (or_lt 11 flags flag small s)) tt
 
 flags_plain : (line flags : ℕ) (words : Words) → flags < 2 ^ 11 → ArePlain words → Holds PlainFlags (flag_words line flags words)
 flags_plain line flags [] small h = (small, tt)
@@ -277,7 +342,8 @@ some_sizes sizes = Ok (Some sizes)
 abbrev no_sizes : Unit {0} → Said (Option (Number × Number))
 no_sizes _ = Ok None
 
-sizes_by : (line : ℕ) (words : Words) (b : Bool) → Holds (IsSized b) (cond b (size_words line words >>= some_sizes) (no_more line words >>= no_sizes))
+sizes_by : (line : ℕ) (words : Words) (b : Bool)
+    → Holds (IsSized b) (cond b (size_words line words >>= some_sizes) (no_more line words >>= no_sizes))
 sizes_by line words true = after (IsSized true) (size_words line words) some_sizes (λ sizes. refl)
 sizes_by line words false = after (IsSized false) (no_more line words) no_sizes (λ _. refl)
 
@@ -285,7 +351,8 @@ sizes_plain : (line flags : ℕ) (words : Words) → Holds (IsSized (eqb (bit_an
 unfolding sizes_of
 sizes_plain line flags words = sizes_by line words (eqb (bit_and flags 0x0500) 0)
 
-made_head : (name desc : List ℕ) (flags : ℕ) (sizes : Option (Number × Number)) → IsPlain name → IsPlain desc → flags < 2 ^ 11 → IsSized (eqb (bit_and flags 0x0500) 0) sizes
+made_head : (name desc : List ℕ) (flags : ℕ) (sizes : Option (Number × Number)) → IsPlain name → IsPlain desc → flags < 2 ^ 11
+    → IsSized (eqb (bit_and flags 0x0500) 0) sizes
     → GoodHead (make_method name desc flags sizes)
 made_head name desc flags sizes n d f s = record {
   name = n;
@@ -314,7 +381,8 @@ PlainOperation _ = Unit {0}
 load_said : (line op : ℕ) (kind value : List ℕ) → IsPlain value → Holds PlainOperation (load_value line op kind value)
 unfolding load_value
 load_said line op kind value h =
-    either PlainOperation (bytes_eq kind (codes "int")) _ _ (after PlainOperation (number_word line value) (λ x0. Ok (operations.LoadInt op x0)) (λ n. tt))
+    either PlainOperation (bytes_eq kind (codes "int")) _ _
+    (after PlainOperation (number_word line value) (λ x0. Ok (operations.LoadInt op x0)) (λ n. tt))
     (either PlainOperation (bytes_eq kind (codes "string")) _ _ h tt)
 
 load_plain : (line op : ℕ) (words : Words) → ArePlain words → Holds PlainOperation (load_operation line op words)
@@ -335,36 +403,59 @@ member_plain line op words h =
 increment_plain : (line : ℕ) (words : Words) → Holds PlainOperation (increment_operation line words)
 unfolding increment_operation
 increment_plain line words =
-    after PlainOperation (next_word line words) (λ local. next_word line local.1 >>= λ value. no_more line value.1 >>= λ _. number_word line local.0 >>= λ n. number_word line value.0 >>= λ m. Ok (operations.Iinc n m)) (λ local.
-    after PlainOperation (next_word line local.1) (λ value. no_more line value.1 >>= λ _. number_word line local.0 >>= λ n. number_word line value.0 >>= λ m. Ok (operations.Iinc n m)) (λ value.
-    after PlainOperation (no_more line value.1) (λ _. number_word line local.0 >>= λ n. number_word line value.0 >>= λ m. Ok (operations.Iinc n m)) (λ _.
+    after PlainOperation (next_word line words)
+    (λ local. next_word line local.1 >>= λ value. no_more line value.1 >>= λ _. number_word line local.0 >>= λ n. number_word
+    line value.0 >>= λ m. Ok (operations.Iinc n m)) (λ local.
+    after PlainOperation (next_word line local.1)
+    (λ value. no_more line value.1 >>= λ _. number_word line local.0 >>= λ n. number_word line value.0 >>= λ m. Ok
+    (operations.Iinc n m)) (λ value.
+    after PlainOperation (no_more line value.1)
+    (λ _. number_word line local.0 >>= λ n. number_word line value.0 >>= λ m. Ok (operations.Iinc n m)) (λ _.
     after PlainOperation (number_word line local.0) (λ n. number_word line value.0 >>= λ m. Ok (operations.Iinc n m)) (λ n.
     after PlainOperation (number_word line value.0) (λ m. Ok (operations.Iinc n m)) (λ m. tt)))))
 
 table_plain : (line : ℕ) (words : Words) → Holds PlainOperation (table_operation line words)
 unfolding table_operation
 table_plain line words =
-    after PlainOperation (next_word line words) (λ x0. ◌>>=◌ {B = Operation} (next_word line x0.1) (λ y. ◌>>=◌ {B = Operation} (some_labels line y.1) (λ z. ◌>>=◌ {B = Operation} (number_word line x0.0) (λ w0. Ok (operations.Tableswitch w0 y.0 z))))) (λ low. after PlainOperation (next_word line low.1) (λ x0. ◌>>=◌ {B = Operation} (some_labels line x0.1) (λ y. ◌>>=◌ {B = Operation} (number_word line low.0) (λ z. Ok (operations.Tableswitch z x0.0 y)))) (λ default. after PlainOperation (some_labels line default.1) (λ x0. ◌>>=◌ {B = Operation} (number_word line low.0) (λ y. Ok (operations.Tableswitch y default.0 x0))) (λ labels. after PlainOperation (number_word line low.0) (λ x0. Ok (operations.Tableswitch x0 default.0 labels)) (λ n. tt))))
+    after PlainOperation (next_word line words)
+    (λ x0. ◌>>=◌ {B = Operation} (next_word line x0.1)
+    (λ y. ◌>>=◌ {B = Operation} (some_labels line y.1)
+    (λ z. ◌>>=◌ {B = Operation} (number_word line x0.0) (λ w0. Ok (operations.Tableswitch w0 y.0 z)))))
+    (λ low. after PlainOperation (next_word line low.1)
+    (λ x0. ◌>>=◌ {B = Operation} (some_labels line x0.1)
+    (λ y. ◌>>=◌ {B = Operation} (number_word line low.0) (λ z. Ok (operations.Tableswitch z x0.0 y))))
+    (λ default. after PlainOperation (some_labels line default.1)
+    (λ x0. ◌>>=◌ {B = Operation} (number_word line low.0) (λ y. Ok (operations.Tableswitch y default.0 x0)))
+    (λ labels. after PlainOperation (number_word line low.0) (λ x0. Ok (operations.Tableswitch x0 default.0 labels)) (λ n. tt))))
 
 lookup_plain : (line : ℕ) (words : Words) → Holds PlainOperation (lookup_operation line words)
 unfolding lookup_operation
-lookup_plain line words = after PlainOperation (next_word line words) (λ x0. ◌>>=◌ {B = Operation} (cases_of line x0.1) (λ y. Ok (operations.Lookupswitch x0.0 y))) (λ default. after PlainOperation (cases_of line default.1) (λ x0. Ok (operations.Lookupswitch default.0 x0)) (λ cases. tt))
+lookup_plain line words = after PlainOperation (next_word line words)
+    (λ x0. ◌>>=◌ {B = Operation} (cases_of line x0.1) (λ y. Ok (operations.Lookupswitch x0.0 y)))
+    (λ default. after PlainOperation (cases_of line default.1) (λ x0. Ok (operations.Lookupswitch default.0 x0)) (λ cases. tt))
 
 array_plain : (line : ℕ) (words : Words) → Holds PlainOperation (array_operation line words)
 unfolding array_operation
-array_plain line words = after PlainOperation (one_word line words) _ (λ kind. perhaps PlainOperation (λ x0. Ok (operations.Newarray x0)) (kind_code kind) (Err (Syntax line)) (λ code. tt) tt)
+array_plain line words = after PlainOperation (one_word line words) _
+    (λ kind. perhaps PlainOperation (λ x0. Ok (operations.Newarray x0)) (kind_code kind) (Err (Syntax line)) (λ code. tt) tt)
 
 operands_plain : (line : ℕ) (s : Spelling) (words : Words) → ArePlain words → Holds PlainOperation (operands line s words)
 unfolding operands
 operands_plain line (spellings.Plain op) words h = after PlainOperation (no_more line words) (λ x0. Ok (operations.Plain op)) (λ _. tt)
-operands_plain line (spellings.Byte op n) words h = either PlainOperation (eqb op 18) _ _ (load_plain line op words h) (after PlainOperation (one_number line words) (λ x0. Ok (operations.Local op x0)) (λ local. tt))
+operands_plain line (spellings.Byte op n) words h = either PlainOperation (eqb op 18) _ _ (load_plain line op words h)
+    (after PlainOperation (one_number line words) (λ x0. Ok (operations.Local op x0)) (λ local. tt))
 operands_plain line (spellings.Pair op n) words h =
     either PlainOperation (eqb op 19) _ _ (load_plain line op words h)
-    (either PlainOperation _ _ _ (member_plain line op words h) (onward IsPlain PlainOperation _ _ (one_plain line words h) (λ class c. c)))
-operands_plain line (spellings.SignedByte op v) words h = after PlainOperation (one_number line words) (λ x0. Ok (operations.Bipush x0)) (λ n. tt)
-operands_plain line (spellings.SignedPair op v) words h = after PlainOperation (one_number line words) (λ x0. Ok (operations.Sipush x0)) (λ n. tt)
-operands_plain line (spellings.Jump op target) words h = after PlainOperation (one_word line words) (λ x0. Ok (operations.Jump op x0)) (λ label. tt)
-operands_plain line (spellings.FarJump op target) words h = after PlainOperation (one_word line words) (λ x0. Ok (operations.GotoW x0)) (λ label. tt)
+    (either PlainOperation _ _ _ (member_plain line op words h)
+    (onward IsPlain PlainOperation _ _ (one_plain line words h) (λ class c. c)))
+operands_plain line (spellings.SignedByte op v) words h = after PlainOperation (one_number line words)
+    (λ x0. Ok (operations.Bipush x0)) (λ n. tt)
+operands_plain line (spellings.SignedPair op v) words h = after PlainOperation (one_number line words)
+    (λ x0. Ok (operations.Sipush x0)) (λ n. tt)
+operands_plain line (spellings.Jump op target) words h = after PlainOperation (one_word line words)
+    (λ x0. Ok (operations.Jump op x0)) (λ label. tt)
+operands_plain line (spellings.FarJump op target) words h = after PlainOperation (one_word line words)
+    (λ x0. Ok (operations.GotoW x0)) (λ label. tt)
 operands_plain line (spellings.Increment op n v) words h = increment_plain line words
 operands_plain line (spellings.Table op default low targets) words h = table_plain line words
 operands_plain line (spellings.Lookup op default cases) words h = lookup_plain line words
@@ -373,10 +464,12 @@ operands_plain line (spellings.Array op code) words h = array_plain line words
 operands_plain line (spellings.WideLocal op n) words h = tt
 operands_plain line (spellings.WideIncrement op n v) words h = tt
 
-operation_plain : (names : Names) (line : ℕ) (word : List ℕ) (words : Words) → ArePlain words → Holds PlainOperation (operation_of names line word words)
+operation_plain : (names : Names) (line : ℕ) (word : List ℕ) (words : Words) → ArePlain words
+    → Holds PlainOperation (operation_of names line word words)
 unfolding operation_of
 operation_plain names line word words h =
-    perhaps PlainOperation _ (opcode_in names word) _ (λ op. perhaps PlainOperation _ (template op) _ (λ insn. operands_plain line (spelling insn) words h) tt) tt
+    perhaps PlainOperation _ (opcode_in names word) _
+    (λ op. perhaps PlainOperation _ (template op) _ (λ insn. operands_plain line (spelling insn) words h) tt) tt
 
 abbrev pub PlainItem : Item → Type 0
 PlainItem (items.Insn operation) = PlainOperation operation
@@ -395,19 +488,35 @@ catch_plain : (line : ℕ) (words : Words) → ArePlain words → Holds PlainCat
 unfolding catch_line
 catch_plain line words h =
     onward PlainNext PlainCatch _ _ (next_plain line words h) (λ class c.
-    after PlainCatch (next_word line class.1) (λ x0. ◌>>=◌ {B = CatchLine} (next_word line x0.1) (λ y. ◌>>=◌ {B = CatchLine} (next_word line y.1) (λ z. ◌>>=◌ {B = CatchLine} (no_more line z.1) (λ w0. Ok (make_catch (caught class.0) x0.0 y.0 z.0))))) (λ from. after PlainCatch (next_word line from.1) (λ x0. ◌>>=◌ {B = CatchLine} (next_word line x0.1) (λ y. ◌>>=◌ {B = CatchLine} (no_more line y.1) (λ z. Ok (make_catch (caught class.0) from.0 x0.0 y.0)))) (λ to. after PlainCatch (next_word line to.1) (λ x0. ◌>>=◌ {B = CatchLine} (no_more line x0.1) (λ y. Ok (make_catch (caught class.0) from.0 to.0 x0.0))) (λ handler. after PlainCatch (no_more line handler.1) (λ x0. Ok (make_catch (caught class.0) from.0 to.0 handler.0)) (λ _.
+    after PlainCatch (next_word line class.1)
+    (λ x0. ◌>>=◌ {B = CatchLine} (next_word line x0.1)
+    (λ y. ◌>>=◌ {B = CatchLine} (next_word line y.1)
+    (λ z. ◌>>=◌ {B = CatchLine} (no_more line z.1) (λ w0. Ok (make_catch (caught class.0) x0.0 y.0 z.0)))))
+    (λ from. after PlainCatch (next_word line from.1)
+    (λ x0. ◌>>=◌ {B = CatchLine} (next_word line x0.1)
+    (λ y. ◌>>=◌ {B = CatchLine} (no_more line y.1) (λ z. Ok (make_catch (caught class.0) from.0 x0.0 y.0))))
+    (λ to. after PlainCatch (next_word line to.1)
+    (λ x0. ◌>>=◌ {B = CatchLine} (no_more line x0.1) (λ y. Ok (make_catch (caught class.0) from.0 to.0 x0.0)))
+    (λ handler. after PlainCatch (no_more line handler.1) (λ x0. Ok (make_catch (caught class.0) from.0 to.0 handler.0)) (λ _.
     caught_by (bytes_eq class.0 (codes "any")) class.0 c.0)))))
 
-insn_plain : (names : Names) (line : ℕ) (labelled : Bool) (word : List ℕ) (words : Words) → ArePlain words → Holds PlainItem (plain_item names line labelled word words)
+insn_plain : (names : Names) (line : ℕ) (labelled : Bool) (word : List ℕ) (words : Words) → ArePlain words
+    → Holds PlainItem (plain_item names line labelled word words)
 unfolding plain_item
 insn_plain names line labelled word words h =
-    either PlainItem (not labelled && bytes_eq word (codes "class")) _ _ tt (onward PlainOperation PlainItem _ _ (operation_plain names line word words h) (λ operation o. o))
+    either PlainItem (not labelled && bytes_eq word (codes "class")) _ _ tt
+    (onward PlainOperation PlainItem _ _ (operation_plain names line word words h) (λ operation o. o))
 
-pub item_plain : (names : Names) (line : ℕ) (labelled : Bool) (words : Words) → ArePlain words → Holds PlainItem (item_of names line labelled words)
+pub item_plain : (names : Names) (line : ℕ) (labelled : Bool) (words : Words) → ArePlain words
+    → Holds PlainItem (item_of names line labelled words)
 unfolding item_of
 item_plain names line labelled [] h = tt
 item_plain names line labelled (word ∷ words) h =
-    either PlainItem (bytes_eq word (codes "end")) _ _ (after PlainItem (is_new line labelled) (λ x0. ◌>>=◌ {B = Item} (no_more line words) (λ y. Ok items.End)) (λ _. after PlainItem (no_more line words) (λ y. Ok items.End) (λ _. tt)))
-    (either PlainItem (bytes_eq word (codes "catch")) _ _ (after PlainItem _ _ (λ _. onward PlainCatch PlainItem _ _ (catch_plain line words h.1) (λ entry e. e)))
-    (either PlainItem (bytes_eq word (codes "attribute")) _ _ (after PlainItem _ _ (λ _. onward PlainAttribute PlainItem _ _ (attribute_plain line words h.1) (λ attribute a. a)))
+    either PlainItem (bytes_eq word (codes "end")) _ _
+    (after PlainItem (is_new line labelled) (λ x0. ◌>>=◌ {B = Item} (no_more line words) (λ y. Ok items.End))
+    (λ _. after PlainItem (no_more line words) (λ y. Ok items.End) (λ _. tt)))
+    (either PlainItem (bytes_eq word (codes "catch")) _ _
+    (after PlainItem _ _ (λ _. onward PlainCatch PlainItem _ _ (catch_plain line words h.1) (λ entry e. e)))
+    (either PlainItem (bytes_eq word (codes "attribute")) _ _
+    (after PlainItem _ _ (λ _. onward PlainAttribute PlainItem _ _ (attribute_plain line words h.1) (λ attribute a. a)))
     (insn_plain names line labelled word words h.1)))

@@ -20,7 +20,8 @@ unfoldable pub any_word : ℕ → ClassLine → List ℕ → Step
 any_word line class word =
     if bytes_eq word (codes "extends") then (is_new line (is_some class.super_name) >>= λ _. Ok (SuperName, class))
     else (if bytes_eq word (codes "implements") then Ok (InterfaceName, class)
-    else (if bytes_eq word (codes "interface") then (is_new line class.is_interface >>= λ _. Ok (Any, record class { is_interface = true }))
+    else (if bytes_eq word (codes "interface") then
+    (is_new line class.is_interface >>= λ _. Ok (Any, record class { is_interface = true }))
     else (if bytes_eq word (codes "abstract") then (is_new line class.is_abstract >>= λ _. Ok (Any, record class { is_abstract = true }))
     else (if bytes_eq word (codes "major") then (is_new line (is_some class.major) >>= λ _. Ok (Major, class))
     else Err (Syntax line)))))

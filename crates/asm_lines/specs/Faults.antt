@@ -2,7 +2,8 @@
 use Rattle.std.specs.Prelude.{ℕ, List, [], ◌∷◌, codes}
 use Rattle.list_views.specs.FaultWords.{joined, number_field}
 use Rattle.asm_lines.specs.declared.fault.AsmFault.{AsmFault}
-use Rattle.asm_lines.specs.declared.fault.AsmFault.TheVariants.{Syntax, UnknownOpcode, UnknownLabel, DuplicateLabel, OutOfRange, NoEnd, Memory}
+use Rattle.asm_lines.specs.declared.fault.AsmFault.TheVariants.{Syntax, UnknownOpcode, UnknownLabel, DuplicateLabel, OutOfRange}
+use Rattle.asm_lines.specs.declared.fault.AsmFault.TheVariants.{NoEnd, Memory}
 
 abbrev pub fault_name : AsmFault → List ℕ
 fault_name (Syntax line) = codes "Syntax"

@@ -2,7 +2,8 @@
 use Rattle.std.specs.Prelude.{ℕ, Bool, ◌&&◌, ◌||◌, ◌==◌, nat_lt, List, [], ◌∷◌, Option, Some, None, if◌then◌else◌}
 use Rattle.std.specs.List.{fold}
 use Rattle.asm_lines.specs.declared.fault.AsmFault.{AsmFault}
-use Rattle.asm_lines.specs.declared.fault.AsmFault.TheVariants.{Syntax, UnknownOpcode, UnknownLabel, DuplicateLabel, OutOfRange, NoEnd, Memory}
+use Rattle.asm_lines.specs.declared.fault.AsmFault.TheVariants.{Syntax, UnknownOpcode, UnknownLabel, DuplicateLabel, OutOfRange}
+use Rattle.asm_lines.specs.declared.fault.AsmFault.TheVariants.{NoEnd, Memory}
 
 -- the line of a fault, and its number on the line; want of memory is no fault of a listing
 abbrev pub rank : AsmFault → ℕ × ℕ

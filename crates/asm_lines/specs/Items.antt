@@ -1,5 +1,6 @@
 -- What the lines of a method say.
-use Rattle.std.specs.Prelude.{ℕ, ◌-◌, Bool, ◌&&◌, ◌==◌, not, nat_lt, List, [], ◌∷◌, length, take, slice_index, Option, Some, None, Ok, Err, codes, if◌then◌else◌}
+use Rattle.std.specs.Prelude.{ℕ, ◌-◌, Bool, ◌&&◌, ◌==◌, not, nat_lt, List, [], ◌∷◌, length, take, slice_index, Option, Some, None}
+use Rattle.std.specs.Prelude.{Ok, Err, codes, if◌then◌else◌}
 use Rattle.std.specs.Option.{option_map_or}
 use Rattle.std.specs.Str.{bytes_eq}
 use Rattle.code_forms.specs.Spellings.{spelling}
@@ -41,7 +42,8 @@ Names = List (List ℕ × ℕ)
 -- an instruction: its name, and its operands behind it
 unfoldable pub operation_of : Names → ℕ → List ℕ → Words → Said Operation
 operation_of names line word words =
-    option_map_or (λ op. option_map_or (λ insn. operands line (spelling insn) words) (template op) (Err (UnknownOpcode line))) (opcode_in names word) (Err (UnknownOpcode line))
+    option_map_or (λ op. option_map_or (λ insn. operands line (spelling insn) words) (template op) (Err (UnknownOpcode line)))
+    (opcode_in names word) (Err (UnknownOpcode line))
 
 -- A line that begins with `class` begins a class, unless a label stands before it.
 unfoldable pub plain_item : Names → ℕ → Bool → List ℕ → Words → Said Item

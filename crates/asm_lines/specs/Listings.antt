@@ -1,5 +1,6 @@
 -- The lines of a listing, sorted by what they are part of.
-use Rattle.std.specs.Prelude.{ℕ, ◌+◌, Bool, true, false, ◌&&◌, List, [], ◌∷◌, ◌++◌, Option, Some, None, is_some, Ok, Err, codes, if◌then◌else◌, ◌-◌, ◌==◌, not, length, drop}
+use Rattle.std.specs.Prelude.{ℕ, ◌+◌, Bool, true, false, ◌&&◌, List, [], ◌∷◌, ◌++◌, Option, Some, None, is_some, Ok, Err, codes}
+use Rattle.std.specs.Prelude.{if◌then◌else◌, ◌-◌, ◌==◌, not, length, drop}
 use Rattle.std.specs.Option.{option_map_or}
 use Rattle.std.specs.Str.{bytes_eq}
 use Rattle.asm_lines.specs.declared.fault.AsmFault.{AsmFault}
@@ -112,7 +113,8 @@ plain_outside line false words = Err (Syntax line)
 abbrev pub with_line : Names → ℕ → List ℕ → Listing → Listing
 with_line names line text listing =
     if is_plain text && is_skipped (words_of text) then listing
-    else option_map_or (λ method. method_of_line names (record listing { unended = None }) method line (is_plain text) (labelled (words_of text))) listing.unended
+    else option_map_or (λ method. method_of_line names (record listing { unended = None }) method line (is_plain text)
+    (labelled (words_of text))) listing.unended
     (outside_line listing line (plain_outside line (is_plain text) (words_of text)))
 
 abbrev pub with_lines : Names → ℕ → List (List ℕ) → Listing → Listing
@@ -149,7 +151,12 @@ first_line line (text ∷ texts) =
 -- The line that begins it, its number, and all lines behind it.
 abbrev pub lines_said : Names → List (List ℕ) → Said (ℕ × ClassLine × Listing)
 lines_said names lines =
-    first_line 1 lines >>= λ begin. Ok (begin.0, begin.1, ended (with_lines names (begin.0 + 1) (drop begin.0 lines) no_lines) (length lines))
+    first_line 1 lines >>= λ begin. Ok (
+      begin.0,
+      begin.1,
+      ended (with_lines names (begin.0 + 1) (drop begin.0 lines) no_lines)
+          (length lines),
+    )
 
 unfoldable pub listing_of : List ℕ → Said (ℕ × ClassLine × Listing)
 listing_of text = lines_said all_names (lines_of text)

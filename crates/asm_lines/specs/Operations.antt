@@ -1,6 +1,7 @@
 -- What an instruction's line says: its name in the JVM specification (section 6.5) and its operands, by the form that the
 -- table of instructions gives it.
-use Rattle.std.specs.Prelude.{ℕ, pos, zero, suc, ◌==◌, nat_le, List, [], ◌∷◌, ◌++◌, Option, Some, None, option_map, Ok, Err, codes, if◌then◌else◌}
+use Rattle.std.specs.Prelude.{ℕ, pos, zero, suc, ◌==◌, nat_le, List, [], ◌∷◌, ◌++◌, Option, Some, None, option_map, Ok, Err, codes}
+use Rattle.std.specs.Prelude.{if◌then◌else◌}
 use Rattle.std.specs.Option.{option_map_or, option_or}
 use Rattle.std.specs.Str.{bytes_eq}
 use Rattle.code_forms.specs.declared.insn.Insn.{Insn}
@@ -12,7 +13,8 @@ use Rattle.code_forms.specs.Opcodes.{find_by, plain, with_byte, with_pair, with_
 use Rattle.asm_lines.specs.declared.fault.AsmFault.TheVariants.{Syntax, UnknownOpcode}
 use Rattle.asm_lines.specs.declared.number.Number.{Number}
 use Rattle.asm_lines.specs.declared.operation.Operation.{Operation}
-use Rattle.asm_lines.specs.declared.operation.Operation.TheVariants.{Plain, Local, Bipush, Sipush, LoadInt, LoadString, Member, Class, Newarray, Iinc, Jump, GotoW, Tableswitch, Lookupswitch}
+use Rattle.asm_lines.specs.declared.operation.Operation.TheVariants.{Plain, Local, Bipush, Sipush, LoadInt, LoadString, Member}
+use Rattle.asm_lines.specs.declared.operation.Operation.TheVariants.{Class, Newarray, Iinc, Jump, GotoW, Tableswitch, Lookupswitch}
 use Rattle.list_views.specs.Results.{◌>>=◌}
 use Rattle.asm_lines.specs.Statements.{Said, Words, next_word, no_more, number_word, one_word}
 
@@ -35,7 +37,8 @@ made table op = option_map (λ make. make 0) (find_by table op)
 
 -- an instruction of the opcode, with zeros as operands
 abbrev pub template : ℕ → Option Insn
-template op = option_or (plain op) (option_or (made with_byte op) (option_or (made with_pair op) (option_or (made with_jump op) (single op))))
+template op = option_or (plain op)
+    (option_or (made with_byte op) (option_or (made with_pair op) (option_or (made with_jump op) (single op))))
 
 abbrev pub named : ℕ → List (List ℕ × ℕ)
 named op = option_map_or (λ insn. (name_of insn, op) ∷ []) (template op) []

@@ -1,5 +1,6 @@
 -- What the lines outside methods say, word by word.
-use Rattle.std.specs.Prelude.{ℕ, Bool, true, false, ◌==◌, not, bit_and, bit_or, List, [], ◌∷◌, Option, Some, None, Result, Ok, Err, codes, if◌then◌else◌}
+use Rattle.std.specs.Prelude.{ℕ, Bool, true, false, ◌==◌, not, bit_and, bit_or, List, [], ◌∷◌, Option, Some, None, Result, Ok, Err}
+use Rattle.std.specs.Prelude.{codes, if◌then◌else◌}
 use Rattle.std.specs.Option.{option_map_or}
 use Rattle.std.specs.Str.{bytes_eq}
 use Rattle.list_views.specs.Results as steps
@@ -105,7 +106,8 @@ flag_of word =
 abbrev pub flag_words : ℕ → ℕ → Words → Said (ℕ × Words)
 flag_words line flags [] = Ok (flags, [])
 flag_words line flags (word ∷ words) =
-    option_map_or (λ flag. if bit_and flags flag == 0 then flag_words line (bit_or flags flag) words else Err (Syntax line)) (flag_of word) (Ok (flags, word ∷ words))
+    option_map_or (λ flag. if bit_and flags flag == 0 then flag_words line (bit_or flags flag) words else Err (Syntax line))
+    (flag_of word) (Ok (flags, word ∷ words))
 
 -- the two words and the two numbers
 unfoldable pub sizes_said : ℕ → List ℕ → List ℕ → List ℕ → List ℕ → Said (Number × Number)

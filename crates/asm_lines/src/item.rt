@@ -2,7 +2,8 @@
 
 ghost use Rattle.std.specs.Prelude.{◌≡◌, option_map, IfOk};
 ghost use Rattle.asm_lines.specs.Statements.{Gives};
-ghost use Rattle.asm_lines.specs.Items.{label_of, make_catch, caught, catch_line, operation_of, plain_item, end_item, catch_item, attribute_item, item_of};
+ghost use Rattle.asm_lines.specs.Items.{label_of, make_catch, caught, catch_line, operation_of, plain_item, end_item, catch_item};
+ghost use Rattle.asm_lines.specs.Items.{attribute_item, item_of};
 
 use crate::fault::AsmFault;
 use crate::operation::{Names, Operation, operands, template};

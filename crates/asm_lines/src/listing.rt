@@ -1,9 +1,13 @@
 //! A listing's lines, sorted by what they are part of.
 
-ghost use Rattle.std.specs.Prelude.{◌≡◌, ◌+◌, ◌<◌, ◌^◌, [], length, map, drop, None, IfOk, OnOk, option_map, is_some, ◌-◌, ◌==◌, if◌then◌else◌};
+ghost use Rattle.std.specs.Prelude.{◌≡◌, ◌+◌, ◌<◌, ◌^◌, [], length, map, drop, None, IfOk, OnOk, option_map, is_some, ◌-◌, ◌==◌};
+ghost use Rattle.std.specs.Prelude.{if◌then◌else◌};
 ghost use Rattle.std.specs.Option.{option_map_or};
 ghost use Rattle.asm_lines.specs.Statements.{Gives};
-ghost use Rattle.asm_lines.specs.Listings.{is_skipped, outside_of, make_method, with_method, with_outside, labelled, is_end, read_item, item_in, with_said, code_line, with_code, plain_outside, outside_line, method_of_line, with_line, with_lines, no_lines, ended, class_said, first_line, lines_said, listing_of};
+ghost use Rattle.asm_lines.specs.Listings.{is_skipped, outside_of, make_method, with_method, with_outside, labelled, is_end};
+ghost use Rattle.asm_lines.specs.Listings.{read_item, item_in, with_said, code_line, with_code, plain_outside, outside_line};
+ghost use Rattle.asm_lines.specs.Listings.{method_of_line, with_line, with_lines, no_lines, ended, class_said, first_line};
+ghost use Rattle.asm_lines.specs.Listings.{lines_said, listing_of};
 
 use crate::class_line::class_line;
 use crate::fault::AsmFault;
@@ -240,7 +244,8 @@ fn with_said(
     has_label: bool,
     words: &[Seq<u8>],
 ) -> Result<Item, AllocError>
-    ensures { IfOk result (λ item. (listing.new ≡ with_said listing.old (read_item names.now line is_plain has_label words.now)) × (item ≡ item_in (read_item names.now line is_plain has_label words.now))) }
+    ensures { IfOk result (λ item. (listing.new ≡ with_said listing.old (read_item names.now line is_plain has_label words.now))
+        × (item ≡ item_in (read_item names.now line is_plain has_label words.now))) }
 {
     match read_item(alloc, names, line, is_plain, has_label, words) {
         Ok(item) => Ok(item),
@@ -303,7 +308,9 @@ fn with_words(
     words: &[Seq<u8>],
     listing: &mut Listing,
 ) -> Result<(), AllocError>
-    ensures { OnOk result (listing.new ≡ option_map_or (λ method. method_of_line names.now (record listing.old { unended = None }) method line is_plain (labelled words.now)) listing.old.unended (outside_line listing.old line (plain_outside line is_plain words.now))) }
+    ensures { OnOk result
+        (listing.new ≡ option_map_or (λ method. method_of_line names.now (record listing.old { unended = None }) method line
+        is_plain (labelled words.now)) listing.old.unended (outside_line listing.old line (plain_outside line is_plain words.now))) }
 {
     match listing.unended.take() {
         None => outside_line(alloc, listing, line, is_plain, words),
@@ -470,7 +477,8 @@ fn listing_behind(
     lines: &[&[u8]],
 ) -> Result<Listing, AllocError>
     requires { length lines.now < 2 ^ 62 }
-    ensures { IfOk result (λ l. l ≡ ended (with_lines names.now (line + 1) (drop line (map (λ t. t.now) lines.now)) no_lines) (length (map (λ t. t.now) lines.now))) }
+    ensures { IfOk result (λ l. l ≡ ended (with_lines names.now (line + 1) (drop line (map (λ t. t.now) lines.now)) no_lines)
+        (length (map (λ t. t.now) lines.now))) }
 {
     if line >= 0x4000_0000_0000_0000 {
         return Err(AllocError);

@@ -3,7 +3,8 @@
 ghost use Rattle.std.specs.Prelude.{◌≡◌, ◌^◌, nat_lt, pos, if◌then◌else◌, IfOk, Some, None};
 ghost use Rattle.std.proofs.Common.{◌-ℤ◌};
 ghost use Rattle.std.specs.List.{list_all};
-ghost use Rattle.asm_lines.specs.Numbers.{is_digit, is_digits, decimal, capped, grown, number_of, unsigned_of, signed_of, pair_of, int_of, digit_of, byte_of, bytes_of};
+ghost use Rattle.asm_lines.specs.Numbers.{is_digit, is_digits, decimal, capped, grown, number_of, unsigned_of, signed_of, pair_of};
+ghost use Rattle.asm_lines.specs.Numbers.{int_of, digit_of, byte_of, bytes_of};
 
 use list_views::Seq;
 use std::alloc::{AllocError, Global};

@@ -5,7 +5,10 @@ ghost use Rattle.code_decode.specs.Names.{name_of};
 ghost use Rattle.code_forms.specs.Spellings.{spelling};
 ghost use Rattle.list_views.specs.Results.{Answers};
 ghost use Rattle.asm_lines.specs.Statements.{Gives, one_word};
-ghost use Rattle.asm_lines.specs.Operations.{single, template, named, all_names, opcode_in, kind_code, one_number, load_value, load_operation, member_operation, increment_operation, some_labels, table_operation, cases_of, lookup_operation, array_operation, byte_operands, pair_operands, jump_operands, operands};
+ghost use Rattle.asm_lines.specs.Operations.{single, template, named, all_names, opcode_in, kind_code, one_number, load_value};
+ghost use Rattle.asm_lines.specs.Operations.{load_operation, member_operation, increment_operation, some_labels, table_operation};
+ghost use Rattle.asm_lines.specs.Operations.{cases_of, lookup_operation, array_operation, byte_operands, pair_operands};
+ghost use Rattle.asm_lines.specs.Operations.{jump_operands, operands};
 
 use crate::fault::AsmFault;
 use crate::number::Number;
@@ -119,7 +122,8 @@ fn opcode_in(names: &[(&'static [u8], u8)], word: &[u8]) -> Option<u8>
 /// Puts an instruction's name with its opcode behind names.
 #[tactic(auto, using(crate::proofs::Opcodes::one_name))]
 fn push_name(names: &mut Seq<(&'static [u8], u8)>, insn: &Insn, op: u8) -> Result<(), AllocError>
-    ensures { OnOk result (map {B = List ℕ × ℕ} (λ e. (e.0.now, e.1)) names.new ≡ map (λ e. (e.0.now, e.1)) names.old ++ (name_of insn.now, op) ∷ []) }
+    ensures { OnOk result (map {B = List ℕ × ℕ} (λ e. (e.0.now, e.1)) names.new ≡ map (λ e. (e.0.now, e.1)) names.old
+        ++ (name_of insn.now, op) ∷ []) }
 {
     names.push((name(insn).as_bytes(), op))?;
     Ok(())

@@ -3,7 +3,9 @@
 ghost use Rattle.std.specs.Prelude.{◌≡◌, ◌==◌, IfOk};
 ghost use Rattle.std.specs.Str.{bytes_eq};
 ghost use Rattle.list_views.specs.Results.{Answers};
-ghost use Rattle.asm_lines.specs.Statements.{Gives, next_word, no_more, is_new, number_word, constant_of, constant_line, static_word, make_field, field_line, flag_of, flag_words, sizes_said, size_words, sizes_of, make_method, method_line, hex_word, attribute_line};
+ghost use Rattle.asm_lines.specs.Statements.{Gives, next_word, no_more, is_new, number_word, constant_of, constant_line};
+ghost use Rattle.asm_lines.specs.Statements.{static_word, make_field, field_line, flag_of, flag_words, sizes_said, size_words};
+ghost use Rattle.asm_lines.specs.Statements.{sizes_of, make_method, method_line, hex_word, attribute_line};
 
 use crate::fault::AsmFault;
 use crate::number::{Number, hex_bytes, read_number};

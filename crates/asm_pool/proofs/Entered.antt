@@ -1,5 +1,6 @@
 -- The entries of a map, seen by what they say.
-use Rattle.std.proofs.Common.{◌≡◌, ℕ, suc, ◌+◌, Bool, not, cond, ltb, zero, take, add-one, slice_get, List, [], ◌∷◌, ◌++◌, length, map, Some, None, refl, ap, ◌∙◌, arith}
+use Rattle.std.proofs.Common.{◌≡◌, ℕ, suc, ◌+◌, Bool, not, cond, ltb, zero, take, add-one, slice_get, List, [], ◌∷◌, ◌++◌, length}
+use Rattle.std.proofs.Common.{map, Some, None, refl, ap, ◌∙◌, arith}
 use Rattle.std.specs.Prelude.{position}
 use Rattle.std.specs.List.{prefix_len}
 use Rattle.asm_pool.specs.declared.entry.Entry.{Entry as Kept}
@@ -26,7 +27,8 @@ abbrev pub seen_need : Kept × ℕ → Entry × ℕ
 seen_need e = (seen e.0, e.1)
 
 -- where an entry stands among what is seen of the entries of a map
-before_is : (k : Kept) (es : List (Kept × ℕ)) → prefix_len (λ n. not (same (seen k) n.0)) (map seen_need es) ≡ prefix_len (λ x. not (equal k x)) (map (λ e. e.0) es)
+before_is : (k : Kept) (es : List (Kept × ℕ))
+    → prefix_len (λ n. not (same (seen k) n.0)) (map seen_need es) ≡ prefix_len (λ x. not (equal k x)) (map (λ e. e.0) es)
 before_is k [] = refl
 before_is k (e ∷ es) = rw (equal_is k e.0) (ap (λ n. cond (not (same (seen k) (seen e.0))) (1 + n) 0) (before_is k es))
 
@@ -34,25 +36,31 @@ seen_length : {A B C : Type 0} (f : A → B) (g : A → C) (xs : List A) → len
 seen_length f g [] = refl
 seen_length f g (x ∷ xs) = ap (λ n. suc n) (seen_length f g xs)
 
-pub position_is : (k : Kept) (es : List (Kept × ℕ)) → position (λ n. same (seen k) n.0) (map seen_need es) ≡ position (equal k) (map (λ e. e.0) es)
+pub position_is : (k : Kept) (es : List (Kept × ℕ))
+    → position (λ n. same (seen k) n.0) (map seen_need es) ≡ position (equal k) (map (λ e. e.0) es)
 position_is k es =
     ap (λ n. cond (ltb n (length (map seen_need es))) (Some n) None) (before_is k es)
-    ∙ ap (λ m. cond (ltb (prefix_len (λ x. not (equal k x)) (map (λ e. e.0) es)) m) (Some (prefix_len (λ x. not (equal k x)) (map (λ e. e.0) es))) None) (seen_length seen_need (λ e. e.0) es)
+    ∙ ap (λ m. cond (ltb (prefix_len (λ x. not (equal k x)) (map (λ e. e.0) es)) m)
+    (Some (prefix_len (λ x. not (equal k x)) (map (λ e. e.0) es))) None) (seen_length seen_need (λ e. e.0) es)
 
 -- the same where the lines are left out
-entry_before : (k : Kept) (es : List (Kept × ℕ)) → prefix_len (λ n. not (same (seen k) n)) (map (λ e. seen e.0) es) ≡ prefix_len (λ x. not (equal k x)) (map (λ e. e.0) es)
+entry_before : (k : Kept) (es : List (Kept × ℕ))
+    → prefix_len (λ n. not (same (seen k) n)) (map (λ e. seen e.0) es) ≡ prefix_len (λ x. not (equal k x)) (map (λ e. e.0) es)
 entry_before k [] = refl
 entry_before k (e ∷ es) = rw (equal_is k e.0) (ap (λ n. cond (not (same (seen k) (seen e.0))) (1 + n) 0) (entry_before k es))
 
-pub entry_position : (k : Kept) (es : List (Kept × ℕ)) → position (same (seen k)) (map (λ e. seen e.0) es) ≡ position (equal k) (map (λ e. e.0) es)
+pub entry_position : (k : Kept) (es : List (Kept × ℕ))
+    → position (same (seen k)) (map (λ e. seen e.0) es) ≡ position (equal k) (map (λ e. e.0) es)
 entry_position k es =
     ap (λ n. cond (ltb n (length (map (λ e. seen e.0) es))) (Some n) None) (entry_before k es)
-    ∙ ap (λ m. cond (ltb (prefix_len (λ x. not (equal k x)) (map (λ e. e.0) es)) m) (Some (prefix_len (λ x. not (equal k x)) (map (λ e. e.0) es))) None) (seen_length (λ e. seen e.0) (λ e. e.0) es)
+    ∙ ap (λ m. cond (ltb (prefix_len (λ x. not (equal k x)) (map (λ e. e.0) es)) m)
+    (Some (prefix_len (λ x. not (equal k x)) (map (λ e. e.0) es))) None) (seen_length (λ e. seen e.0) (λ e. e.0) es)
 
 abbrev the_pair : List Entry → List ℕ → List Entry × List ℕ
 the_pair entries numbers = (entries, numbers)
 
-pub entries_seen : (es : List (Kept × ℕ)) (numbers : List ℕ) → the_pair (map (λ e. seen e.0) es) numbers ≡ the_pair (map (λ n. n.0) (map seen_need es)) numbers
+pub entries_seen : (es : List (Kept × ℕ)) (numbers : List ℕ)
+    → the_pair (map (λ e. seen e.0) es) numbers ≡ the_pair (map (λ n. n.0) (map seen_need es)) numbers
 entries_seen es numbers = ap (λ xs. the_pair xs numbers) (both es)
   where
     both : (es : List (Kept × ℕ)) → map (λ e. seen e.0) es ≡ map (λ n. n.0) (map seen_need es)

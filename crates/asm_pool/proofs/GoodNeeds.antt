@@ -1,5 +1,6 @@
 -- The entries that a listing needs have plain texts and numbers that fit.
-use Rattle.std.proofs.Common.{◌≡◌, ℕ, ◌<◌, ◌≤◌, ◌^◌, ℤ, pos, Bool, true, false, cond, not, ◌&&◌, eqb, List, [], ◌∷◌, ◌++◌, map, Option, Some, None, is_some, refl, arith, ◌-ℤ◌}
+use Rattle.std.proofs.Common.{◌≡◌, ℕ, ◌<◌, ◌≤◌, ◌^◌, ℤ, pos, Bool, true, false, cond, not, ◌&&◌, eqb, List, [], ◌∷◌, ◌++◌, map}
+use Rattle.std.proofs.Common.{Option, Some, None, is_some, refl, arith, ◌-ℤ◌}
 use Rattle.std.specs.Prelude.{codes, nat_lt}
 use Rattle.std.specs.Int.{w64, cast_unsigned}
 use Rattle.std.specs.List.{flat_map, AllByRecursion}
@@ -22,10 +23,13 @@ use Rattle.asm_lines.specs.declared.statement.Constant.TheVariants as constants
 use Rattle.asm_lines.specs.Numbers.{unsigned_of, signed_of, int_of}
 use Rattle.asm_pool.specs.Entries.{Entry, Utf8, Integer, Float, Long, Double, Class, Str, Member, has_text}
 use Rattle.asm_pool.specs.Pools.{Need, needed}
-use Rattle.asm_pool.specs.Needs.{member_tag, operation_entry, catch_entry, insn_entries, catch_entries, attribute_entries, line_needs, code_needs, field_needs, method_needs, attribute_needs, constant_entry, constant_needs, super_of, class_needs, listing_needs}
+use Rattle.asm_pool.specs.Needs.{member_tag, operation_entry, catch_entry, insn_entries, catch_entries, attribute_entries}
+use Rattle.asm_pool.specs.Needs.{line_needs, code_needs, field_needs, method_needs, attribute_needs, constant_entry, constant_needs}
+use Rattle.asm_pool.specs.Needs.{super_of, class_needs, listing_needs}
 use Rattle.asm_lines.proofs.GoodListings.{OpenMethod, GoodMethod, GoodListing}
 use Rattle.asm_lines.proofs.NumberFits.{int_fits}
-use Rattle.asm_lines.proofs.PlainWords.{IsPlain, ArePlain, PlainOption, IsCapped, PlainField, PlainAttribute, PlainConstant, PlainClass, PlainOperation, PlainItem}
+use Rattle.asm_lines.proofs.PlainWords.{IsPlain, ArePlain, PlainOption, IsCapped, PlainField, PlainAttribute, PlainConstant}
+use Rattle.asm_lines.proofs.PlainWords.{PlainClass, PlainOperation, PlainItem}
 use Rattle.asm_pool.proofs.PoolEntries.{to_needed}
 use Rattle.asm_pool.proofs.PoolRules.{GoodEntry}
 
@@ -57,7 +61,9 @@ positive_fits : (size : ℕ) (b : Bool) → nat_lt size (2 ^ 63) ≡ b → FitsL
 positive_fits size true h = let s = ltb-true size (2 ^ 63) h in omega (arith, ints, s)
 positive_fits size false h = tt
 
-signed_by : (negative : Bool) (size : ℕ) → FitsLong (cond negative (cond (nat_lt (2 ^ 63) size) None (Some (pos 0 -ℤ pos size))) (cond (nat_lt size (2 ^ 63)) (Some (pos size)) None))
+signed_by : (negative : Bool) (size : ℕ)
+    → FitsLong (cond negative (cond (nat_lt (2 ^ 63) size) None (Some (pos 0 -ℤ pos size)))
+    (cond (nat_lt size (2 ^ 63)) (Some (pos size)) None))
 signed_by true size = negative_fits size (nat_lt (2 ^ 63) size) refl
 signed_by false size = positive_fits size (nat_lt size (2 ^ 63)) refl
 
@@ -66,7 +72,8 @@ long_by None h = tt
 long_by (Some v) h = (h, tt)
 
 abbrev long_of : Bool → Option ℕ → Option ℤ
-long_of negative o = option_and_then (λ size. cond negative (cond (nat_lt (2 ^ 63) size) None (Some (pos 0 -ℤ pos size))) (cond (nat_lt size (2 ^ 63)) (Some (pos size)) None)) o
+long_of negative o = option_and_then (λ size. cond negative (cond (nat_lt (2 ^ 63) size) None (Some (pos 0 -ℤ pos size)))
+    (cond (nat_lt size (2 ^ 63)) (Some (pos size)) None)) o
 
 long_fits : (negative : Bool) (o : Option ℕ) → FitsLong (long_of negative o)
 long_fits negative None = tt
@@ -80,7 +87,8 @@ float_by (Some bits) = bits_by (nat_lt bits (2 ^ 32)) refl
     bits_by true h = (ltb-true bits (2 ^ 32) h, tt)
     bits_by false h = tt
 
-unsigned_by : (negative : Bool) (o : Option ℕ) → IsCapped o → IsCapped (option_and_then (λ size. cond (negative && not (eqb size 0)) None (Some size)) o)
+unsigned_by : (negative : Bool) (o : Option ℕ) → IsCapped o
+    → IsCapped (option_and_then (λ size. cond (negative && not (eqb size 0)) None (Some size)) o)
 unsigned_by negative None h = tt
 unsigned_by negative (Some size) h = size_by (negative && not (eqb size 0))
   where
@@ -135,11 +143,13 @@ attributes_good (items.Catch c) h = tt
 attributes_good items.Nothing h = tt
 attributes_good items.End h = tt
 
-lines_good : (entries : Item → List Entry) → ((item : Item) → PlainItem item → AllByRecursion GoodEntry (entries item)) → (lines : List CodeLine) → AllByRecursion (λ code. PlainItem code.item) lines
+lines_good : (entries : Item → List Entry) → ((item : Item) → PlainItem item → AllByRecursion GoodEntry (entries item))
+    → (lines : List CodeLine) → AllByRecursion (λ code. PlainItem code.item) lines
     → AllByRecursion GoodNeed (flat_map (line_needs entries) lines)
 lines_good entries each [] h = tt
 lines_good entries each (code ∷ lines) h =
-    all_joined GoodNeed (line_needs entries code) (flat_map (line_needs entries) lines) (to_needed GoodEntry code.line (entries code.item) (each code.item h.0)) (lines_good entries each lines h.1)
+    all_joined GoodNeed (line_needs entries code) (flat_map (line_needs entries) lines)
+    (to_needed GoodEntry code.line (entries code.item) (each code.item h.0)) (lines_good entries each lines h.1)
 
 code_good : (m : MethodLines) → OpenMethod m → AllByRecursion GoodNeed (code_needs m)
 code_good m h =
@@ -148,7 +158,9 @@ code_good m h =
     let attributes = flat_map (line_needs attribute_entries) m.lines in
     let name = needed m.line (Utf8 (codes "Code") ∷ []) in
     all_joined GoodNeed (name ++ insns ++ catches) attributes
-    (all_joined GoodNeed (name ++ insns) catches (all_joined GoodNeed name insns (refl, tt) (lines_good insn_entries insns_good m.lines h.items)) (lines_good catch_entries catches_good m.lines h.items))
+    (all_joined GoodNeed (name ++ insns) catches
+    (all_joined GoodNeed name insns (refl, tt) (lines_good insn_entries insns_good m.lines h.items))
+    (lines_good catch_entries catches_good m.lines h.items))
     (lines_good attribute_entries attributes_good m.lines h.items)
 
 codes_by : (m : MethodLines) (b : Bool) → OpenMethod m → AllByRecursion GoodNeed (cond b (code_needs m) [])
@@ -168,7 +180,8 @@ constant_good (constants.Str text) h = (h, tt)
 
 -- ---- the listing
 
-each_good : {A : Type 0} (P : A → Type 0) (f : A → List Need) → ((x : A) → P x → AllByRecursion GoodNeed (f x)) → (xs : List A) → AllByRecursion P xs → AllByRecursion GoodNeed (flat_map f xs)
+each_good : {A : Type 0} (P : A → Type 0) (f : A → List Need) → ((x : A) → P x → AllByRecursion GoodNeed (f x)) → (xs : List A)
+    → AllByRecursion P xs → AllByRecursion GoodNeed (flat_map f xs)
 each_good P f each [] h = tt
 each_good P f each (x ∷ xs) h = all_joined GoodNeed (f x) (flat_map f xs) (each x h.0) (each_good P f each xs h.1)
 
@@ -180,7 +193,8 @@ interfaces_good : (names : List (List ℕ)) → ArePlain names → AllByRecursio
 interfaces_good [] h = tt
 interfaces_good (name ∷ names) h = (h.0, interfaces_good names h.1)
 
-pub needs_good : (line : ℕ) (class : ClassLine) (listing : Listing) → PlainClass class → GoodListing listing → AllByRecursion GoodNeed (listing_needs line class listing)
+pub needs_good : (line : ℕ) (class : ClassLine) (listing : Listing) → PlainClass class → GoodListing listing
+    → AllByRecursion GoodNeed (listing_needs line class listing)
 needs_good line class listing c l =
     let own = class_needs line class in
     let fields = flat_map field_needs listing.fields in
@@ -191,8 +205,10 @@ needs_good line class listing c l =
     (all_joined GoodNeed (own ++ fields ++ methods) attributes
     (all_joined GoodNeed (own ++ fields) methods
     (all_joined GoodNeed own fields
-    (to_needed GoodEntry line (Class class.name ∷ Class (super_of class) ∷ map (λ name. Class name) class.interfaces) (c.0, (supers class.super_name c.1, interfaces_good class.interfaces c.2)))
+    (to_needed GoodEntry line (Class class.name ∷ Class (super_of class) ∷ map (λ name. Class name) class.interfaces)
+    (c.0, (supers class.super_name c.1, interfaces_good class.interfaces c.2)))
     (each_good (λ f. PlainField f.1) field_needs (λ f h. (h.0, (h.1, tt))) listing.fields l.fields))
     (each_good GoodMethod method_needs method_good listing.methods l.methods))
     (each_good (λ a. PlainAttribute a.1) attribute_needs (λ a h. (h, tt)) listing.attributes l.attributes))
-    (each_good (λ k. PlainConstant k.1) constant_needs (λ k h. to_needed GoodEntry k.0 (option_to_list (constant_entry k.1)) (constant_good k.1 h)) listing.constants l.constants)
+    (each_good (λ k. PlainConstant k.1) constant_needs
+    (λ k h. to_needed GoodEntry k.0 (option_to_list (constant_entry k.1)) (constant_good k.1 h)) listing.constants l.constants)

@@ -19,7 +19,8 @@ fn firsts_of<'a>(
     needs: &[(Entry<'a>, usize)],
 ) -> Result<Firsts<'a>, AllocError>
     ensures firsts { IfOk result (λ f. f ≡ firsts_in (map (λ e. (seen e.0, e.1)) needs.now)) }
-    ensures faults { OnOk result (first.new.fault ≡ with_faults first.old.fault (flat_map need_faults (map (λ e. (seen e.0, e.1)) needs.now))) }
+    ensures faults { OnOk result
+        (first.new.fault ≡ with_faults first.old.fault (flat_map need_faults (map (λ e. (seen e.0, e.1)) needs.now))) }
 {
     let mut firsts = Firsts::new(alloc);
     for need in needs {

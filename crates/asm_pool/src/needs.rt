@@ -6,7 +6,10 @@ ghost use Rattle.std.specs.Option.{option_map, option_and_then, option_to_list};
 ghost use Rattle.class_base.specs.ClassNames.{is_class_name};
 ghost use Rattle.class_base.specs.Types.{array_depth};
 ghost use Rattle.asm_pool.specs.Entries.{Class, Float, Member, seen};
-ghost use Rattle.asm_pool.specs.Needs.{member_tag, counted_words, is_member_descriptor, is_class_or_array, allowed, operation_entry, catch_entry, insn_entries, catch_entries, attribute_entries, line_needs, code_needs, field_needs, method_needs, attribute_needs, constant_entry, constant_needs, super_of, class_needs, listing_needs};
+ghost use Rattle.asm_pool.specs.Needs.{member_tag, counted_words, is_member_descriptor, is_class_or_array, allowed, operation_entry};
+ghost use Rattle.asm_pool.specs.Needs.{catch_entry, insn_entries, catch_entries, attribute_entries, line_needs, code_needs};
+ghost use Rattle.asm_pool.specs.Needs.{field_needs, method_needs, attribute_needs, constant_entry, constant_needs, super_of};
+ghost use Rattle.asm_pool.specs.Needs.{class_needs, listing_needs};
 ghost use Rattle.asm_pool.specs.Pools.{needed};
 
 use crate::entry::Entry;
@@ -103,7 +106,8 @@ fn member_entry<'a>(
     name: &'a Seq<u8>,
     desc: &'a Seq<u8>,
 ) -> Option<Entry<'a>>
-    ensures { option_map seen result ≡ allowed (is_class_name class.now && is_member_descriptor op desc.now) (Member (member_tag op) class.now name.now desc.now) }
+    ensures { option_map seen result ≡ allowed (is_class_name class.now && is_member_descriptor op desc.now)
+        (Member (member_tag op) class.now name.now desc.now) }
 {
     let class = class.as_slice();
     let name = name.as_slice();

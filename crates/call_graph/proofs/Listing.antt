@@ -1,5 +1,6 @@
 -- What is listed is what can be called.
-use Rattle.std.proofs.Common.{◌≡◌, ◌⊎◌, ◌↔◌, inl, inr, ℕ, zero, suc, ◌+◌, ◌<◌, ◌≤◌, eqb, Bool, true, false, cond, List, [], ◌∷◌, ◌++◌, length, map, Option, Some, None, subst, ap, arith, refl, ◌∙◌, sym}
+use Rattle.std.proofs.Common.{◌≡◌, ◌⊎◌, ◌↔◌, inl, inr, ℕ, zero, suc, ◌+◌, ◌<◌, ◌≤◌, eqb, Bool, true, false, cond, List, [], ◌∷◌}
+use Rattle.std.proofs.Common.{◌++◌, length, map, Option, Some, None, subst, ap, arith, refl, ◌∙◌, sym}
 use Rattle.std.specs.Prelude.{IsTrue, slice_get, option_and_then, option_map}
 use Rattle.std.specs.List.{filter_map, flat_map, range_with_len, cons_option}
 use Rattle.std.specs.Option.{option_map_or, option_to_list}
@@ -9,7 +10,9 @@ use Rattle.class_world.specs.Fields.{can_be_made}
 use Rattle.class_world.specs.Types.{is_class_below}
 use Rattle.class_program.specs.declared.op.Call.{Call}
 use Rattle.class_program.specs.declared.op.Op.{Op}
-use Rattle.class_program.specs.declared.op.Op.TheVariants.{Plain, Constant, Getstatic, Putstatic, Getfield, Putfield, Invokevirtual, Invokespecial, Invokestatic, Invokeinterface, New, Anewarray, Checkcast, Instanceof}
+use Rattle.class_program.specs.declared.op.Op.TheVariants.{Plain, Constant, Getstatic, Putstatic, Getfield, Putfield, Invokevirtual}
+use Rattle.class_program.specs.declared.op.Op.TheVariants.{Invokespecial, Invokestatic, Invokeinterface, New, Anewarray, Checkcast}
+use Rattle.class_program.specs.declared.op.Op.TheVariants.{Instanceof}
 use Rattle.class_program.specs.declared.program.Method.{Method}
 use Rattle.class_program.specs.declared.selected.Selected.{Selected}
 use Rattle.class_program.specs.declared.selected.Selected.TheVariants as answers
@@ -62,7 +65,9 @@ to_flat f [] x b m h = absurd m
 to_flat f (y ∷ xs) x b (inl e) h = has_first (f y) (flat_map f xs) b (subst (λ z. Has (f z) b) (sym e) h)
 to_flat f (y ∷ xs) x b (inr m) h = has_second (f y) (flat_map f xs) b (to_flat f xs x b m h)
 
-from_one : (f : ℕ → Option ℕ) (x : ℕ) (xs : List ℕ) (b : ℕ) (found : Option ℕ) → f x ≡ found → (Has (filter_map f xs) b → IsFrom xs (λ y. f y ≡ Some b)) → Has (cons_option found (filter_map f xs)) b → IsFrom (x ∷ xs) (λ y. f y ≡ Some b)
+from_one : (f : ℕ → Option ℕ) (x : ℕ) (xs : List ℕ) (b : ℕ) (found : Option ℕ) → f x ≡ found
+    → (Has (filter_map f xs) b → IsFrom xs (λ y. f y ≡ Some b)) → Has (cons_option found (filter_map f xs)) b
+    → IsFrom (x ∷ xs) (λ y. f y ≡ Some b)
 from_one f x xs b None e rest k = let r = rest k in record { one = r.one; among = inr r.among; holds = r.holds }
 from_one f x xs b (Some y) e rest (inl s) = record { one = x; among = inl refl; holds = e ∙ ap (λ z. Some z) s }
 from_one f x xs b (Some y) e rest (inr k) = let r = rest k in record { one = r.one; among = inr r.among; holds = r.holds }
@@ -89,7 +94,8 @@ in_range a (suc n) c l h = elim (cases_eq a c) as (λ o. Among c (range_with_len
 
 -- ---- the list of a method
 
-rows_get : (p : Program) (k : ℕ) (methods : List Method) (i : ℕ) (m : Method) → slice_get methods i ≡ Some m → slice_get (rows_from p k methods) i ≡ Some (method_runs p (k + i) m.insns)
+rows_get : (p : Program) (k : ℕ) (methods : List Method) (i : ℕ) (m : Method) → slice_get methods i ≡ Some m
+    → slice_get (rows_from p k methods) i ≡ Some (method_runs p (k + i) m.insns)
 rows_get p k [] i m e = let no : ⊥ = cc in absurd no
 rows_get p k (x ∷ methods) zero m e =
     let same : x ≡ m = cc in
@@ -114,11 +120,14 @@ row_none p a e = ap (λ (o : Option (List ℕ)). option_map_or (λ row. row) o [
 
 -- ---- instructions
 
-insn_at_one : {A : Type 0} (x : ℕ × A) (rest : List (ℕ × A)) (place : ℕ) (found : A × Option ℕ) (t : Bool) → eqb x.0 place ≡ t → (instruction_at rest place ≡ Some found → IsFrom rest (λ y. y.0 ≡ place)) → cond t (Some (x.1, first_place rest)) (instruction_at rest place) ≡ Some found → IsFrom (x ∷ rest) (λ y. y.0 ≡ place)
+insn_at_one : {A : Type 0} (x : ℕ × A) (rest : List (ℕ × A)) (place : ℕ) (found : A × Option ℕ) (t : Bool) → eqb x.0 place ≡ t
+    → (instruction_at rest place ≡ Some found → IsFrom rest (λ y. y.0 ≡ place))
+    → cond t (Some (x.1, first_place rest)) (instruction_at rest place) ≡ Some found → IsFrom (x ∷ rest) (λ y. y.0 ≡ place)
 insn_at_one x rest place found true s more k = record { one = x; among = inl refl; holds = eqb-true x.0 place s }
 insn_at_one x rest place found false s more k = let r = more k in record { one = r.one; among = inr r.among; holds = r.holds }
 
-insn_there : {A : Type 0} (insns : List (ℕ × A)) (place : ℕ) (found : A × Option ℕ) → instruction_at insns place ≡ Some found → IsFrom insns (λ x. x.0 ≡ place)
+insn_there : {A : Type 0} (insns : List (ℕ × A)) (place : ℕ) (found : A × Option ℕ) → instruction_at insns place ≡ Some found
+    → IsFrom insns (λ x. x.0 ≡ place)
 insn_there [] place found e = let no : ⊥ = cc in absurd no
 insn_there (x ∷ rest) place found e = insn_at_one x rest place found (eqb x.0 place) refl (λ k. insn_there rest place found k) e
 
@@ -131,11 +140,13 @@ op_there : (p : Program) (a place : ℕ) (op : Op) → op_at p.methods a place �
 unfolding insn_at
 op_there p a place op e = at (slice_get p.methods a) refl e
   where
-    found : (m : Method) (o : Option (Op × Option ℕ)) → instruction_at m.insns place ≡ o → option_map (λ x. x.0) o ≡ Some op → IsFrom m.insns (λ x. x.0 ≡ place)
+    found : (m : Method) (o : Option (Op × Option ℕ)) → instruction_at m.insns place ≡ o → option_map (λ x. x.0) o ≡ Some op
+        → IsFrom m.insns (λ x. x.0 ≡ place)
     found m None s k = let no : ⊥ = cc in absurd no
     found m (Some x) s k = insn_there m.insns place x s
 
-    at : (o : Option Method) → slice_get p.methods a ≡ o → option_map (λ x. x.0) (option_and_then (λ m. instruction_at m.insns place) o) ≡ Some op → IsThere p a place
+    at : (o : Option Method) → slice_get p.methods a ≡ o
+        → option_map (λ x. x.0) (option_and_then (λ m. instruction_at m.insns place) o) ≡ Some op → IsThere p a place
     at None s k = let no : ⊥ = cc in absurd no
     at (Some m) s k = record { method = m; is = s; insn = found m (instruction_at m.insns place) refl k }
 
@@ -148,9 +159,11 @@ method_is (Some answers.Abstract) b e = let no : ⊥ = cc in absurd no
 method_is (Some answers.NoInterface) b e = let no : ⊥ = cc in absurd no
 
 abbrev RunsFor : Program → Op → ℕ → ℕ → Type 0
-RunsFor p op class b = IsTrue (can_receive p.world op class) × (option_and_then (selected_in (refs_of p.methods)) (selection_at p.world op class) ≡ Some (answers.Method b))
+RunsFor p op class b = IsTrue (can_receive p.world op class)
+    × (option_and_then (selected_in (refs_of p.methods)) (selection_at p.world op class) ≡ Some (answers.Method b))
 
-run_of : (p : Program) (a place class b : ℕ) (op : Op) → op_at p.methods a place ≡ Some op → class_run p a place class ≡ Some b → RunsFor p op class b
+run_of : (p : Program) (a place class b : ℕ) (op : Op) → op_at p.methods a place ≡ Some op → class_run p a place class ≡ Some b
+    → RunsFor p op class b
 unfolding class_run can_receive_at selected_at
 run_of p a place class b op e r = at (op_at p.methods a place) e r
   where
@@ -158,24 +171,33 @@ run_of p a place class b op e r = at (op_at p.methods a place) e r
     test true o k = (refl, method_is o b k)
     test false o k = let no : ⊥ = cc in absurd no
 
-    at : (o : Option Op) → o ≡ Some op → cond (option_map_or (λ x. can_receive p.world x class) o false) (method_of (option_and_then (selected_in (refs_of p.methods)) (option_and_then (λ x. selection_at p.world x class) o))) None ≡ Some b → RunsFor p op class b
+    at : (o : Option Op) → o ≡ Some op
+        → cond (option_map_or (λ x. can_receive p.world x class) o false)
+        (method_of (option_and_then (selected_in (refs_of p.methods)) (option_and_then (λ x. selection_at p.world x class) o))) None
+        ≡ Some b → RunsFor p op class b
     at None s k = let no : ⊥ = cc in absurd no
     at (Some x) s k =
         let same : x ≡ op = cc in
-        subst (λ (y : Op). RunsFor p y class b) same (test (can_receive p.world x class) (option_and_then (selected_in (refs_of p.methods)) (selection_at p.world x class)) k)
+        subst (λ (y : Op). RunsFor p y class b) same
+        (test (can_receive p.world x class) (option_and_then (selected_in (refs_of p.methods)) (selection_at p.world x class)) k)
 
-run_to : (p : Program) (a place class b : ℕ) (op : Op) → op_at p.methods a place ≡ Some op → RunsFor p op class b → class_run p a place class ≡ Some b
+run_to : (p : Program) (a place class b : ℕ) (op : Op) → op_at p.methods a place ≡ Some op → RunsFor p op class b
+    → class_run p a place class ≡ Some b
 unfolding class_run can_receive_at selected_at
 run_to p a place class b op e r =
-    ap (λ (o : Option Op). cond (option_map_or (λ x. can_receive p.world x class) o false) (method_of (option_and_then (selected_in (refs_of p.methods)) (option_and_then (λ x. selection_at p.world x class) o))) None) e
+    ap (λ (o : Option Op). cond (option_map_or (λ x. can_receive p.world x class) o false)
+    (method_of (option_and_then (selected_in (refs_of p.methods)) (option_and_then (λ x. selection_at p.world x class) o))) None) e
     ∙ ap (λ (t : Bool). cond t (method_of (option_and_then (selected_in (refs_of p.methods)) (selection_at p.world op class))) None) r.0
     ∙ ap (λ (o : Option Selected). method_of o) r.1
 
-receives_virtual : (p : Program) (class : ℕ) (call : Call) → IsTrue (can_receive p.world (Invokevirtual call) class) → class < length p.world
+receives_virtual : (p : Program) (class : ℕ) (call : Call) → IsTrue (can_receive p.world (Invokevirtual call) class)
+    → class < length p.world
 unfolding can_receive
-receives_virtual p class call r = made_within p.world class (and_parts (can_be_made p.world class) (is_class_below p.world class call.class) r).0
+receives_virtual p class call r = made_within p.world class
+    (and_parts (can_be_made p.world class) (is_class_below p.world class call.class) r).0
 
-receives_interface : (p : Program) (class : ℕ) (call : Call) → IsTrue (can_receive p.world (Invokeinterface call) class) → class < length p.world
+receives_interface : (p : Program) (class : ℕ) (call : Call) → IsTrue (can_receive p.world (Invokeinterface call) class)
+    → class < length p.world
 unfolding can_receive
 receives_interface p class call r = made_within p.world class r
 
@@ -190,16 +212,20 @@ to_target : (target : Option ℕ) (b : ℕ) → target ≡ Some b → Has (optio
 to_target None b e = let no : ⊥ = cc in absurd no
 to_target (Some n) b e = inl (cc)
 
-of_classes : (p : Program) (a place b : ℕ) (op : Op) → op_at p.methods a place ≡ Some op → Has (class_runs p a place) b → (class : ℕ) × IsTrue (can_receive p.world op class) × (option_and_then (selected_in (refs_of p.methods)) (selection_at p.world op class) ≡ Some (answers.Method b))
+of_classes : (p : Program) (a place b : ℕ) (op : Op) → op_at p.methods a place ≡ Some op → Has (class_runs p a place) b
+    → (class : ℕ) × IsTrue (can_receive p.world op class)
+    × (option_and_then (selected_in (refs_of p.methods)) (selection_at p.world op class) ≡ Some (answers.Method b))
 unfolding class_runs
 of_classes p a place b op e h =
     let r = from_filter (class_run p a place) (range_with_len 0 (length p.world)) b h in
     let k = run_of p a place r.one b op e r.holds in
     (r.one, k.0, k.1)
 
-to_classes : (p : Program) (a place b : ℕ) (op : Op) (class : ℕ) → op_at p.methods a place ≡ Some op → class < length p.world → RunsFor p op class b → Has (class_runs p a place) b
+to_classes : (p : Program) (a place b : ℕ) (op : Op) (class : ℕ) → op_at p.methods a place ≡ Some op → class < length p.world
+    → RunsFor p op class b → Has (class_runs p a place) b
 unfolding class_runs
-to_classes p a place b op class e l r = to_filter (class_run p a place) (range_with_len 0 (length p.world)) class b (in_range 0 (length p.world) class (omega arith) (omega (arith, l))) (run_to p a place class b op e r)
+to_classes p a place b op class e l r = to_filter (class_run p a place) (range_with_len 0 (length p.world)) class b
+    (in_range 0 (length p.world) class (omega arith) (omega (arith, l))) (run_to p a place class b op e r)
 
 can_run : (p : Program) (a place b : ℕ) (op : Op) → op_at p.methods a place ≡ Some op → Has (op_runs p a place op) b → CanRun p op b
 can_run p a place b (Invokestatic call) e h = of_target call.target b h
@@ -221,8 +247,10 @@ is_run : (p : Program) (a place b : ℕ) (op : Op) → op_at p.methods a place �
 unfolding can_receive
 is_run p a place b (Invokestatic call) e r = to_target call.target b r
 is_run p a place b (Invokespecial call) e r = to_target call.target b r
-is_run p a place b (Invokevirtual call) e r = to_classes p a place b (Invokevirtual call) r.0 e (receives_virtual p r.0 call r.1) (r.1, r.2)
-is_run p a place b (Invokeinterface call) e r = to_classes p a place b (Invokeinterface call) r.0 e (receives_interface p r.0 call r.1) (r.1, r.2)
+is_run p a place b (Invokevirtual call) e r = to_classes p a place b (Invokevirtual call) r.0 e (receives_virtual p r.0 call r.1)
+    (r.1, r.2)
+is_run p a place b (Invokeinterface call) e r = to_classes p a place b (Invokeinterface call) r.0 e
+    (receives_interface p r.0 call r.1) (r.1, r.2)
 is_run p a place b (Plain insn) e r = absurd (false≢true r.1)
 is_run p a place b (Constant n) e r = absurd (false≢true r.1)
 is_run p a place b (Getstatic used) e r = absurd (false≢true r.1)
@@ -262,8 +290,10 @@ pub calls_edge : (p : Program) (a b : ℕ) → Calls p a b → Edge (graph_of p)
 unfolding method_runs
 calls_edge p a b c =
     let t = op_there p a c.place c.op c.stands in
-    let k : Has (place_runs p a t.insn.one.0) b = subst (λ (place : ℕ). Has (place_runs p a place) b) (sym t.insn.holds) (to_place p a c.place b c.op c.stands c.runs) in
-    subst (λ (row : List ℕ). Has row b) (sym (row_is p a t.method t.is)) (to_flat (λ (x : ℕ × Op). place_runs p a x.0) t.method.insns t.insn.one b t.insn.among k)
+    let k : Has (place_runs p a t.insn.one.0) b = subst (λ (place : ℕ). Has (place_runs p a place) b) (sym t.insn.holds)
+    (to_place p a c.place b c.op c.stands c.runs) in
+    subst (λ (row : List ℕ). Has row b) (sym (row_is p a t.method t.is))
+    (to_flat (λ (x : ℕ × Op). place_runs p a x.0) t.method.insns t.insn.one b t.insn.among k)
 
 -- ---- cycles
 
@@ -276,11 +306,13 @@ to_edges p [] a b w = calls_edge p a b w
 to_edges p (next ∷ way) a b w = (calls_edge p a next w.0, to_edges p way next b w.1)
 
 -- no method is on a cycle
-pub none_calls : (p : Program) (graph : List (List ℕ)) → graph ≡ graph_of p → ((a : ℕ) → IsOnCycle (Edge graph) a → ⊥) → (a : ℕ) → IsOnCycle (Calls p) a → ⊥
+pub none_calls : (p : Program) (graph : List (List ℕ)) → graph ≡ graph_of p → ((a : ℕ) → IsOnCycle (Edge graph) a → ⊥) → (a : ℕ)
+    → IsOnCycle (Calls p) a → ⊥
 none_calls p graph e none a on = none a (subst (λ (g : List (List ℕ)). IsOnCycle (Edge g) a) (sym e) (on.0, to_edges p on.0 a a on.1))
 
 -- the least method on one
-pub least_calls : (p : Program) (graph : List (List ℕ)) (a : ℕ) → graph ≡ graph_of p → IsLeastOnCycle (Edge graph) a → IsLeastOnCycle (Calls p) a
+pub least_calls : (p : Program) (graph : List (List ℕ)) (a : ℕ) → graph ≡ graph_of p → IsLeastOnCycle (Edge graph) a
+    → IsLeastOnCycle (Calls p) a
 least_calls p graph a e l =
     let here : IsLeastOnCycle (Edge (graph_of p)) a = subst (λ (g : List (List ℕ)). IsLeastOnCycle (Edge g) a) e l in
     record {

@@ -1,5 +1,6 @@
 -- A listing without faults says a class that has a text.
-use Rattle.std.proofs.Common.{◌≡◌, ℕ, zero, suc, ◌+◌, ◌*◌, ◌<◌, ◌≤◌, ◌^◌, cond, List, [], ◌∷◌, ◌++◌, length, map, slice_get, Option, Some, None, is_some, refl, arith}
+use Rattle.std.proofs.Common.{◌≡◌, ℕ, zero, suc, ◌+◌, ◌*◌, ◌<◌, ◌≤◌, ◌^◌, cond, List, [], ◌∷◌, ◌++◌, length, map, slice_get, Option}
+use Rattle.std.proofs.Common.{Some, None, is_some, refl, arith}
 use Rattle.std.specs.List.{flat_map, AllByRecursion}
 use Rattle.std.specs.Option.{option_map_or}
 use Rattle.std.proofs.lemmas.List.{length-append}
@@ -26,9 +27,12 @@ use Rattle.asm_lines.specs.Firsts.{with_faults, unless}
 use Rattle.asm_pool.specs.Needs.{line_needs, attribute_entries, listing_needs}
 use Rattle.asm_pool.specs.Pools.{Need, Numbered, need_faults, count_faults, pool_entry, number_of, firsts_in, pool_in, pool_faults}
 use Rattle.asm_pool.specs.Entries.{Entry, Class}
-use Rattle.class_asm.specs.Rules.{past_count, seconds, field_key, method_key, fields_faults, methods_faults, attributes_faults, field_faults, method_faults, attribute_lines, attribute_faults, constant_faults, content_fits, class_is_good, rule_faults}
+use Rattle.class_asm.specs.Rules.{past_count, seconds, field_key, method_key, fields_faults, methods_faults, attributes_faults}
+use Rattle.class_asm.specs.Rules.{field_faults, method_faults, attribute_lines, attribute_faults, constant_faults, content_fits}
+use Rattle.class_asm.specs.Rules.{class_is_good, rule_faults}
 use Rattle.class_asm.specs.Classes as classes
-use Rattle.class_asm.specs.Classes.{code_said, code_in, said_faults, item_attributes, code_attributes, attributes_size, code_size, code_fits, code_faults, field_text, method_text, class_text, all_faults}
+use Rattle.class_asm.specs.Classes.{code_said, code_in, said_faults, item_attributes, code_attributes, attributes_size, code_size}
+use Rattle.class_asm.specs.Classes.{code_fits, code_faults, field_text, method_text, class_text, all_faults}
 use Rattle.class_asm.proofs.CodeBounds.{few}
 use Rattle.asm_lines.proofs.Faultless.{no_faults, left, right, each, is_good, first_of_both, second_of_both, all_both}
 use Rattle.asm_pool.proofs.PoolBounds.{places_counted}
@@ -54,9 +58,15 @@ attribute_size a = omega (arith, length-append (u2 a.0) (u4 (length a.1) ++ a.1)
 
 all_size : (attributes : List (ℕ × List ℕ)) → length (flat_map attribute_text attributes) ≡ attributes_size attributes
 all_size [] = refl
-all_size (a ∷ attributes) = omega (arith, length-append (attribute_text a) (flat_map attribute_text attributes), attribute_size a, all_size attributes)
+all_size (a ∷ attributes) = omega (
+  arith,
+  length-append (attribute_text a) (flat_map attribute_text attributes),
+  attribute_size a,
+  all_size attributes,
+)
 
-pub content_size : (max_stack max_locals : ℕ) (code : MethodCode) (attributes : List (ℕ × List ℕ)) → length (code_text max_stack max_locals code.bytes code.table attributes) ≡ code_size code attributes
+pub content_size : (max_stack max_locals : ℕ) (code : MethodCode) (attributes : List (ℕ × List ℕ))
+    → length (code_text max_stack max_locals code.bytes code.table attributes) ≡ code_size code attributes
 content_size max_stack max_locals code attributes =
     let table = code.table in
     let tables : List ℕ = flat_map handler_text table in
@@ -78,7 +88,8 @@ content_size max_stack max_locals code attributes =
       all_size attributes,
     )
 
-pub each_short : (attributes : List (ℕ × List ℕ)) (most : ℕ) → attributes_size attributes < most → AllByRecursion (λ a. length a.1 < most) attributes
+pub each_short : (attributes : List (ℕ × List ℕ)) (most : ℕ) → attributes_size attributes < most
+    → AllByRecursion (λ a. length a.1 < most) attributes
 each_short [] most h = tt
 each_short (a ∷ attributes) most h = (omega (arith, h), each_short attributes most (omega (arith, h)))
 
@@ -91,7 +102,8 @@ item_count pool line (items.Catch x) = refl
 item_count pool line (items.Attribute x) = refl
 item_count pool line items.End = refl
 
-pub attributes_count : (pool : Numbered) (lines : List CodeLine) → length (code_attributes pool lines) ≡ length (flat_map (line_needs attribute_entries) lines)
+pub attributes_count : (pool : Numbered) (lines : List CodeLine)
+    → length (code_attributes pool lines) ≡ length (flat_map (line_needs attribute_entries) lines)
 attributes_count pool [] = refl
 attributes_count pool (code ∷ lines) =
     omega (
@@ -107,14 +119,16 @@ abbrev attributes_of : Numbered → MethodLines → Option (Number × Number) �
 attributes_of pool m sizes = option_map_or (λ s. classes.code_text pool m (code_in (code_said pool m)) s ∷ []) sizes []
 
 with_sizes : (pool : Numbered) (m : MethodLines) (sizes : Option (Number × Number)) → length (code_attributes pool m.lines) < 2 ^ 16
-    → cond (is_some sizes) (said_faults (code_said pool m) ++ unless (code_fits (code_in (code_said pool m)) (code_attributes pool m.lines)) m.line) [] ≡ []
+    → cond (is_some sizes)
+    (said_faults (code_said pool m) ++ unless (code_fits (code_in (code_said pool m)) (code_attributes pool m.lines)) m.line) [] ≡ []
     → (length (attributes_of pool m sizes) < 2 ^ 16) × AllByRecursion HasAttrText (attributes_of pool m sizes)
 with_sizes pool m None count h = (omega arith, tt)
 with_sizes pool m (Some sizes) count h =
     let code = code_in (code_said pool m) in
     let attributes = code_attributes pool m.lines in
     let bound = few pool m in
-    let fits = nat_lt_true (code_size code attributes) (2 ^ 32) (is_good _ m.line (right (said_faults (code_said pool m)) (unless (code_fits code attributes) m.line) h)) in (
+    let fits = nat_lt_true (code_size code attributes) (2 ^ 32)
+    (is_good _ m.line (right (said_faults (code_said pool m)) (unless (code_fits code attributes) m.line) h)) in (
       omega arith,
       (
         (
@@ -130,9 +144,16 @@ with_sizes pool m (Some sizes) count h =
 
 method_bounds : (pool : Numbered) (m : MethodLines) → method_faults m ≡ [] → code_faults pool m ≡ [] → HasMemberText (method_text pool m)
 method_bounds pool m h k =
-    let lines = within_count (λ line. line) (attribute_lines m.lines) (right (unless _ m.line) (past_count (λ line. line) (attribute_lines m.lines)) h) in
+    let lines = within_count (λ line. line) (attribute_lines m.lines)
+    (right (unless _ m.line) (past_count (λ line. line) (attribute_lines m.lines)) h) in
     let count : length (code_attributes pool m.lines) < 2 ^ 16 =
-    omega (arith, lines, length_mapped (λ need. need.1) (flat_map (line_needs attribute_entries) m.lines), attributes_count pool m.lines) in
+    omega (
+      arith,
+      lines,
+      length_mapped (λ need. need.1) (flat_map (line_needs attribute_entries) m.lines),
+      attributes_count pool
+          m.lines,
+    ) in
     let made = with_sizes pool m m.head.sizes count k in
     record { count = made.0; each = made.1 }
 
@@ -156,7 +177,8 @@ has_text line class listing h texts =
     let both = left (rule_faults line class listing ++ pool_faults needs) codes none in
     let no_codes = right (rule_faults line class listing ++ pool_faults needs) codes none in
     let no_rules = left (rule_faults line class listing) (pool_faults needs) both in
-    let no_count = right (flat_map need_faults needs) (count_faults 1 (firsts_in needs)) (right (rule_faults line class listing) (pool_faults needs) both) in
+    let no_count = right (flat_map need_faults needs) (count_faults 1 (firsts_in needs))
+    (right (rule_faults line class listing) (pool_faults needs) both) in
     let own = unless (class_is_good class) line in
     let fields = fields_faults listing.fields in
     let methods = methods_faults listing.methods in
@@ -168,12 +190,15 @@ has_text line class listing h texts =
     let no_methods = right (own ++ fields) methods no_members in
     let no_fields = right own fields (left (own ++ fields) methods no_members) in
     let good = is_good (class_is_good class) line (left own fields (left (own ++ fields) methods no_members)) in
-    let counted_fields = within_count (λ f. f.0) listing.fields (right (flat_map field_faults listing.fields ++ seconds [] (map field_key listing.fields)) (past_count (λ f. f.0) listing.fields) no_fields) in
+    let counted_fields = within_count (λ f. f.0) listing.fields
+    (right (flat_map field_faults listing.fields ++ seconds [] (map field_key listing.fields))
+    (past_count (λ f. f.0) listing.fields) no_fields) in
     let of_methods = flat_map method_faults listing.methods in
     let second_methods = seconds [] (map method_key listing.methods) in
     let past_methods = past_count (λ m. m.line) listing.methods in
     let counted_methods = within_count (λ m. m.line) listing.methods (right (of_methods ++ second_methods) past_methods no_methods) in
-    let each_method = each method_faults listing.methods (left of_methods second_methods (left (of_methods ++ second_methods) past_methods no_methods)) in
+    let each_method = each method_faults listing.methods
+    (left of_methods second_methods (left (of_methods ++ second_methods) past_methods no_methods)) in
     let of_attributes = flat_map attribute_faults listing.attributes in
     let past_attributes = past_count (λ a. a.0) listing.attributes in
     let counted_attributes = within_count (λ a. a.0) listing.attributes (right of_attributes past_attributes no_attributes) in
@@ -185,10 +210,12 @@ has_text line class listing h texts =
       each_field = field_bounds pool listing.fields;
       methods = omega (arith, counted_methods, length_mapped (method_text pool) listing.methods);
       each_method = all_mapped HasMemberText (method_text pool) listing.methods
-          (all_both (λ m. method_faults m ≡ []) (λ m. code_faults pool m ≡ []) (λ m. HasMemberText (method_text pool m)) (method_bounds pool) listing.methods each_method
+          (all_both (λ m. method_faults m ≡ []) (λ m. code_faults pool m ≡ []) (λ m. HasMemberText (method_text pool m))
+          (method_bounds pool) listing.methods each_method
           (each (code_faults pool) listing.methods no_codes));
       attributes = omega (arith, counted_attributes, length_mapped (classes.attribute_text pool) listing.attributes);
       each_attribute = all_mapped HasAttrText (classes.attribute_text pool) listing.attributes
-          (all_weaker (λ a. attribute_faults a ≡ []) (λ a. HasAttrText (classes.attribute_text pool a)) (attribute_bound pool) listing.attributes
+          (all_weaker (λ a. attribute_faults a ≡ []) (λ a. HasAttrText (classes.attribute_text pool a)) (attribute_bound pool)
+          listing.attributes
           (each attribute_faults listing.attributes (left of_attributes past_attributes no_attributes)));
     }

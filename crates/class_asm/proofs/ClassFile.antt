@@ -33,12 +33,14 @@ unfaulty : (o : Option AsmFault) (class answer : ClassText) → unless_faulty o 
 unfaulty None class answer h = (refl, cc)
 unfaulty (Some fault) class answer h = absurd cc
 
-class_kept : (line : ℕ) (class : ClassLine) (listing : Listing) (answer : ClassText) → GoodLines (line, class, listing) → class_of line class listing ≡ Ok answer
+class_kept : (line : ℕ) (class : ClassLine) (listing : Listing) (answer : ClassText) → GoodLines (line, class, listing)
+    → class_of line class listing ≡ Ok answer
     → WellFormed answer × SaysClass class listing (content_of answer) × (listing.first.fault ≡ None) × (answer.minor ≡ 0)
 unfolding class_of
 class_kept line class listing answer good h =
     let faults = all_faults line class listing in
-    let u = unfaulty (with_faults listing.first.fault faults) (class_text (pool_in (listing_needs line class listing)) class listing) answer h in
+    let u = unfaulty (with_faults listing.first.fault faults)
+    (class_text (pool_in (listing_needs line class listing)) class listing) answer h in
     let none = no_faults listing.first.fault faults u.0 in
     let whole = none_first listing.first.fault faults u.0 in (
       subst WellFormed u.1 (well_formed line class listing good.0 (good.1 whole) none),

@@ -15,10 +15,12 @@ pub record IsFew (code : MethodCode) : Type 0 where
   pub bytes : length code.bytes < 2 ^ 16
   pub table : length code.table < 2 ^ 16
 
-answered_few : (lines : List Pooled) (o : Option AsmFault) → first_fault (places_of lines) lines ≡ o → IsFew (code_in (answered o (code_at (places_of lines) lines)))
+answered_few : (lines : List Pooled) (o : Option AsmFault) → first_fault (places_of lines) lines ≡ o
+    → IsFew (code_in (answered o (code_at (places_of lines) lines)))
 answered_few lines None h = let s = sized lines (code_at (places_of lines) lines) h refl in record { bytes = s.few; table = s.table }
 answered_few lines (Some fault) h = record { bytes = omega arith; table = omega arith }
 
 pub few : (pool : Numbered) (m : MethodLines) → IsFew (code_in (code_said pool m))
 unfolding method_code
-few pool m = answered_few (map (pooled pool) m.lines) (first_fault (places_of (map (pooled pool) m.lines)) (map (pooled pool) m.lines)) refl
+few pool m = answered_few (map (pooled pool) m.lines)
+    (first_fault (places_of (map (pooled pool) m.lines)) (map (pooled pool) m.lines)) refl

@@ -19,4 +19,5 @@ left_over b s h = elim (leb_tells s (2 ^ 32 - 1 - b)) [
 
 pub fits_left : (code : MethodCode) (attributes : List (ℕ × List ℕ)) → length code.bytes < 2 ^ 16 → length code.table < 2 ^ 16
     → nat_le (attributes_size attributes) (0xffffffff - (12 + length code.bytes + 8 * length code.table)) ≡ code_fits code attributes
-fits_left code attributes b t = left_over (12 + length code.bytes + 8 * length code.table) (attributes_size attributes) (omega (arith, b, t))
+fits_left code attributes b t = left_over (12 + length code.bytes + 8 * length code.table) (attributes_size attributes)
+    (omega (arith, b, t))

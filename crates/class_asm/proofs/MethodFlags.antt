@@ -1,5 +1,6 @@
 -- A method's flags, public but for `private`, say whether it has code, and so do the sizes of its line.
-use Rattle.std.proofs.Common.{◌≡◌, ℕ, zero, suc, ◌<◌, ◌^◌, Bool, true, false, cond, not, ◌&&◌, eqb, is_some, refl, subst, ◌∙◌, arith, inl, inr}
+use Rattle.std.proofs.Common.{◌≡◌, ℕ, zero, suc, ◌<◌, ◌^◌, Bool, true, false, cond, not, ◌&&◌, eqb, is_some, refl, subst, ◌∙◌}
+use Rattle.std.proofs.Common.{arith, inl, inr}
 use Rattle.std.specs.Prelude.{bit_and, bit_or}
 use Rattle.std.proofs.lemmas.Bool.{cases_lt, and_parts}
 use Rattle.std.proofs.lemmas.Nat.{or_lt}
@@ -40,7 +41,8 @@ same_is true false h = absurd cc
 same_is false true h = absurd cc
 
 pub has_sizes : (head : MethodLine) → GoodHead head → has_code (method_flags head) ≡ is_some head.sizes
-has_sizes head good = same_is (has_code (flags_in head.flags)) (eqb (bit_and head.flags 0x0500) 0) (each_agrees (2 ^ 11) head.flags refl good.flags) ∙ good.sizes
+has_sizes head good = same_is (has_code (flags_in head.flags)) (eqb (bit_and head.flags 0x0500) 0)
+    (each_agrees (2 ^ 11) head.flags refl good.flags) ∙ good.sizes
 
 flags_fit : (flags : ℕ) (b : Bool) → flags < 2 ^ 11 → cond b (bit_or flags 0x0001) flags < 2 ^ 16
 flags_fit flags true h = let l = or_lt 11 flags 1 h (omega arith) in omega (arith, l)

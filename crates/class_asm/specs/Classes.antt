@@ -1,5 +1,6 @@
 -- The class that a listing says, or its first fault.
-use Rattle.std.specs.Prelude.{ℕ, ◌+◌, ◌*◌, ◌^◌, Bool, true, false, ◌==◌, nat_lt, bit_or, List, [], ◌∷◌, ◌++◌, length, map, Option, Some, None, is_some, Ok, Err, if◌then◌else◌}
+use Rattle.std.specs.Prelude.{ℕ, ◌+◌, ◌*◌, ◌^◌, Bool, true, false, ◌==◌, nat_lt, bit_or, List, [], ◌∷◌, ◌++◌, length, map, Option}
+use Rattle.std.specs.Prelude.{Some, None, is_some, Ok, Err, if◌then◌else◌}
 use Rattle.std.specs.List.{flat_map}
 use Rattle.std.specs.Option.{option_map, option_map_or, unwrap_or}
 use Rattle.class_read.specs.Text.{class_bytes}
@@ -93,7 +94,8 @@ code_fits code attributes = nat_lt (code_size code attributes) (2 ^ 32)
 -- The faults of a code, and of its method's line where the content is too long for its length.
 abbrev pub code_faults : Numbered → MethodLines → List AsmFault
 code_faults pool m =
-    if is_some m.head.sizes then said_faults (code_said pool m) ++ unless (code_fits (code_in (code_said pool m)) (code_attributes pool m.lines)) m.line
+    if is_some m.head.sizes then said_faults (code_said pool m) ++ unless
+    (code_fits (code_in (code_said pool m)) (code_attributes pool m.lines)) m.line
     else []
 
 -- ---- members
@@ -156,7 +158,8 @@ unless_faulty None class = Ok class
 -- What a listing's lines say together: the class, or the first fault of all.
 unfoldable pub class_of : ℕ → ClassLine → Listing → Said ClassText
 class_of line class listing =
-    unless_faulty (with_faults listing.first.fault (all_faults line class listing)) (class_text (pool_in (listing_needs line class listing)) class listing)
+    unless_faulty (with_faults listing.first.fault (all_faults line class listing))
+    (class_text (pool_in (listing_needs line class listing)) class listing)
 
 -- The bytes of the class that a text says, or its first fault.
 unfoldable pub assembled : List ℕ → Said (List ℕ)

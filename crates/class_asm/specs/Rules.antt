@@ -1,6 +1,7 @@
 -- The rules on a listing that no line keeps by itself, and those on names, descriptors and numbers (JVM specification,
 -- sections 4.1, 4.2.1 and 4.3). A line that breaks one is out of range.
-use Rattle.std.specs.Prelude.{ℕ, ◌^◌, Bool, true, false, ◌&&◌, nat_lt, bit_and, bit_or, ◌==◌, List, [], ◌∷◌, ◌++◌, length, map, slice_get, Option, Some, None, is_some, if◌then◌else◌}
+use Rattle.std.specs.Prelude.{ℕ, ◌^◌, Bool, true, false, ◌&&◌, nat_lt, bit_and, bit_or, ◌==◌, List, [], ◌∷◌, ◌++◌, length, map}
+use Rattle.std.specs.Prelude.{slice_get, Option, Some, None, is_some, if◌then◌else◌}
 use Rattle.std.specs.List.{flat_map, list_all, list_any}
 use Rattle.std.specs.Option.{option_map_or}
 use Rattle.class_base.specs.declared.member_kind.MemberKind.TheVariants.{Field, Method}

@@ -39,7 +39,8 @@ abbrev pub NamesEntry : List PoolEntry → Operation → PoolOperand → Type 0
 NamesEntry pool (LoadInt op n) need = (value : ℤ) × (int_of n ≡ Some value) × (integer_at pool need.entry ≡ Some value)
 NamesEntry pool (LoadString op text) need = string_at pool need.entry ≡ Some text
 NamesEntry pool (Member op class name desc) need =
-    (member_at pool need.entry ≡ Some (member_tag op, class, name, desc)) × (op ≡ 185 → option_map (λ words. words + 1) (method_words desc) ≡ Some need.words)
+    (member_at pool need.entry ≡ Some (member_tag op, class, name, desc))
+    × (op ≡ 185 → option_map (λ words. words + 1) (method_words desc) ≡ Some need.words)
 NamesEntry pool (Class op name) need = class_name_at pool need.entry ≡ Some name
 NamesEntry pool operation need = Unit {0}
 

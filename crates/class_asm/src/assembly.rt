@@ -66,7 +66,8 @@ fn gather<'a>(
     listing: &'a Listing,
 ) -> Result<Gathered<'a>, AllocError>
     ensures pool { IfOk result (λ p. p.pool ≡ pool_in (listing_needs line class.now listing.now)) }
-    ensures methods { IfOk result (λ p. p.methods ≡ map (method_text (pool_in (listing_needs line class.now listing.now))) listing.now.methods) }
+    ensures methods { IfOk result (λ p. p.methods ≡ map (method_text (pool_in (listing_needs line class.now listing.now)))
+        listing.now.methods) }
     ensures faults { OnOk result (first.new.fault ≡ with_faults first.old.fault (all_faults line class.now listing.now)) }
 {
     check_rules(alloc, first, line, class, listing)?;

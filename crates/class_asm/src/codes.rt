@@ -5,7 +5,8 @@ ghost use Rattle.std.specs.Option.{option_map};
 ghost use Rattle.asm_pool.specs.Entries.{seen};
 ghost use Rattle.asm_lines.specs.Firsts.{with_faults};
 ghost use Rattle.asm_pool.specs.Needs.{takes_entry};
-ghost use Rattle.class_asm.specs.Classes.{entry_need, call_words, item_need, pooled, code_said, code_in, said_faults, item_attributes, code_attributes, attributes_size, code_fits};
+ghost use Rattle.class_asm.specs.Classes.{entry_need, call_words, item_need, pooled, code_said, code_in, said_faults};
+ghost use Rattle.class_asm.specs.Classes.{item_attributes, code_attributes, attributes_size, code_fits};
 ghost use Rattle.asm_codes.specs.MethodCodes.{make_code};
 ghost use Rattle.asm_lines.specs.Statements.{Gives};
 

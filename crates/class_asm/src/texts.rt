@@ -5,7 +5,8 @@ ghost use Rattle.std.specs.List.{flat_map};
 ghost use Rattle.asm_pool.specs.Entries.{Class, Utf8};
 ghost use Rattle.asm_lines.specs.Firsts.{with_faults, unless};
 ghost use Rattle.asm_pool.specs.Pools.{number_of};
-ghost use Rattle.class_asm.specs.Classes.{code_said, code_in, said_faults, code_fits, code_attributes, code_faults, field_text, size_of, code_text, method_attributes, method_text, class_flags, attribute_text};
+ghost use Rattle.class_asm.specs.Classes.{code_said, code_in, said_faults, code_fits, code_attributes, code_faults, field_text};
+ghost use Rattle.class_asm.specs.Classes.{size_of, code_text, method_attributes, method_text, class_flags, attribute_text};
 
 use crate::codes::{code_attributes, code_fits, code_in};
 use crate::rules::{field_flags, method_flags};
@@ -88,7 +89,10 @@ fn code_text(
     sizes: (Number, Number),
 ) -> Result<AttrText, AllocError>
     ensures text { IfOk result (λ t. t ≡ code_text pool.now m.now (code_in (code_said pool.now m.now)) sizes) }
-    ensures faults { OnOk result (first.new.fault ≡ with_faults first.old.fault (said_faults (code_said pool.now m.now) ++ unless (code_fits (code_in (code_said pool.now m.now)) (code_attributes pool.now m.now.lines)) m.now.line)) }
+    ensures faults { OnOk result
+        (first.new.fault ≡ with_faults first.old.fault
+        (said_faults (code_said pool.now m.now) ++ unless
+        (code_fits (code_in (code_said pool.now m.now)) (code_attributes pool.now m.now.lines)) m.now.line)) }
 {
     let code = code_in(alloc, first, pool, m)?;
     let attributes = code_attributes(alloc, pool, m.lines.as_slice())?;

@@ -1,5 +1,6 @@
 -- The types of a method's parameters are read one by one, and something is kept of them.
-use Rattle.std.proofs.Common.{◌≡◌, ◌≢◌, ℕ, zero, suc, ◌+◌, ◌-◌, ◌<◌, ◌≤◌, false, eqb, List, [], ◌∷◌, ◌++◌, length, Option, Some, None, refl, sym, ap, ◌∙◌, append_assoc, append-nil, arith}
+use Rattle.std.proofs.Common.{◌≡◌, ◌≢◌, ℕ, zero, suc, ◌+◌, ◌-◌, ◌<◌, ◌≤◌, false, eqb, List, [], ◌∷◌, ◌++◌, length, Option, Some}
+use Rattle.std.proofs.Common.{None, refl, sym, ap, ◌∙◌, append_assoc, append-nil, arith}
 use Rattle.std.proofs.lemmas.Bool.{ne_eqb}
 use Rattle.std.specs.Option.{option_map}
 use Rattle.list_views.specs.Options.{Finds}
@@ -51,19 +52,23 @@ ends step turns i first s rest after all lt is_first is_end so_far =
     let one : gathered step s (types_at (turns - i) rest) ≡ Some (s, after) = rw (k, is_first, is_end) refl in
     sym so_far ∙ one
 
-first_kept : {S : Type 0} (step : S → FieldType → S) (s : S) (t : FieldType) (read : Option (List FieldType × List ℕ)) → gathered step s (option_map (λ more. (t ∷ more.0, more.1)) read) ≡ gathered step (step s t) read
+first_kept : {S : Type 0} (step : S → FieldType → S) (s : S) (t : FieldType) (read : Option (List FieldType × List ℕ))
+    → gathered step s (option_map (λ more. (t ∷ more.0, more.1)) read) ≡ gathered step (step s t) read
 first_kept step s t None = refl
 first_kept step s t (Some x) = refl
 
-pub goes : {S : Type 0} (step : S → FieldType → S) (turns i first : ℕ) (t : FieldType) (s more : S) (rest after next : List ℕ) (all : Option (S × List ℕ))
-    → i < turns → rest ≡ first ∷ after → first ≢ 41 → type_at rest ≡ Some (t, next) → more ≡ step s t → gathered step s (types_at (turns - i) rest) ≡ all
+pub goes : {S : Type 0} (step : S → FieldType → S) (turns i first : ℕ) (t : FieldType) (s more : S) (rest after next : List ℕ)
+    (all : Option (S × List ℕ))
+    → i < turns → rest ≡ first ∷ after → first ≢ 41 → type_at rest ≡ Some (t, next) → more ≡ step s t
+    → gathered step s (types_at (turns - i) rest) ≡ all
     → gathered step more (types_at (turns - (i + 1)) next) ≡ all
 unfolding types_at
 goes step turns i first t s more rest after next all lt is_first no_end read is so_far =
     let k : turns - i ≡ suc (turns - (i + 1)) = omega arith in
     let other : eqb first 41 ≡ false = ne_eqb first 41 no_end in
     let here : type_at (first ∷ after) ≡ Some (t, next) = rw (← is_first) read in
-    let one : gathered step s (types_at (turns - i) rest) ≡ gathered step s (option_map (λ more. (t ∷ more.0, more.1)) (types_at (turns - (i + 1)) next)) = rw (k, is_first, other, here) refl in
+    let one : gathered step s (types_at (turns - i) rest) ≡ gathered step s
+    (option_map (λ more. (t ∷ more.0, more.1)) (types_at (turns - (i + 1)) next)) = rw (k, is_first, other, here) refl in
     rw is (sym (first_kept step s t (types_at (turns - (i + 1)) next)) ∙ sym one ∙ so_far)
 
 pub fails : {S : Type 0} (step : S → FieldType → S) (turns i first : ℕ) (s : S) (rest after : List ℕ) (all : Option (S × List ℕ))
@@ -76,13 +81,15 @@ fails step turns i first s rest after all lt is_first no_end read so_far =
     let one : gathered step s (types_at (turns - i) rest) ≡ None = rw (k, is_first, other, here) refl in
     sym so_far ∙ one
 
-pub empty : {S : Type 0} (step : S → FieldType → S) (turns : ℕ) (s : S) (rest : List ℕ) (all : Option (S × List ℕ)) → length rest ≡ 0 → gathered step s (types_at turns rest) ≡ all → all ≡ None
+pub empty : {S : Type 0} (step : S → FieldType → S) (turns : ℕ) (s : S) (rest : List ℕ) (all : Option (S × List ℕ))
+    → length rest ≡ 0 → gathered step s (types_at turns rest) ≡ all → all ≡ None
 unfolding types_at
 empty step zero s rest all none so_far = sym so_far
 empty step (suc turns) s [] all none so_far = sym so_far
 empty step (suc turns) s (b ∷ rest) all none so_far = absurd (omega arith)
 
-pub out : {S : Type 0} (step : S → FieldType → S) (turns i : ℕ) (s : S) (rest : List ℕ) (all : Option (S × List ℕ)) → turns ≤ i → gathered step s (types_at (turns - i) rest) ≡ all → all ≡ None
+pub out : {S : Type 0} (step : S → FieldType → S) (turns i : ℕ) (s : S) (rest : List ℕ) (all : Option (S × List ℕ)) → turns ≤ i
+    → gathered step s (types_at (turns - i) rest) ≡ all → all ≡ None
 unfolding types_at
 out step turns i s rest all le so_far =
     let k : turns - i ≡ 0 = omega arith in

@@ -1,5 +1,6 @@
 -- A descriptor is read as a type exactly where it is the text of one.
-use Rattle.std.proofs.Common.{◌≡◌, ℕ, zero, suc, ◌≤◌, Bool, true, false, cond, ltb, eqb, ◌&&◌, List, [], ◌∷◌, ◌++◌, length, get_or, take, drop, Option, Some, None, refl, sym, ap, subst, ◌∙◌, append_assoc, arith, inl, inr}
+use Rattle.std.proofs.Common.{◌≡◌, ℕ, zero, suc, ◌≤◌, Bool, true, false, cond, ltb, eqb, ◌&&◌, List, [], ◌∷◌, ◌++◌, length, get_or}
+use Rattle.std.proofs.Common.{take, drop, Option, Some, None, refl, sym, ap, subst, ◌∙◌, append_assoc, arith, inl, inr}
 use Rattle.std.specs.Prelude.{position, replicate}
 use Rattle.std.specs.List.{list_all, position_or_len}
 use Rattle.std.specs.Option.{option_and_then}
@@ -13,11 +14,13 @@ use Rattle.class_base.specs.declared.types.Element.{Element}
 use Rattle.class_base.specs.declared.types.Element.TheVariants.{Primitive, Object}
 use Rattle.class_base.specs.declared.types.FieldType.{FieldType}
 use Rattle.class_base.specs.ClassNames.{is_name_byte, is_class_name}
-use Rattle.class_base.specs.Types.{is_primitive, IsElement, IsType, element_text, type_text, array_depth, object_at, element_at, type_at, field_type, IsFieldType}
+use Rattle.class_base.specs.Types.{is_primitive, IsElement, IsType, element_text, type_text, array_depth, object_at, element_at}
+use Rattle.class_base.specs.Types.{type_at, field_type, IsFieldType}
 
 -- ---- options
 
-pub then_some : {A B : Type 0} (o : Option A) (f : A → Option B) (y : B) → option_and_then f o ≡ Some y → (x : A) × (o ≡ Some x) × (f x ≡ Some y)
+pub then_some : {A B : Type 0} (o : Option A) (f : A → Option B) (y : B) → option_and_then f o ≡ Some y
+    → (x : A) × (o ≡ Some x) × (f x ≡ Some y)
 then_some (Some x) f y e = (x, refl, e)
 then_some None f y e = absurd cc
 
@@ -32,7 +35,8 @@ read_to x rest = (x, rest)
 parts_of : {A : Type 0} (x y : A × List ℕ) → x ≡ y → (x.0 ≡ y.0) × (x.1 ≡ y.1)
 parts_of x y e = (ap (λ p. p.0) e, ap (λ p. p.1) e)
 
-pub read_is : {A : Type 0} (x : A) (rest : List ℕ) (y : A) (end : List ℕ) → Some (read_to x rest) ≡ Some (read_to y end) → (x ≡ y) × (rest ≡ end)
+pub read_is : {A : Type 0} (x : A) (rest : List ℕ) (y : A) (end : List ℕ) → Some (read_to x rest) ≡ Some (read_to y end)
+    → (x ≡ y) × (rest ≡ end)
 read_is x rest y end e = parts_of (read_to x rest) (read_to y end) (same_Some (read_to x rest) (read_to y end) e)
 
 -- ---- class names up to a semicolon
@@ -53,33 +57,49 @@ semicolon_at (b ∷ name) rest h =
     let others = semicolon_at name rest h2.1 in
     rw (no_semicolon b h2.0) (omega (arith, others))
 
-position_again : (name rest : List ℕ) → list_all is_name_byte name ≡ true → position (λ b. eqb b 59) (name ++ 59 ∷ rest) ≡ Some (length name)
+position_again : (name rest : List ℕ) → list_all is_name_byte name ≡ true
+    → position (λ b. eqb b 59) (name ++ 59 ∷ rest) ≡ Some (length name)
 position_again name rest h =
     let at = semicolon_at name rest h in
     let inside : ltb (length name) (length (name ++ 59 ∷ rest)) ≡ true = lt-ltb _ _ (omega (arith, length-append name (59 ∷ rest))) in
     rw (at, inside) refl
 
 name_bytes : (name : List ℕ) → is_class_name name ≡ true → list_all is_name_byte name ≡ true
-name_bytes name h = (and_parts (ltb 0 (length name)) (list_all is_name_byte name) (and_parts (ltb 0 (length name) && list_all is_name_byte name) (is_utf8 name) h).0).1
+name_bytes name h = (and_parts (ltb 0 (length name)) (list_all is_name_byte name)
+    (and_parts (ltb 0 (length name) && list_all is_name_byte name) (is_utf8 name) h).0).1
 
 object_again : (name rest : List ℕ) → is_class_name name ≡ true → object_at ((name ++ 59 ∷ []) ++ rest) ≡ Some (Object name, rest)
 unfolding object_at
 object_again name rest h =
     ap object_at (append_assoc name (59 ∷ []) rest)
-    ∙ rw (position_again name rest (name_bytes name h), take_at name (59 ∷ rest) (length name) refl, drop_at name (59 ∷ rest) (length name) refl, h) refl
+    ∙ rw (
+      position_again name rest (name_bytes name h),
+      take_at name (59 ∷ rest) (length name) refl,
+      drop_at name (59 ∷ rest)
+          (length name) refl,
+      h,
+    ) refl
 
-object_takes : (bytes : List ℕ) (x : Element) (rest : List ℕ) → object_at bytes ≡ Some (x, rest) → (name : List ℕ) × (is_class_name name ≡ true) × (bytes ≡ (name ++ 59 ∷ []) ++ rest) × (x ≡ Object name)
+object_takes : (bytes : List ℕ) (x : Element) (rest : List ℕ) → object_at bytes ≡ Some (x, rest)
+    → (name : List ℕ) × (is_class_name name ≡ true) × (bytes ≡ (name ++ 59 ∷ []) ++ rest) × (x ≡ Object name)
 unfolding object_at
 object_takes bytes x rest e =
-    let p = then_some (position (λ b. eqb b 59) bytes) (λ i. cond (is_class_name (take i bytes)) (Some (Object (take i bytes), drop 1 (drop i bytes))) None) (x, rest) e in
+    let p = then_some (position (λ b. eqb b 59) bytes)
+    (λ i. cond (is_class_name (take i bytes)) (Some (Object (take i bytes), drop 1 (drop i bytes))) None) (x, rest) e in
     let i : ℕ = p.0 in
     let c = cond_some (is_class_name (take i bytes)) (read_to (Object (take i bytes)) (drop 1 (drop i bytes))) (x, rest) p.2 in
     let h = parts_of (read_to (Object (take i bytes)) (drop 1 (drop i bytes))) (x, rest) c.1 in
     let at = position-Some (λ b. eqb b 59) bytes i 0 p.1 in
     let semi : get_or bytes i 0 ≡ 59 = eqb-true _ _ at.1 in
     let front : drop i bytes ≡ 59 ∷ drop (suc i) bytes = drop-cons bytes i 0 at.0 ∙ ap (λ (b : ℕ). b ∷ drop (suc i) bytes) semi in
-    let after : drop (suc i) bytes ≡ rest = sym (ap (drop 1) front) ∙ h.1 in
-    (take i bytes, c.0, sym (take-append-drop i bytes) ∙ ap (λ (r : List ℕ). take i bytes ++ r) (front ∙ ap (λ (r : List ℕ). 59 ∷ r) after) ∙ sym (append_assoc (take i bytes) (59 ∷ []) rest), sym h.0)
+    let after : drop (suc i) bytes ≡ rest = sym (ap (drop 1) front) ∙ h.1 in (
+      take i bytes,
+      c.0,
+      sym (take-append-drop i bytes)
+          ∙ ap (λ (r : List ℕ). take i bytes ++ r) (front ∙ ap (λ (r : List ℕ). 59 ∷ r) after)
+          ∙ sym (append_assoc (take i bytes) (59 ∷ []) rest),
+      sym h.0,
+    )
 
 -- ---- elements
 
@@ -101,10 +121,12 @@ record TakesElement (bytes : List ℕ) (x : Element) (rest : List ℕ) : Type 0 
   good : IsElement x
   parts : bytes ≡ element_text x ++ rest
 
-taken_object : (bytes : List ℕ) (x : Element) (rest name : List ℕ) → is_class_name name ≡ true → bytes ≡ 76 ∷ (name ++ 59 ∷ []) ++ rest → x ≡ Object name → TakesElement bytes x rest
+taken_object : (bytes : List ℕ) (x : Element) (rest name : List ℕ) → is_class_name name ≡ true
+    → bytes ≡ 76 ∷ (name ++ 59 ∷ []) ++ rest → x ≡ Object name → TakesElement bytes x rest
 taken_object bytes x rest name good parts is = rw is (record { good = good; parts = parts })
 
-taken_primitive : (b : ℕ) (bytes : List ℕ) (x : Element) (rest : List ℕ) → is_primitive b ≡ true → bytes ≡ rest → Primitive b ≡ x → TakesElement (b ∷ bytes) x rest
+taken_primitive : (b : ℕ) (bytes : List ℕ) (x : Element) (rest : List ℕ) → is_primitive b ≡ true → bytes ≡ rest → Primitive b ≡ x
+    → TakesElement (b ∷ bytes) x rest
 taken_primitive b bytes x rest good same is = rw (← is) (record { good = good; parts = ap (λ (r : List ℕ). b ∷ r) same })
 
 element_takes : (bytes : List ℕ) (x : Element) (rest : List ℕ) → element_at bytes ≡ Some (x, rest) → TakesElement bytes x rest
@@ -147,10 +169,12 @@ depth_parts (b ∷ bytes) = elim (cases_Bool (eqb b 91)) [
 pub type_again : (t : FieldType) (rest : List ℕ) → IsType t → type_at (type_text t ++ rest) ≡ Some (t, rest)
 unfolding type_at
 type_again t rest h =
-    let regroup : type_text t ++ rest ≡ replicate t.dims 91 ++ (element_text t.element ++ rest) = append_assoc (replicate t.dims 91) (element_text t.element) rest in
+    let regroup : type_text t ++ rest ≡ replicate t.dims 91 ++ (element_text t.element ++ rest) = append_assoc (replicate t.dims 91)
+    (element_text t.element) rest in
     let depth = depth_again t.dims t.element rest h.1 in
     let few : ltb 255 t.dims ≡ false = le-ltb _ _ h.0 in
-    let after : drop t.dims (replicate t.dims 91 ++ (element_text t.element ++ rest)) ≡ element_text t.element ++ rest = drop_at (replicate t.dims 91) (element_text t.element ++ rest) t.dims (length-replicate t.dims 91) in
+    let after : drop t.dims (replicate t.dims 91 ++ (element_text t.element ++ rest)) ≡ element_text t.element ++ rest = drop_at
+    (replicate t.dims 91) (element_text t.element ++ rest) t.dims (length-replicate t.dims 91) in
     ap type_at regroup ∙ rw (depth, few, after, element_again t.element rest h.1) refl
 
 pub record TakesType (bytes : List ℕ) (t : FieldType) (rest : List ℕ) : Type 0 where
@@ -160,13 +184,15 @@ pub record TakesType (bytes : List ℕ) (t : FieldType) (rest : List ℕ) : Type
 abbrev typed : ℕ → Element → FieldType
 typed dims element = record { dims = dims; element = element }
 
-taken_type : (bytes : List ℕ) (t : FieldType) (rest end : List ℕ) (x : Element) → array_depth bytes ≤ 255 → IsElement x → drop (array_depth bytes) bytes ≡ element_text x ++ rest
+taken_type : (bytes : List ℕ) (t : FieldType) (rest end : List ℕ) (x : Element) → array_depth bytes ≤ 255 → IsElement x
+    → drop (array_depth bytes) bytes ≡ element_text x ++ rest
     → rest ≡ end → typed (array_depth bytes) x ≡ t → TakesType bytes t end
 taken_type bytes t rest end x few good parts same is =
     subst (λ u. TakesType bytes u end) is (record {
       good = (few, good);
       parts =
-          depth_parts bytes ∙ ap (λ (r : List ℕ). replicate (array_depth bytes) 91 ++ r) (parts ∙ ap (λ (r : List ℕ). element_text x ++ r) same)
+          depth_parts bytes ∙ ap (λ (r : List ℕ). replicate (array_depth bytes) 91 ++ r)
+          (parts ∙ ap (λ (r : List ℕ). element_text x ++ r) same)
           ∙ sym (append_assoc (replicate (array_depth bytes) 91) (element_text x) end);
     })
 
@@ -195,4 +221,5 @@ field_found t d e =
     let c = cond_some (eqb (length s.0.1) 0) s.0.0 t s.2 in
     let k = type_takes d s.0.0 s.0.1 s.1 in
     let none : s.0.1 ≡ [] = nil_from_length s.0.1 (eqb-true _ _ c.0) in
-    subst (λ u. IsFieldType u d) c.1 (record { good = k.good; text = k.parts ∙ ap (λ (r : List ℕ). type_text s.0.0 ++ r) none ∙ append-nil (type_text s.0.0) })
+    subst (λ u. IsFieldType u d) c.1
+    (record { good = k.good; text = k.parts ∙ ap (λ (r : List ℕ). type_text s.0.0 ++ r) none ∙ append-nil (type_text s.0.0) })

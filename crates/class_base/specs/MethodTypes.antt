@@ -1,5 +1,6 @@
 -- Types of methods and how descriptors write them (JVM specification, SE 8, section 4.3.3).
-use Rattle.std.specs.Prelude.{◌≡◌, ◌==◌, ℕ, zero, suc, ◌+◌, List, [], ◌∷◌, ◌++◌, length, Option, Some, None, option_and_then, if◌then◌else◌}
+use Rattle.std.specs.Prelude.{◌≡◌, ◌==◌, ℕ, zero, suc, ◌+◌, List, [], ◌∷◌, ◌++◌, length, Option, Some, None, option_and_then}
+use Rattle.std.specs.Prelude.{if◌then◌else◌}
 use Rattle.std.specs.List.{flat_map, AllByRecursion}
 use Rattle.std.specs.Option.{option_map}
 use Rattle.class_base.specs.declared.types.FieldType.{FieldType}
@@ -63,7 +64,8 @@ returned_at (b ∷ bytes) =
 unfoldable pub method_type : List ℕ → Option MethodType
 method_type [] = None
 method_type (b ∷ bytes) =
-    if b == 40 then option_and_then (λ x. option_map (λ r. record { params = x.0; returned = r }) (returned_at x.1)) (types_at (length bytes) bytes)
+    if b == 40 then option_and_then (λ x. option_map (λ r. record { params = x.0; returned = r }) (returned_at x.1))
+    (types_at (length bytes) bytes)
     else None
 
 -- the words of a method's parameters

@@ -1,5 +1,6 @@
 -- Types and how descriptors write them (JVM specification, SE 8, section 4.3.2).
-use Rattle.std.specs.Prelude.{◌≡◌, ◌||◌, ◌==◌, ℕ, suc, ◌≤◌, Bool, true, List, [], ◌∷◌, ◌++◌, length, take, drop, position, replicate, Option, Some, None, option_and_then, nat_lt, if◌then◌else◌}
+use Rattle.std.specs.Prelude.{◌≡◌, ◌||◌, ◌==◌, ℕ, suc, ◌≤◌, Bool, true, List, [], ◌∷◌, ◌++◌, length, take, drop, position}
+use Rattle.std.specs.Prelude.{replicate, Option, Some, None, option_and_then, nat_lt, if◌then◌else◌}
 use Rattle.class_base.specs.ClassNames.{is_class_name}
 use Rattle.class_base.specs.declared.types.Element.{Element}
 use Rattle.class_base.specs.declared.types.Element.TheVariants.{Primitive, Object}
@@ -52,7 +53,8 @@ array_depth (b ∷ bytes) = if b == 91 then suc (array_depth bytes) else 0
 
 -- the class name up to the `;`, and the bytes after it
 unfoldable pub object_at : List ℕ → Option (Element × List ℕ)
-object_at bytes = option_and_then (λ i. if is_class_name (take i bytes) then Some (Object (take i bytes), drop 1 (drop i bytes)) else None) (position (λ b. b == 59) bytes)
+object_at bytes = option_and_then (λ i. if is_class_name (take i bytes) then Some (Object (take i bytes), drop 1 (drop i bytes))
+    else None) (position (λ b. b == 59) bytes)
 
 -- `L` and a class name, or the letter of a primitive type
 unfoldable pub element_at : List ℕ → Option (Element × List ℕ)

@@ -1,5 +1,6 @@
 -- The places of the entries that were read, as a loop collects them.
-use Rattle.std.proofs.Common.{◌≡◌, ℕ, zero, suc, ◌+◌, ◌-◌, ◌<◌, ◌≤◌, Bool, true, false, cond, eqb, List, [], ◌∷◌, ◌++◌, length, Option, Some, None, Ok, Err, refl, sym, ap, subst, ◌∙◌, append_assoc, arith, inl, inr}
+use Rattle.std.proofs.Common.{◌≡◌, ℕ, zero, suc, ◌+◌, ◌-◌, ◌<◌, ◌≤◌, Bool, true, false, cond, eqb, List, [], ◌∷◌, ◌++◌, length}
+use Rattle.std.proofs.Common.{Option, Some, None, Ok, Err, refl, sym, ap, subst, ◌∙◌, append_assoc, arith, inl, inr}
 use Rattle.std.specs.List.{flat_map, filter_map}
 use Rattle.std.specs.Option.{option_map}
 use Rattle.std.specs.Result.{result_ok}
@@ -26,8 +27,10 @@ pub slot_past : (bytes : List ℕ) → slot_in bytes (length bytes) ≡ None
 unfolding entry_text_at
 slot_past bytes = rw (drop_all (length bytes) bytes (omega arith)) refl
 
-pub slot_at : (bytes : List ℕ) (place : ℕ) (last : Bool) (e : PoolEntry) (v : Unread) → entry_at_place last (unread bytes place) ≡ Ok (e, v) → slot_in bytes place ≡ Some e
-slot_at bytes place last e v h = ap (λ (r : Read PoolEntry). option_map (λ e. e.0) (result_ok r)) (place_text last (unread bytes place) (e, v) h).1.0
+pub slot_at : (bytes : List ℕ) (place : ℕ) (last : Bool) (e : PoolEntry) (v : Unread)
+    → entry_at_place last (unread bytes place) ≡ Ok (e, v) → slot_in bytes place ≡ Some e
+slot_at bytes place last e v h = ap (λ (r : Read PoolEntry). option_map (λ e. e.0) (result_ok r))
+    (place_text last (unread bytes place) (e, v) h).1.0
 
 -- the slots and the entries of more places
 slots_more : (bytes ps qs : List ℕ) → slots_in bytes (ps ++ qs) ≡ slots_in bytes ps ++ slots_in bytes qs
@@ -35,17 +38,20 @@ slots_more bytes ps qs = map-append (slot_in bytes) ps qs
 
 entries_more : (bytes ps qs : List ℕ) → entries_in bytes (ps ++ qs) ≡ entries_in bytes ps ++ entries_in bytes qs
 entries_more bytes ps qs =
-    ap (filter_map (λ slot. slot)) (slots_more bytes ps qs) ∙ filter_map-append (λ (slot : Option PoolEntry). slot) (slots_in bytes ps) (slots_in bytes qs)
+    ap (filter_map (λ slot. slot)) (slots_more bytes ps qs) ∙ filter_map-append (λ (slot : Option PoolEntry). slot)
+    (slots_in bytes ps) (slots_in bytes qs)
 
 pub places_more : (es : List PoolEntry) (e : PoolEntry) → places_of (es ++ e ∷ []) ≡ places_of es ++ slots_of e
 places_more es e =
-    ap (λ (slots : List (Option PoolEntry)). None ∷ slots) (flat_map-append slots_of es (e ∷ []) ∙ ap (λ (more : List (Option PoolEntry)). flat_map slots_of es ++ more) (append-nil (slots_of e)))
+    ap (λ (slots : List (Option PoolEntry)). None ∷ slots) (flat_map-append slots_of es (e ∷ [])
+    ∙ ap (λ (more : List (Option PoolEntry)). flat_map slots_of es ++ more) (append-nil (slots_of e)))
 
 -- the places of an entry that begins at p
 abbrev pub own_places : List ℕ → ℕ → Bool → List ℕ
 own_places bytes p wide = cond wide (p ∷ length bytes ∷ []) (p ∷ [])
 
-own_slots : (bytes : List ℕ) (p : ℕ) (e : PoolEntry) → slot_in bytes p ≡ Some e → slots_in bytes (own_places bytes p (is_wide e)) ≡ slots_of e
+own_slots : (bytes : List ℕ) (p : ℕ) (e : PoolEntry) → slot_in bytes p ≡ Some e
+    → slots_in bytes (own_places bytes p (is_wide e)) ≡ slots_of e
 own_slots bytes p e here =
     elim (cases_Bool (is_wide e)) [
       | inl wide ↦
@@ -66,12 +72,15 @@ slots_present e =
       | inr narrow ↦ ap (λ (w : Bool). filter_map (λ slot. slot) (Some e ∷ cond w (None ∷ []) [])) narrow
     ]
 
-pub entries_push : (bytes ps : List ℕ) (p : ℕ) (e : PoolEntry) → slot_in bytes p ≡ Some e → entries_in bytes (ps ++ own_places bytes p (is_wide e)) ≡ entries_in bytes ps ++ e ∷ []
+pub entries_push : (bytes ps : List ℕ) (p : ℕ) (e : PoolEntry) → slot_in bytes p ≡ Some e
+    → entries_in bytes (ps ++ own_places bytes p (is_wide e)) ≡ entries_in bytes ps ++ e ∷ []
 entries_push bytes ps p e here =
     entries_more bytes ps (own_places bytes p (is_wide e))
-    ∙ ap (λ (more : List PoolEntry). entries_in bytes ps ++ more) (ap (filter_map (λ slot. slot)) (own_slots bytes p e here) ∙ slots_present e)
+    ∙ ap (λ (more : List PoolEntry). entries_in bytes ps ++ more) (ap (filter_map (λ slot. slot)) (own_slots bytes p e here)
+    ∙ slots_present e)
 
-pub agrees_push : (bytes ps : List ℕ) (p : ℕ) (e : PoolEntry) → slot_in bytes p ≡ Some e → Agrees bytes ps → Agrees bytes (ps ++ own_places bytes p (is_wide e))
+pub agrees_push : (bytes ps : List ℕ) (p : ℕ) (e : PoolEntry) → slot_in bytes p ≡ Some e → Agrees bytes ps
+    → Agrees bytes (ps ++ own_places bytes p (is_wide e))
 agrees_push bytes ps p e here so_far =
     ap places_of (entries_push bytes ps p e here)
     ∙ places_more (entries_in bytes ps) e
@@ -95,7 +104,8 @@ pub record Progress (bytes : List ℕ) (at count : ℕ) (places : List ℕ) (nex
   pub agrees : Agrees bytes places
   pub low : 1 ≤ length places
   pub high : length places ≤ count - 1 + 1
-  pub so_far : with_front (entries_in bytes places) (entries_at (count - length places) (unread bytes next)) ≡ entries_at (count - 1) (unread bytes at)
+  pub so_far : with_front (entries_in bytes places) (entries_at (count - length places) (unread bytes next)) ≡ entries_at
+      (count - 1) (unread bytes at)
 
 nothing_read : (read : Read (List PoolEntry)) → with_front [] read ≡ read
 nothing_read (Ok x) = refl
@@ -111,10 +121,12 @@ begins bytes at count =
       agrees = ap places_of none ∙ sym (first_slots bytes);
       low = omega arith;
       high = omega arith;
-      so_far = ap (λ (es : List PoolEntry). with_front es (entries_at (count - 1) (unread bytes at))) none ∙ nothing_read (entries_at (count - 1) (unread bytes at));
+      so_far = ap (λ (es : List PoolEntry). with_front es (entries_at (count - 1) (unread bytes at))) none
+          ∙ nothing_read (entries_at (count - 1) (unread bytes at));
     }
 
-regroup : (front : List PoolEntry) (e : PoolEntry) (read : Read (List PoolEntry)) → with_front front (with_front (e ∷ []) read) ≡ with_front (front ++ e ∷ []) read
+regroup : (front : List PoolEntry) (e : PoolEntry) (read : Read (List PoolEntry))
+    → with_front front (with_front (e ∷ []) read) ≡ with_front (front ++ e ∷ []) read
 regroup front e (Ok x) = ap (λ (es : List PoolEntry). Ok (es, x.1)) (sym (append_assoc front (e ∷ []) x.0))
 regroup front e (Err f) = refl
 
@@ -130,7 +142,8 @@ is_last count len lt =
           eq-eqb (len + 1) count same ∙ ap is_zero (sym m)
     ]
 
-pub goes_on : (bytes : List ℕ) (at count : ℕ) (places : List ℕ) (next : ℕ) (last : Bool) (e : PoolEntry) (after : ℕ) → IsBytes bytes → Progress bytes at count places next
+pub goes_on : (bytes : List ℕ) (at count : ℕ) (places : List ℕ) (next : ℕ) (last : Bool) (e : PoolEntry) (after : ℕ) → IsBytes bytes
+    → Progress bytes at count places next
     → length places < count → last ≡ eqb (length places + 1) count → entry_at_place last (unread bytes next) ≡ Ok (e, unread bytes after)
     → Progress bytes at count (places ++ own_places bytes next (is_wide e)) after
 goes_on bytes at count places next last e after fits p lt at_end read =
@@ -152,13 +165,15 @@ goes_on bytes at count places next last e after fits p lt at_end read =
           let own : length (own_places bytes next (is_wide e)) ≡ 2 = ap (λ (w : Bool). length (own_places bytes next w)) wide in
           let rest : count - length (places ++ own_places bytes next (is_wide e)) ≡ count - (len + 2) = omega (arith, lengths, own) in
           let step : entries_at (count - len) u ≡ with_front (e ∷ []) (entries_at (count - (len + 2)) v) =
-          ap (λ (n : ℕ). entries_at n u) (one ∙ ap suc two) ∙ wide_step (count - (len + 2)) u e v (subst (λ (b : Bool). entry_at_place b u ≡ Ok (e, v)) not_last read) wide in
+          ap (λ (n : ℕ). entries_at n u) (one ∙ ap suc two)
+          ∙ wide_step (count - (len + 2)) u e v (subst (λ (b : Bool). entry_at_place b u ≡ Ok (e, v)) not_last read) wide in
           record {
             agrees = agrees_push bytes places next e here p.agrees;
             low = omega (arith, p.low, lengths);
             high = omega (arith, lengths, own, two);
             so_far =
-                ap (λ (es : List PoolEntry). with_front es (entries_at (count - length (places ++ own_places bytes next (is_wide e))) v)) named
+                ap (λ (es : List PoolEntry). with_front es
+                (entries_at (count - length (places ++ own_places bytes next (is_wide e))) v)) named
                 ∙ ap (λ (n : ℕ). with_front (front ++ e ∷ []) (entries_at n v)) rest
                 ∙ sym (regroup front e (entries_at (count - (len + 2)) v))
                 ∙ ap (with_front front) (sym step)
@@ -174,7 +189,8 @@ goes_on bytes at count places next last e after fits p lt at_end read =
             low = omega (arith, p.low, lengths);
             high = omega (arith, lengths, own);
             so_far =
-                ap (λ (es : List PoolEntry). with_front es (entries_at (count - length (places ++ own_places bytes next (is_wide e))) v)) named
+                ap (λ (es : List PoolEntry). with_front es
+                (entries_at (count - length (places ++ own_places bytes next (is_wide e))) v)) named
                 ∙ ap (λ (n : ℕ). with_front (front ++ e ∷ []) (entries_at n v)) rest
                 ∙ sym (regroup front e (entries_at (count - (len + 1)) v))
                 ∙ ap (with_front front) (sym step)
@@ -182,22 +198,26 @@ goes_on bytes at count places next last e after fits p lt at_end read =
           }
     ]
 
-fault_step : (m : ℕ) (last : Bool) (u : Unread) (f : PoolFault) → last ≡ is_zero m → entry_at_place last u ≡ Err f → entries_at (suc m) u ≡ Err f
+fault_step : (m : ℕ) (last : Bool) (u : Unread) (f : PoolFault) → last ≡ is_zero m → entry_at_place last u ≡ Err f
+    → entries_at (suc m) u ≡ Err f
 unfolding entries_at
 fault_step zero last u f at_end read =
     let r : entry_at_place true u ≡ Err f = subst (λ (b : Bool). entry_at_place b u ≡ Err f) at_end read in
     ap (λ (r : Read PoolEntry). r >>= λ e. Ok (e.0 ∷ [], e.1)) r
 fault_step (suc m) last u f at_end read =
     let r : entry_at_place false u ≡ Err f = subst (λ (b : Bool). entry_at_place b u ≡ Err f) at_end read in
-    ap (λ (r : Read PoolEntry). r >>= λ e. cond (is_wide e.0) (entries_at m e.1) (entries_at (suc m) e.1) >>= λ es. Ok (e.0 ∷ es.0, es.1)) r
+    ap (λ (r : Read PoolEntry). r >>= λ e. cond (is_wide e.0) (entries_at m e.1) (entries_at (suc m) e.1) >>= λ es. Ok
+    (e.0 ∷ es.0, es.1)) r
 
-pub stops : (bytes : List ℕ) (at count : ℕ) (places : List ℕ) (next : ℕ) (last : Bool) (f : PoolFault) → Progress bytes at count places next
+pub stops : (bytes : List ℕ) (at count : ℕ) (places : List ℕ) (next : ℕ) (last : Bool) (f : PoolFault)
+    → Progress bytes at count places next
     → length places < count → last ≡ eqb (length places + 1) count → entry_at_place last (unread bytes next) ≡ Err f
     → IsDue is_memory f (entries_at (count - 1) (unread bytes at))
 stops bytes at count places next last f p lt at_end read =
     let len = length places in
     let one : count - len ≡ suc (count - (len + 1)) = omega arith in
-    let step = ap (λ (n : ℕ). entries_at n (unread bytes next)) one ∙ fault_step (count - (len + 1)) last (unread bytes next) f (at_end ∙ is_last count len lt) read in
+    let step = ap (λ (n : ℕ). entries_at n (unread bytes next)) one ∙ fault_step (count - (len + 1)) last (unread bytes next) f
+    (at_end ∙ is_last count len lt) read in
     is_due is_memory f (entries_at (count - 1) (unread bytes at)) (sym p.so_far ∙ ap (with_front (entries_in bytes places)) step)
 
 pub is_done : (bytes : List ℕ) (at count : ℕ) (places : List ℕ) (next : ℕ) → Progress bytes at count places next → count ≤ length places

@@ -19,8 +19,10 @@ refuses Memory y other h = other refl
 refuses _ y other h = cc
 
 pub no_pool_from_fault : (text : List ℕ) (es : List PoolEntry) (f : PoolFault) → text ≡ pool_bytes es → (f ≡ Memory → ⊥)
-    → ((entries : List PoolEntry) (rest : Unread) → Spells (unread text 0) entries rest → IsDue is_memory f (done {A = List PoolEntry × Unread} (entries, rest))) → IsPool es → ⊥
+    → ((entries : List PoolEntry) (rest : Unread) → Spells (unread text 0) entries rest
+    → IsDue is_memory f (done {A = List PoolEntry × Unread} (entries, rest))) → IsPool es → ⊥
 no_pool_from_fault text es f same other only pool =
     let v : Unread = record { at = 0 + length (pool_bytes es); bytes = [] } in
-    let s : Spells (unread text 0) es v = subst (λ (bytes : List ℕ). Spells (record { at = 0; bytes = bytes }) es v) (whole text es same) (pool_written 0 es [] pool) in
+    let s : Spells (unread text 0) es v = subst (λ (bytes : List ℕ). Spells (record { at = 0; bytes = bytes }) es v)
+    (whole text es same) (pool_written 0 es [] pool) in
     refuses f (es, v) other (only es v s)

@@ -17,11 +17,13 @@
 --   18          InvokeDynamic           a number of 2 bytes, an index of 2 bytes           1        a NameAndType
 --
 -- The definitions below are this table. The byte of a MethodHandle and the number of an InvokeDynamic are not compared.
-use Rattle.std.specs.Prelude.{◌≡◌, ℕ, ◌<◌, ◌≤◌, ◌^◌, Bool, true, false, ◌||◌, ◌==◌, nat_le, List, [], ◌∷◌, ◌++◌, length, position, None, FitsSigned}
+use Rattle.std.specs.Prelude.{◌≡◌, ℕ, ◌<◌, ◌≤◌, ◌^◌, Bool, true, false, ◌||◌, ◌==◌, nat_le, List, [], ◌∷◌, ◌++◌, length, position}
+use Rattle.std.specs.Prelude.{None, FitsSigned}
 use Rattle.std.specs.Int.{w32, cast_unsigned}
 use Rattle.byteorder.specs.Endian.{big_bytes}
 use Rattle.class_pool.specs.declared.entry.PoolEntry.{PoolEntry}
-use Rattle.class_pool.specs.declared.entry.PoolEntry.TheVariants.{Utf8, Integer, Float, Long, Double, Class, Str, Member, NameAndType, MethodHandle, MethodType, InvokeDynamic}
+use Rattle.class_pool.specs.declared.entry.PoolEntry.TheVariants.{Utf8, Integer, Float, Long, Double, Class, Str, Member}
+use Rattle.class_pool.specs.declared.entry.PoolEntry.TheVariants.{NameAndType, MethodHandle, MethodType, InvokeDynamic}
 
 -- the byte that an entry begins with
 abbrev pub tag_of : PoolEntry → ℕ

@@ -1,5 +1,6 @@
 -- A constant pool and its text (JVM specification, SE 8, sections 4.1 and 4.4).
-use Rattle.std.specs.Prelude.{◌≡◌, ℕ, ◌+◌, ◌-◌, ◌<◌, ◌^◌, Bool, false, not, List, [], ◌∷◌, ◌++◌, length, drop, position, slice_index_or, Option, Some, None, if◌then◌else◌}
+use Rattle.std.specs.Prelude.{◌≡◌, ℕ, ◌+◌, ◌-◌, ◌<◌, ◌^◌, Bool, false, not, List, [], ◌∷◌, ◌++◌, length, drop, position}
+use Rattle.std.specs.Prelude.{slice_index_or, Option, Some, None, if◌then◌else◌}
 use Rattle.std.specs.List.{flat_map, list_all, AllByRecursion}
 use Rattle.std.specs.Option.{option_map, option_map_or, option_and_then}
 use Rattle.std.specs.Prelude.{ℤ}
@@ -111,7 +112,8 @@ abbrev pub class_name_at : List PoolEntry → ℕ → Option (List ℕ)
 class_name_at entries i = option_and_then (class_of entries) (entry_at entries i)
 
 abbrev pub pair_of : List PoolEntry → PoolEntry → Option (List ℕ × List ℕ)
-pair_of entries (NameAndType name descriptor) = option_and_then (λ n. option_map (λ d. (n, d)) (utf8_at entries descriptor)) (utf8_at entries name)
+pair_of entries (NameAndType name descriptor) = option_and_then (λ n. option_map (λ d. (n, d)) (utf8_at entries descriptor))
+    (utf8_at entries name)
 pair_of entries _ = None
 
 -- the name and the descriptor of a NameAndType entry

@@ -5,7 +5,8 @@ ghost use Rattle.std.specs.Option.{option_map, option_copied};
 ghost use Rattle.std.specs.List.{list_all};
 ghost use Rattle.class_pool.specs.Entry.{is_utf8, is_class, is_member, is_name_and_type, names_of};
 ghost use Rattle.class_pool.specs.View.{entry_of};
-ghost use Rattle.class_pool.specs.Text.{places_of, entry_at, tag_at, stands, names_badly, first_bad_index, utf8_at, integer_at, name_index_at, class_name_at, name_and_type_at, member_at};
+ghost use Rattle.class_pool.specs.Text.{places_of, entry_at, tag_at, stands, names_badly, first_bad_index, utf8_at, integer_at};
+ghost use Rattle.class_pool.specs.Text.{name_index_at, class_name_at, name_and_type_at, member_at};
 
 use crate::entry::EntryView;
 use crate::reading::entry_at;

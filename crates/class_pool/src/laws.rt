@@ -21,7 +21,8 @@ pub fn written_is_spelled()
 pub fn read_is_spelled()
     ensures found { (from : Unread) (entries : List PoolEntry) (rest : Unread) → ((i : ℕ) → slice_index from.bytes i < 256)
         → pool_at from ≡ Ok (entries, rest) → Spells from entries rest }
-    ensures only { (from : Unread) (entries : List PoolEntry) (rest : Unread) → Spells from entries rest → pool_at from ≡ Ok (entries, rest) }
+    ensures only { (from : Unread) (entries : List PoolEntry) (rest : Unread) → Spells from entries rest
+        → pool_at from ≡ Ok (entries, rest) }
 {}
 
 /// The entries of a pool have a text.

@@ -4,7 +4,8 @@ ghost use Rattle.std.specs.Prelude.{◌≡◌, List, length, false, IfOk, is_som
 ghost use Rattle.std.specs.Option.{option_copied, option_map, option_map_or};
 ghost use Rattle.class_pool.specs.Entry.{is_class, is_member};
 ghost use Rattle.class_pool.specs.declared.entry.PoolEntry.{PoolEntry};
-ghost use Rattle.class_pool.specs.Text.{places_of, entry_at, tag_at, utf8_at, integer_at, name_index_at, class_name_at, member_at, Unread, unread, Spells};
+ghost use Rattle.class_pool.specs.Text.{places_of, entry_at, tag_at, utf8_at, integer_at, name_index_at, class_name_at, member_at};
+ghost use Rattle.class_pool.specs.Text.{Unread, unread, Spells};
 ghost use Rattle.class_pool.specs.Reading.{Gives, pool_at};
 
 use crate::entries::Entries;

@@ -3,7 +3,8 @@
 ghost use Rattle.std.specs.Prelude.{◌≡◌, ◌<◌, ◌+◌, ◌-◌, [], ◌∷◌, ◌++◌, if◌then◌else◌, drop, length, position, IfSome, IfOk, OnOk};
 ghost use Rattle.class_pool.specs.Entry.{is_barred};
 ghost use Rattle.class_pool.specs.View.{entry_of};
-ghost use Rattle.class_pool.specs.Reading.{Answers, Gives, unread, entries_at, content_at, entry_text_at, text_rule, is_wide_tag, starts_wide, entry_at_place};
+ghost use Rattle.class_pool.specs.Reading.{Answers, Gives, unread, entries_at, content_at, entry_text_at, text_rule, is_wide_tag};
+ghost use Rattle.class_pool.specs.Reading.{starts_wide, entry_at_place};
 ghost use Rattle.class_pool.specs.Places.{entries_in, Agrees};
 
 use crate::entry::EntryView;
@@ -175,7 +176,8 @@ pub(crate) fn places_at(
     at: usize,
     count: u16,
 ) -> Result<(Vec<usize>, usize), PoolFault>
-    ensures read { Gives (λ x. (entries_in bytes.now x.0.items, unread bytes.now x.1)) result (entries_at (count - 1) (unread bytes.now at)) }
+    ensures read { Gives (λ x. (entries_in bytes.now x.0.items, unread bytes.now x.1)) result
+        (entries_at (count - 1) (unread bytes.now at)) }
     ensures agree { IfOk result (λ x. Agrees bytes.now x.0.items) }
     ensures len { IfOk result (λ x. length x.0.items ≡ count - 1 + 1) }
 {

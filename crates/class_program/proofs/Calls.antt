@@ -15,7 +15,8 @@ start_none world current class e = ap (start_of world class) e
 
 -- the named class is the direct superclass or above it
 pub start_over : (world : World) (current class over : ℕ) (line seen : List ℕ) (found : Bool)
-    → Some over ≡ super_of world current → line ≡ line_of world over → seen ≡ line → found ≡ list_any (λ c. eqb c class) seen → found ≡ true
+    → Some over ≡ super_of world current → line ≡ line_of world over → seen ≡ line → found ≡ list_any (λ c. eqb c class) seen
+    → found ≡ true
     → over ≡ special_start world current class
 unfolding special_start
 start_over world current class over line seen found e l s f t =
@@ -23,7 +24,8 @@ start_over world current class over line seen found e l s f t =
 
 -- the named class is none of these
 pub start_class : (world : World) (current class over : ℕ) (line seen : List ℕ) (found : Bool)
-    → Some over ≡ super_of world current → line ≡ line_of world over → seen ≡ line → found ≡ list_any (λ c. eqb c class) seen → found ≡ false
+    → Some over ≡ super_of world current → line ≡ line_of world over → seen ≡ line → found ≡ list_any (λ c. eqb c class) seen
+    → found ≡ false
     → class ≡ special_start world current class
 unfolding special_start
 start_class world current class over line seen found e l s f t =

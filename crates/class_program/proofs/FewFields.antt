@@ -11,7 +11,8 @@ use Rattle.class_world.specs.World.{World}
 use Rattle.class_world.specs.Linking.{has_few_members}
 use Rattle.class_program.specs.Statics.{field_count}
 
-pub few_there : (world : World) (class n : ℕ) (c : ClassContent) → list_all has_few_members world ≡ true → slice_get world class ≡ Some c → n ≡ length c.fields → n < 65536
+pub few_there : (world : World) (class n : ℕ) (c : ClassContent) → list_all has_few_members world ≡ true
+    → slice_get world class ≡ Some c → n ≡ length c.fields → n < 65536
 few_there world class n c e s l = subst (λ (k : ℕ). k < 65536) (sym l) (few_fields world class c e s)
 
 pub count_past : (world : World) (class : ℕ) → length world ≤ class → field_count world class ≡ 0

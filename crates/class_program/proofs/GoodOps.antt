@@ -60,7 +60,8 @@ array_kind code n = by (kind_of_code code) n
 -- ---- names
 
 -- what an object holds at a place is of the world
-slots_good : (world : World) (c : ℕ) → c < length world → (place : ℕ) (slot : Slot) → slice_get (fields_of world c) place ≡ Some slot → IsSlot (length world) slot
+slots_good : (world : World) (c : ℕ) → c < length world → (place : ℕ) (slot : Slot)
+    → slice_get (fields_of world c) place ≡ Some slot → IsSlot (length world) slot
 slots_good world c l place slot e =
     let there = slice_get_within (fields_of world c) place slot e in
     subst (λ (s : Slot). IsSlot (length world) s) (at (fields_of world c) place slot e) (fields_are world c place slot there)
@@ -72,16 +73,20 @@ slots_good world c l place slot e =
 
 -- what an instruction runs is among the methods, and the static field that it names among those that they name
 abbrev pub IsInside : Program → Op → Type 0
-IsInside p op = (list_all (has_method (refs_of p.methods)) (runs p.world op) ≡ true) × IfSome (field_named op) (λ f. has_field (fields_named p.methods) f ≡ true)
+IsInside p op = (list_all (has_method (refs_of p.methods)) (runs p.world op) ≡ true)
+    × IfSome (field_named op) (λ f. has_field (fields_named p.methods) f ≡ true)
 
-module _ (p : Program) (known : IsWorld p.world) (bodies : list_all (has_body p.world) (refs_of p.methods) ≡ true) (typed : AllByRecursion (IsTyped p.world) p.methods) (kept : p.statics ≡ statics_of p.world (fields_named p.methods)) (m : Method) where
+module _ (p : Program) (known : IsWorld p.world) (bodies : list_all (has_body p.world) (refs_of p.methods) ≡ true)
+    (typed : AllByRecursion (IsTyped p.world) p.methods) (kept : p.statics ≡ statics_of p.world (fields_named p.methods))
+    (m : Method) where
   abbrev pub Inside : Op → Type 0
   Inside op = IsInside p (op_numbered (refs_of p.methods) p.statics op)
 
   abbrev pub Good : Op → Type 0
   Good op = IsGoodOp p m (op_numbered (refs_of p.methods) p.statics op)
 
-  call_ops : (form : CallForm) (call : Call) → IsNamedCall p.world m.class form call → Inside (call_op form call) → Good (call_op form call)
+  call_ops : (form : CallForm) (call : Call) → IsNamedCall p.world m.class form call → Inside (call_op form call)
+      → Good (call_op form call)
   call_ops calls.Virtual call n h = record { named = virtual_good p typed known.linked m.class call n h.0; leads = tt }
   call_ops calls.Special call n h = record { named = special_good p typed bodies m.class call n h.0; leads = tt }
   call_ops calls.Static call n h = record { named = static_good p typed m.class call n h.0; leads = tt }
@@ -103,17 +108,22 @@ module _ (p : Program) (known : IsWorld p.world) (bodies : list_all (has_body p.
   field_ops fields.Getfield used h = record { named = h; leads = tt }
   field_ops fields.Putfield used h = record { named = h; leads = tt }
 
-  static_ops : (form : StaticForm) (used : StaticUse) → IsDeclaredField p.world used.field → Inside (static_op form used) → Good (static_op form used)
+  static_ops : (form : StaticForm) (used : StaticUse) → IsDeclaredField p.world used.field → Inside (static_op form used)
+      → Good (static_op form used)
   static_ops statics.Getstatic used d h = record { named = static_found p kept used d h.1; leads = tt }
   static_ops statics.Putstatic used d h = record { named = static_found p kept used d h.1; leads = tt }
 
   -- an instruction whose names are resolved, with its call's number
-  pub op_good : (insn : Insn) (operand : Operand) (op : Op) → operand_of insn ≡ operand → Shape p.world m.class insn operand op → Inside op → AllByRecursion (λ t. is_place m.insns t ≡ true) (targets insn) → Good op
+  pub op_good : (insn : Insn) (operand : Operand) (op : Op) → operand_of insn ≡ operand → Shape p.world m.class insn operand op
+      → Inside op → AllByRecursion (λ t. is_place m.insns t ≡ true) (targets insn) → Good op
   op_good insn operands.Nothing op e s h t = subst Good (sym s) (record { named = plain_good insn operands.Nothing e tt; leads = t })
-  op_good insn (operands.Numbers code) op e s h t = subst Good (sym s.0) (record { named = plain_good insn (operands.Numbers code) e (array_kind code s.1); leads = t })
+  op_good insn (operands.Numbers code) op e s h t = subst Good (sym s.0)
+      (record { named = plain_good insn (operands.Numbers code) e (array_kind code s.1); leads = t })
   op_good insn (operands.Constant entry) op e s h t = subst Good (sym s.1) (record { named = tt; leads = tt })
-  op_good insn (operands.Static form entry) op e s h t = subst Good (sym s.3) (static_ops form s.1 (field_declared p.world s.0 s.1 s.2) (subst Inside s.3 h))
-  op_good insn (operands.Field form entry) op e s h t = subst Good (sym s.3) (field_ops form s.1 (field_good p.world known s.0 s.1 (slots_good p.world) s.2))
+  op_good insn (operands.Static form entry) op e s h t = subst Good (sym s.3)
+      (static_ops form s.1 (field_declared p.world s.0 s.1 s.2) (subst Inside s.3 h))
+  op_good insn (operands.Field form entry) op e s h t = subst Good (sym s.3)
+      (field_ops form s.1 (field_good p.world known s.0 s.1 (slots_good p.world) s.2))
   op_good insn (operands.Class form entry) op e s h t = class_ops form s.0 op s.1 s.2
   op_good insn (operands.Call form entry) op e s h t =
       subst Good (sym s.3) (call_ops form s.1 (called p.world known.linked m.class form s.0 s.1 s.2) (subst Inside s.3 h))

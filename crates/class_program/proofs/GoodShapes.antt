@@ -21,7 +21,9 @@ use Rattle.class_program.specs.declared.op.FieldUse.{FieldUse}
 use Rattle.class_program.specs.declared.op.StaticUse.{StaticUse}
 use Rattle.class_program.specs.Operands.{Member, operand_of}
 use Rattle.class_program.specs.Refusals.{◌>>=◌, wanted, required}
-use Rattle.class_program.specs.Ops.{is_other_constant, constant_of, type_named, type_operand, class_op, field_of, field_op, static_of, static_op, static_operand, member_operand, member_tag, call_of, call_op, numbers_op, field_operand, class_operand, call_operand, op_with, alike_with, pool_of, op_of}
+use Rattle.class_program.specs.Ops.{is_other_constant, constant_of, type_named, type_operand, class_op, field_of, field_op}
+use Rattle.class_program.specs.Ops.{static_of, static_op, static_operand, member_operand, member_tag, call_of, call_op, numbers_op}
+use Rattle.class_program.specs.Ops.{field_operand, class_operand, call_operand, op_with, alike_with, pool_of, op_of}
 use Rattle.class_program.specs.JvmDiffers.{call_differs}
 use Rattle.class_program.proofs.Got.{got_faultless, got_asked}
 use Rattle.class_program.proofs.GoodTypes.{named_type}
@@ -30,29 +32,36 @@ abbrev pub Shape : World → ℕ → Insn → Operand → Op → Type 0
 Shape world current insn operands.Nothing op = op ≡ Plain insn
 Shape world current insn (operands.Numbers code) op = (op ≡ Plain insn) × (is_none (kind_of_code code) ≡ false)
 Shape world current insn (operands.Constant entry) op = (v : ℤ) × (op ≡ Constant v)
-Shape world current insn (operands.Static form entry) op = (m : Member) × (used : StaticUse) × (static_of world m ≡ Ok used) × (op ≡ static_op form used)
-Shape world current insn (operands.Field form entry) op = (m : Member) × (used : FieldUse) × (field_of world m ≡ Ok used) × (op ≡ field_op form used)
+Shape world current insn (operands.Static form entry) op = (m : Member) × (used : StaticUse) × (static_of world m ≡ Ok used)
+    × (op ≡ static_op form used)
+Shape world current insn (operands.Field form entry) op = (m : Member) × (used : FieldUse) × (field_of world m ≡ Ok used)
+    × (op ≡ field_op form used)
 Shape world current insn (operands.Class form entry) op = (t : Ty) × IsReference (length world) t × (class_op world form t ≡ Ok op)
-Shape world current insn (operands.Call form entry) op = (m : Member) × (call : Call) × (call_of world current form m ≡ Ok call) × (op ≡ call_op form call)
+Shape world current insn (operands.Call form entry) op = (m : Member) × (call : Call) × (call_of world current form m ≡ Ok call)
+    × (op ≡ call_op form call)
 
 constant_shape : (pool : List PoolEntry) (entry : ℕ) (op : Op) → constant_of pool entry ≡ Ok op → (v : ℤ) × (op ≡ Constant v)
 unfolding constant_of
 constant_shape pool entry op e = go (integer_at pool entry) (is_other_constant (tag_at pool entry)) e
   where
-    go : (o : Option ℤ) (b : Bool) → option_map_or (λ value. Ok (Constant value)) o (cond b (Err UnsupportedType) (Err Unresolved)) ≡ Ok op → (v : ℤ) × (op ≡ Constant v)
+    go : (o : Option ℤ) (b : Bool) → option_map_or (λ value. Ok (Constant value)) o (cond b (Err UnsupportedType) (Err Unresolved))
+        ≡ Ok op → (v : ℤ) × (op ≡ Constant v)
     go (Some v) b f = (v, cc)
     go None true f = cc
     go None false f = cc
 
-numbers_shape : (insn : Insn) (code : ℕ) (op : Op) → numbers_op insn code ≡ Ok op → (op ≡ Plain insn) × (is_none (kind_of_code code) ≡ false)
+numbers_shape : (insn : Insn) (code : ℕ) (op : Op) → numbers_op insn code ≡ Ok op
+    → (op ≡ Plain insn) × (is_none (kind_of_code code) ≡ false)
 unfolding numbers_op
 numbers_shape insn code op e = go (is_none (kind_of_code code)) refl e
   where
-    go : (b : Bool) → is_none (kind_of_code code) ≡ b → cond b (Err UnsupportedType) (Ok (Plain insn)) ≡ Ok op → (op ≡ Plain insn) × (is_none (kind_of_code code) ≡ false)
+    go : (b : Bool) → is_none (kind_of_code code) ≡ b → cond b (Err UnsupportedType) (Ok (Plain insn)) ≡ Ok op
+        → (op ≡ Plain insn) × (is_none (kind_of_code code) ≡ false)
     go true q f = cc
     go false q f = (cc, q)
 
-pub shape_of : (world : World) (current : ℕ) (pool : List PoolEntry) (insn : Insn) (operand : Operand) (op : Op) → op_with world current pool insn operand ≡ Ok op → Shape world current insn operand op
+pub shape_of : (world : World) (current : ℕ) (pool : List PoolEntry) (insn : Insn) (operand : Operand) (op : Op)
+    → op_with world current pool insn operand ≡ Ok op → Shape world current insn operand op
 unfolding op_with field_operand static_operand class_operand call_operand type_operand
 shape_of world current pool insn operands.Nothing op e = cc
 shape_of world current pool insn (operands.Numbers code) op e = numbers_shape insn code op e
@@ -75,12 +84,16 @@ shape_of world current pool insn (operands.Call form entry) op e =
     (m.0, call.0, call.1, cc)
 
 -- the instruction at a place of a method that a class declares, as its names are resolved
-pub op_resolved : (world : World) (class : ℕ) (name : MethodName) (pc : ℕ) (insn : Insn) (op : Op) → op_of world class name pc insn ≡ Ok op → op_with world class (pool_of world class) insn (operand_of insn) ≡ Ok op
+pub op_resolved : (world : World) (class : ℕ) (name : MethodName) (pc : ℕ) (insn : Insn) (op : Op)
+    → op_of world class name pc insn ≡ Ok op → op_with world class (pool_of world class) insn (operand_of insn) ≡ Ok op
 unfolding op_of alike_with
 op_resolved world class name pc insn op e =
     let resolved = op_with world class (pool_of world class) insn (operand_of insn) in
-    got_asked resolved (λ x. required (not (call_differs world x))) op (got_faultless name pc (alike_with world class (pool_of world class) insn (operand_of insn)) op e)
+    got_asked resolved (λ x. required (not (call_differs world x))) op
+    (got_faultless name pc (alike_with world class (pool_of world class) insn (operand_of insn)) op e)
 
 -- and its shape
-pub op_shape : (world : World) (class : ℕ) (name : MethodName) (pc : ℕ) (insn : Insn) (op : Op) → op_of world class name pc insn ≡ Ok op → Shape world class insn (operand_of insn) op
-op_shape world class name pc insn op e = shape_of world class (pool_of world class) insn (operand_of insn) op (op_resolved world class name pc insn op e)
+pub op_shape : (world : World) (class : ℕ) (name : MethodName) (pc : ℕ) (insn : Insn) (op : Op)
+    → op_of world class name pc insn ≡ Ok op → Shape world class insn (operand_of insn) op
+op_shape world class name pc insn op e = shape_of world class (pool_of world class) insn (operand_of insn) op
+    (op_resolved world class name pc insn op e)

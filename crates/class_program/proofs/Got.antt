@@ -27,7 +27,8 @@ got_faultless name pc (Ok y) x e = cc
 got_faultless name pc (Err r) x e = cc
 
 -- an answer of which something more was asked
-pub got_asked : {A : Type 0} (r : Result A Refusal) (ask : A → Result (Unit {0}) Refusal) (x : A) → (r >>= λ a. ask a >>= λ _. Ok a) ≡ Ok x → r ≡ Ok x
+pub got_asked : {A : Type 0} (r : Result A Refusal) (ask : A → Result (Unit {0}) Refusal) (x : A)
+    → (r >>= λ a. ask a >>= λ _. Ok a) ≡ Ok x → r ≡ Ok x
 got_asked r ask x e =
     let a = bind_ok r (λ y. ask y >>= λ _. Ok y) x e in
     let b = bind_ok (ask a.0) (λ _. Ok a.0) x a.2 in
@@ -40,12 +41,14 @@ all_at P [] i x h e = cc
 all_at {A} P (y ∷ ys) zero x h e = let same : y ≡ x = cc in subst (λ (z : A). P z) same h.0
 all_at P (y ∷ ys) (suc i) x h e = all_at P ys i x h.1 e
 
-pub all_both : {A : Type 0} (P Q : A → Type 0) (xs : List A) → AllByRecursion P xs → AllByRecursion Q xs → AllByRecursion (λ x. P x × Q x) xs
+pub all_both : {A : Type 0} (P Q : A → Type 0) (xs : List A) → AllByRecursion P xs → AllByRecursion Q xs
+    → AllByRecursion (λ x. P x × Q x) xs
 all_both P Q [] h k = tt
 all_both P Q (x ∷ xs) h k = ((h.0, k.0), all_both P Q xs h.1 k.1)
 
 -- what is said of each item of a list has what follows of each
-pub each_good : {A B : Type 0} (P : A → Type 0) (Q : B → Type 0) (of : A → Said B) (xs : List A) (ys : List B) → ((x : A) (y : B) → P x → of x ≡ Ok y → Q y) → AllByRecursion P xs → each of xs ≡ Ok ys → AllByRecursion Q ys
+pub each_good : {A B : Type 0} (P : A → Type 0) (Q : B → Type 0) (of : A → Said B) (xs : List A) (ys : List B)
+    → ((x : A) (y : B) → P x → of x ≡ Ok y → Q y) → AllByRecursion P xs → each of xs ≡ Ok ys → AllByRecursion Q ys
 each_good {B = B} P Q of [] ys f h e = let same : [] ≡ ys = cc in subst (λ (zs : List B). AllByRecursion Q zs) same tt
 each_good {B = B} P Q of (x ∷ xs) ys f h e =
     let y = bind_ok (of x) _ ys e in

@@ -59,7 +59,8 @@ call_wide pc calls.Special call = tt
 call_wide pc calls.Static call = tt
 call_wide pc calls.Interface call = tt
 
-class_wide : (world : World) (pc n : ℕ) (form : ClassForm) (t : Ty) (op : Op) → IsReference n t → class_op world form t ≡ Ok op → IsInWidth pc op
+class_wide : (world : World) (pc n : ℕ) (form : ClassForm) (t : Ty) (op : Op) → IsReference n t → class_op world form t ≡ Ok op
+    → IsInWidth pc op
 unfolding class_op
 class_wide world pc n classes.New t op r e =
     let class = bind_ok (class_number t) (new_of world) op e in
@@ -68,11 +69,14 @@ class_wide world pc n classes.Anewarray t op r e = subst (IsInWidth pc) (sym (an
 class_wide world pc n classes.Checkcast t op r e = let same : ops.Checkcast t ≡ op = cc in subst (IsInWidth pc) same tt
 class_wide world pc n classes.Instanceof t op r e = let same : ops.Instanceof t ≡ op = cc in subst (IsInWidth pc) same tt
 
-operand_wide : (world : World) (class pc : ℕ) (insn : Insn) (operand : Operand) (op : Op) → op_with world class (pool_of world class) insn operand ≡ Ok op → Fits pc insn
+operand_wide : (world : World) (class pc : ℕ) (insn : Insn) (operand : Operand) (op : Op)
+    → op_with world class (pool_of world class) insn operand ≡ Ok op → Fits pc insn
     → ((entry : ℕ) → constant_of (pool_of world class) entry ≡ Ok op → IsInWidth pc op) → IsInWidth pc op
 unfolding op_with
-operand_wide world class pc insn operands.Nothing op e fits constant = subst (IsInWidth pc) (sym (shape_of world class (pool_of world class) insn operands.Nothing op e)) fits
-operand_wide world class pc insn (operands.Numbers code) op e fits constant = subst (IsInWidth pc) (sym (shape_of world class (pool_of world class) insn (operands.Numbers code) op e).0) fits
+operand_wide world class pc insn operands.Nothing op e fits constant = subst (IsInWidth pc)
+    (sym (shape_of world class (pool_of world class) insn operands.Nothing op e)) fits
+operand_wide world class pc insn (operands.Numbers code) op e fits constant = subst (IsInWidth pc)
+    (sym (shape_of world class (pool_of world class) insn (operands.Numbers code) op e).0) fits
 operand_wide world class pc insn (operands.Constant entry) op e fits constant = constant entry e
 operand_wide world class pc insn (operands.Static form entry) op e fits constant =
     let s = shape_of world class (pool_of world class) insn (operands.Static form entry) op e in
@@ -88,12 +92,14 @@ operand_wide world class pc insn (operands.Call form entry) op e fits constant =
     subst (IsInWidth pc) (sym s.3) (call_wide pc form s.1)
 
 -- an instruction of a class, where the constant that it names is of 32 bits
-pub op_wide : (world : World) (class : ℕ) (name : MethodName) (pc : ℕ) (insn : Insn) (op : Op) → op_of world class name pc insn ≡ Ok op → Fits pc insn
+pub op_wide : (world : World) (class : ℕ) (name : MethodName) (pc : ℕ) (insn : Insn) (op : Op)
+    → op_of world class name pc insn ≡ Ok op → Fits pc insn
     → ((entry : ℕ) → constant_of (pool_of world class) entry ≡ Ok op → IsInWidth pc op) → IsInWidth pc op
 op_wide world class name pc insn op e fits constant =
     operand_wide world class pc insn (operand_of insn) op (op_resolved world class name pc insn op e) fits constant
 
-constant_wide : (world : World) (class pc : ℕ) (insn : Insn) (op : Op) (entry : ℕ) → IsConstantInWidth op → constant_of (pool_of world class) entry ≡ Ok op → IsInWidth pc op
+constant_wide : (world : World) (class pc : ℕ) (insn : Insn) (op : Op) (entry : ℕ) → IsConstantInWidth op
+    → constant_of (pool_of world class) entry ≡ Ok op → IsInWidth pc op
 unfolding op_with
 constant_wide world class pc insn op entry h e =
     let s = shape_of world class (pool_of world class) insn (operands.Constant entry) op e in
@@ -101,7 +107,8 @@ constant_wide world class pc insn op entry h e =
 
 -- ---- the instructions of a code
 
-pub ops_wide : (world : World) (class : ℕ) (name : MethodName) (xs : List (ℕ × Insn)) (ys : List (ℕ × Op)) → ops_of world class name xs ≡ Ok ys
+pub ops_wide : (world : World) (class : ℕ) (name : MethodName) (xs : List (ℕ × Insn)) (ys : List (ℕ × Op))
+    → ops_of world class name xs ≡ Ok ys
     → AllByRecursion (λ x. Fits x.0 x.1) xs → AllByRecursion (λ y. IsConstantInWidth y.1) ys → AreInWidth ys
 unfolding ops_of op_said
 ops_wide world class name [] ys e fits constants = let same : [] ≡ ys = cc in subst AreInWidth same tt
@@ -115,13 +122,15 @@ ops_wide world class name (x ∷ xs) ys e fits constants =
     let held = subst (λ (us : List (ℕ × Op)). AllByRecursion (λ y. IsConstantInWidth y.1) us) (sym same) constants in
     let own = subst (λ (v : ℕ × Op). IsConstantInWidth v.1) (sym place) held.0 in
     subst AreInWidth same (
-      subst (λ (v : ℕ × Op). IsInWidth v.0 v.1) place (op_wide world class name x.0 x.1 op.0 op.1 fits.0 (λ entry c. constant_wide world class x.0 x.1 op.0 entry own c)),
+      subst (λ (v : ℕ × Op). IsInWidth v.0 v.1) place
+          (op_wide world class name x.0 x.1 op.0 op.1 fits.0 (λ entry c. constant_wide world class x.0 x.1 op.0 entry own c)),
       ops_wide world class name xs zs.0 zs.1 fits.1 held.1,
     )
 
 -- ---- with the numbers of their calls' methods
 
-pub numbered_op_wide : (refs : List MethodRef) (placed : List StaticField) (pc : ℕ) (op : Op) → IsInWidth pc op → IsInWidth pc (op_numbered refs placed op)
+pub numbered_op_wide : (refs : List MethodRef) (placed : List StaticField) (pc : ℕ) (op : Op) → IsInWidth pc op
+    → IsInWidth pc (op_numbered refs placed op)
 numbered_op_wide refs placed pc (ops.Plain insn) h = h
 numbered_op_wide refs placed pc (ops.Constant value) h = h
 numbered_op_wide refs placed pc (ops.Getstatic used) h = tt
@@ -137,11 +146,13 @@ numbered_op_wide refs placed pc (ops.Anewarray t) h = tt
 numbered_op_wide refs placed pc (ops.Checkcast t) h = tt
 numbered_op_wide refs placed pc (ops.Instanceof t) h = tt
 
-pub numbered_wide : (refs : List MethodRef) (placed : List StaticField) (xs : List (ℕ × Op)) → AreInWidth xs → AreInWidth (insns_numbered refs placed xs)
+pub numbered_wide : (refs : List MethodRef) (placed : List StaticField) (xs : List (ℕ × Op)) → AreInWidth xs
+    → AreInWidth (insns_numbered refs placed xs)
 numbered_wide refs placed [] h = tt
 numbered_wide refs placed (x ∷ xs) h = (numbered_op_wide refs placed x.0 x.1 h.0, numbered_wide refs placed xs h.1)
 
-pub items_wide : (refs : List MethodRef) (placed : List StaticField) (xs ys : List (ℕ × Op)) → AreInWidth xs → ys ≡ insns_numbered refs placed xs → AreInWidth ys
+pub items_wide : (refs : List MethodRef) (placed : List StaticField) (xs ys : List (ℕ × Op)) → AreInWidth xs
+    → ys ≡ insns_numbered refs placed xs → AreInWidth ys
 items_wide refs placed xs ys h e = subst AreInWidth (sym e) (numbered_wide refs placed xs h)
 
 -- ---- the instruction at a place
@@ -150,15 +161,19 @@ insn_wide : (xs : List (ℕ × Op)) (pc : ℕ) (x : Op × Option ℕ) → AreInW
 insn_wide [] pc x h e = cc
 insn_wide (y ∷ ys) pc x h e = go (eqb y.0 pc) refl e (insn_wide ys pc x h.1)
   where
-    go : (b : Bool) → eqb y.0 pc ≡ b → cond b (Some (y.1, first_place ys)) (instruction_at ys pc) ≡ Some x → (instruction_at ys pc ≡ Some x → IsInWidth pc x.0) → IsInWidth pc x.0
-    go true p f rest = let same : y.1 ≡ x.0 = cc in subst (IsInWidth pc) same (subst (λ (at : ℕ). IsInWidth at y.1) (eqb-true y.0 pc p) h.0)
+    go : (b : Bool) → eqb y.0 pc ≡ b → cond b (Some (y.1, first_place ys)) (instruction_at ys pc) ≡ Some x
+        → (instruction_at ys pc ≡ Some x → IsInWidth pc x.0) → IsInWidth pc x.0
+    go true p f rest = let same : y.1 ≡ x.0 = cc in subst (IsInWidth pc) same
+        (subst (λ (at : ℕ). IsInWidth at y.1) (eqb-true y.0 pc p) h.0)
     go false p f rest = rest f
 
-pub wide_at : (methods : List Method) (number pc : ℕ) (x : Op × Option ℕ) → AreMethodsInWidth methods → insn_at methods number pc ≡ Some x → IsInWidth pc x.0
+pub wide_at : (methods : List Method) (number pc : ℕ) (x : Op × Option ℕ) → AreMethodsInWidth methods
+    → insn_at methods number pc ≡ Some x → IsInWidth pc x.0
 unfolding insn_at
 wide_at methods number pc x h e = go (slice_get methods number) refl e
   where
-    go : (o : Option Method) → slice_get methods number ≡ o → option_and_then (λ m. instruction_at m.insns pc) o ≡ Some x → IsInWidth pc x.0
+    go : (o : Option Method) → slice_get methods number ≡ o → option_and_then (λ m. instruction_at m.insns pc) o ≡ Some x
+        → IsInWidth pc x.0
     go None s f = cc
     go (Some m) s f = insn_wide m.insns pc x (all_at (λ (n : Method). AreInWidth n.insns) methods number m h s) f
 
@@ -169,8 +184,11 @@ constant_held op h = h
 
 -- ---- one more
 
-pub one_more_constant : (xs ys : List (ℕ × Op)) (x : ℕ × Op) → ys ≡ xs ++ x ∷ [] → AllByRecursion (λ y. IsConstantInWidth y.1) xs → IsConstantInWidth x.1 → AllByRecursion (λ y. IsConstantInWidth y.1) ys
-one_more_constant xs ys x e h k = subst (λ (us : List (ℕ × Op)). AllByRecursion (λ y. IsConstantInWidth y.1) us) (sym e) (all_joined (λ (y : ℕ × Op). IsConstantInWidth y.1) xs (x ∷ []) h (k, tt))
+pub one_more_constant : (xs ys : List (ℕ × Op)) (x : ℕ × Op) → ys ≡ xs ++ x ∷ [] → AllByRecursion (λ y. IsConstantInWidth y.1) xs
+    → IsConstantInWidth x.1 → AllByRecursion (λ y. IsConstantInWidth y.1) ys
+one_more_constant xs ys x e h k = subst (λ (us : List (ℕ × Op)). AllByRecursion (λ y. IsConstantInWidth y.1) us) (sym e)
+    (all_joined (λ (y : ℕ × Op). IsConstantInWidth y.1) xs (x ∷ []) h (k, tt))
 
-pub one_more_wide : (ms ns : List Method) (m : Method) → ns ≡ ms ++ m ∷ [] → AreMethodsInWidth ms → AreInWidth m.insns → AreMethodsInWidth ns
+pub one_more_wide : (ms ns : List Method) (m : Method) → ns ≡ ms ++ m ∷ [] → AreMethodsInWidth ms → AreInWidth m.insns
+    → AreMethodsInWidth ns
 one_more_wide ms ns m e h k = subst AreMethodsInWidth (sym e) (all_joined (λ (n : Method). AreInWidth n.insns) ms (m ∷ []) h (k, tt))

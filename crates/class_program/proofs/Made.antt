@@ -18,7 +18,8 @@ use Rattle.class_program.specs.declared.program.StaticField.{StaticField}
 use Rattle.class_program.specs.declared.signature.Signature.{Signature}
 use Rattle.class_program.specs.Said.{Said, ◌>>=◌, unless, each}
 use Rattle.class_program.specs.Ops.{pool_of}
-use Rattle.class_program.specs.Methods.{method_name, static_init, code_of, synchronized, own_types, insns_of, ops_of, table_of, made_of, coded_of, named_of, method_of}
+use Rattle.class_program.specs.Methods.{method_name, static_init, code_of, synchronized, own_types, insns_of, ops_of, table_of}
+use Rattle.class_program.specs.Methods.{made_of, coded_of, named_of, method_of}
 use Rattle.class_program.specs.Statics.{statics_named}
 use Rattle.class_program.specs.Reached.{reached, contents_of, methods_of, method_numbered, close_of}
 use Rattle.class_program.specs.Programs.{ref_of, refs_of}
@@ -74,11 +75,15 @@ made_ref world ref m r h = sym (ap ref_of h.whole)
 -- ---- the methods of a list
 
 -- what is said of the methods of a list, where each is there
-pub one_more_said : (world : World) (r : MethodRef) (rs : List MethodRef) (m : MethodContent) → method_at world r ≡ Some m → contents_of world (r ∷ rs) ≡ (r, m) ∷ contents_of world rs
+pub one_more_said : (world : World) (r : MethodRef) (rs : List MethodRef) (m : MethodContent) → method_at world r ≡ Some m
+    → contents_of world (r ∷ rs) ≡ (r, m) ∷ contents_of world rs
 unfolding contents_of
-one_more_said world r rs m e = ap (λ (o : Option MethodContent). cons_option (option_map (λ c. (r, c)) o) (filter_map (λ ref. option_map (λ c. (ref, c)) (method_at world ref)) rs)) e
+one_more_said world r rs m e = ap
+    (λ (o : Option MethodContent). cons_option (option_map (λ c. (r, c)) o)
+    (filter_map (λ ref. option_map (λ c. (ref, c)) (method_at world ref)) rs)) e
 
-pub refs_made : (world : World) (refs : List MethodRef) (methods : List Method) → list_all (has_body world) refs ≡ true → methods_of world refs ≡ Ok methods → refs_of methods ≡ refs
+pub refs_made : (world : World) (refs : List MethodRef) (methods : List Method) → list_all (has_body world) refs ≡ true
+    → methods_of world refs ≡ Ok methods → refs_of methods ≡ refs
 unfolding methods_of contents_of
 refs_made world [] methods b e = go methods e
   where
@@ -89,27 +94,33 @@ refs_made world (r ∷ rs) methods b e =
     let bodies = and_parts (has_body world r) (list_all (has_body world) rs) b in
     let content = body_at world r bodies.0 in
     let said = sym (ap (each (λ x. method_of world x.0 x.1)) (one_more_said world r rs content.0 content.1)) ∙ e in
-    let y = bind_ok (method_of world r content.0) (λ y. each (λ x. method_of world x.0 x.1) (contents_of world rs) >>= λ ys. Ok (y ∷ ys)) methods said in
+    let y = bind_ok (method_of world r content.0)
+    (λ y. each (λ x. method_of world x.0 x.1) (contents_of world rs) >>= λ ys. Ok (y ∷ ys)) methods said in
     let zs = bind_ok (each (λ x. method_of world x.0 x.1) (contents_of world rs)) (λ ys. Ok (y.0 ∷ ys)) methods y.2 in
     sym (ap refs_of (ok_same (y.0 ∷ zs.0) methods (Ok (y.0 ∷ zs.0)) refl zs.2))
     ∙ ap (λ x. x ∷ refs_of zs.0) (made_ref world r content.0 y.0 (method_made world r content.0 y.0 y.1))
     ∙ ap (λ xs. r ∷ xs) (refs_made world rs zs.0 bodies.1 zs.1)
 
-pub reach_numbers : (world : World) (entry : MethodRef) (refs : List MethodRef) (methods : List Method) (h : IsReaching world entry refs methods) → slice_get refs (length methods) ≡ None → refs_of methods ≡ refs
+pub reach_numbers : (world : World) (entry : MethodRef) (refs : List MethodRef) (methods : List Method)
+    (h : IsReaching world entry refs methods) → slice_get refs (length methods) ≡ None → refs_of methods ≡ refs
 reach_numbers world entry refs methods h e =
     let same = all_gone world entry refs methods h e in
     refs_made world refs methods h.bodies (ap (methods_of world) (sym same) ∙ h.found)
 
 -- ---- with their calls' numbers
 
-pub numbered_refs : (refs : List MethodRef) (statics : List StaticField) (methods : List Method) → refs_of (map (method_numbered refs statics) methods) ≡ refs_of methods
+pub numbered_refs : (refs : List MethodRef) (statics : List StaticField) (methods : List Method)
+    → refs_of (map (method_numbered refs statics) methods) ≡ refs_of methods
 numbered_refs refs statics [] = refl
 numbered_refs refs statics (m ∷ ms) = ap (λ xs. ref_of m ∷ xs) (numbered_refs refs statics ms)
 
-pub closed_is : (world : World) (entry : MethodRef) (refs : List MethodRef) (statics : List StaticField) (methods numbered : List Method) → refs ≡ reached world entry → methods_of world (reached world entry) ≡ Ok methods → statics_named world methods ≡ Ok statics → numbered ≡ map (method_numbered refs statics) methods → close_of world entry ≡ Ok numbered
+pub closed_is : (world : World) (entry : MethodRef) (refs : List MethodRef) (statics : List StaticField)
+    (methods numbered : List Method) → refs ≡ reached world entry → methods_of world (reached world entry) ≡ Ok methods
+    → statics_named world methods ≡ Ok statics → numbered ≡ map (method_numbered refs statics) methods → close_of world entry ≡ Ok numbered
 unfolding close_of
 closed_is world entry refs statics methods numbered r e f n =
-    ap (λ (s : Said (List Method)). s >>= λ ms. statics_named world ms >>= λ found. Ok (map (method_numbered (reached world entry) found) ms)) e
+    ap (λ (s : Said (List Method)). s >>= λ ms. statics_named world ms >>= λ found. Ok
+    (map (method_numbered (reached world entry) found) ms)) e
     ∙ ap (λ (s : Said (List StaticField)). s >>= λ found. Ok (map (method_numbered (reached world entry) found) methods)) f
     ∙ ap (λ (xs : List MethodRef). Ok (map (method_numbered xs statics) methods)) (sym r)
     ∙ ap (λ (ms : List Method). Ok ms) (sym n)

@@ -1,5 +1,6 @@
 -- The list of reached methods as it grows, and that it ends as the definition says.
-use Rattle.std.proofs.Common.{◌≡◌, ◌++◌, ℕ, zero, suc, ◌<◌, ◌≤◌, Bool, true, false, cond, List, [], ◌∷◌, length, sym, refl, ap, ◌∙◌, subst, inl, inr, ◌⊎◌, arith, append_assoc, append-nil, length-append}
+use Rattle.std.proofs.Common.{◌≡◌, ◌++◌, ℕ, zero, suc, ◌<◌, ◌≤◌, Bool, true, false, cond, List, [], ◌∷◌, length, sym, refl, ap, ◌∙◌}
+use Rattle.std.proofs.Common.{subst, inl, inr, ◌⊎◌, arith, append_assoc, append-nil, length-append}
 use Rattle.std.specs.Prelude.{flat_map}
 use Rattle.std.proofs.lemmas.Grind.{flat_map-append}
 use Rattle.std.proofs.lemmas.Bool.{cases_lt}
@@ -56,7 +57,8 @@ with_one_begins refs x = by (has_method refs x)
 
 pub with_new_begins : (refs more : List MethodRef) → Begins refs (with_new refs more)
 with_new_begins refs [] = begins_refl refs
-with_new_begins refs (x ∷ xs) = begins_trans refs (with_one refs x) (with_new (with_one refs x) xs) (with_one_begins refs x) (with_new_begins (with_one refs x) xs)
+with_new_begins refs (x ∷ xs) = begins_trans refs (with_one refs x) (with_new (with_one refs x) xs) (with_one_begins refs x)
+    (with_new_begins (with_one refs x) xs)
 
 pub with_new_append : (refs xs ys : List MethodRef) → with_new refs (xs ++ ys) ≡ with_new (with_new refs xs) ys
 with_new_append refs [] ys = refl
@@ -93,7 +95,8 @@ module _ (f : MethodRef → List MethodRef) (e : MethodRef) where
     carried = λ p b l. absurd (omega (arith, l));
   }
 
-  pub grow_more : (gone refs more : List MethodRef) (x : MethodRef) → IsGrowing gone refs → Begins (gone ++ x ∷ []) refs → more ≡ with_new refs (f x) → IsGrowing (gone ++ x ∷ []) more
+  pub grow_more : (gone refs more : List MethodRef) (x : MethodRef) → IsGrowing gone refs → Begins (gone ++ x ∷ []) refs
+      → more ≡ with_new refs (f x) → IsGrowing (gone ++ x ∷ []) more
   grow_more gone refs more x g b m = record {
     front = begins_trans (gone ++ x ∷ []) refs more b (let w = with_new_begins refs (f x) in (w.0, m ∙ w.1));
     made = m ∙ ap (λ r. with_new r (f x)) g.made ∙ ap (with_new (made_by gone)) (sym (append-nil (f x))) ∙ sym (made_more gone (x ∷ []));
@@ -112,7 +115,8 @@ module _ (f : MethodRef → List MethodRef) (e : MethodRef) where
   }
 
   -- where something is left to go through, the definition's list begins with what is gone through and that
-  pub within_begins : (gone refs : List MethodRef) (x : MethodRef) → IsGrowing gone refs → Begins (gone ++ x ∷ []) refs → (n : ℕ) → Begins (gone ++ x ∷ []) (within n) ⊎ ((p : List MethodRef) × Begins p gone × (n < length p) × Begins p (within n))
+  pub within_begins : (gone refs : List MethodRef) (x : MethodRef) → IsGrowing gone refs → Begins (gone ++ x ∷ []) refs → (n : ℕ)
+      → Begins (gone ++ x ∷ []) (within n) ⊎ ((p : List MethodRef) × Begins p gone × (n < length p) × Begins p (within n))
   within_begins gone refs x g b zero = elim (cases_lt 0 (length gone)) [
     | inl s ↦
         let w = with_new_begins (e ∷ []) (flat_map f gone) in
@@ -128,9 +132,11 @@ module _ (f : MethodRef → List MethodRef) (e : MethodRef) where
   ]
     where
       whole : Begins gone (within n) → Begins (gone ++ x ∷ []) (within (suc n))
-      whole h = begins_trans (gone ++ x ∷ []) (made_by gone) (within (suc n)) (subst (λ r. Begins (gone ++ x ∷ []) r) g.made b) (made_begins gone (within n) h)
+      whole h = begins_trans (gone ++ x ∷ []) (made_by gone) (within (suc n)) (subst (λ r. Begins (gone ++ x ∷ []) r) g.made b)
+          (made_begins gone (within n) h)
 
-      further : (p : List MethodRef) → Begins p gone → n < length p → Begins p (within n) → Begins (gone ++ x ∷ []) (within (suc n)) ⊎ ((q : List MethodRef) × Begins q gone × (suc n < length q) × Begins q (within (suc n)))
+      further : (p : List MethodRef) → Begins p gone → n < length p → Begins p (within n) → Begins (gone ++ x ∷ []) (within (suc n))
+          ⊎ ((q : List MethodRef) × Begins q gone × (suc n < length q) × Begins q (within (suc n)))
       further p q l h = elim (cases_lt (length p) (length gone)) [
         | inl s ↦
             let grown = g.carried p q s in
@@ -139,13 +145,15 @@ module _ (f : MethodRef → List MethodRef) (e : MethodRef) where
             elim (cases_lt (length gone) (length (made_by p))) [
               | inl t ↦
                   let k = length-append gone (x ∷ []) in
-                  inl (begins_trans (gone ++ x ∷ []) (made_by p) (within (suc n)) (begins_both (gone ++ x ∷ []) (made_by p) refs b here (omega (arith, t, k))) there)
+                  inl (begins_trans (gone ++ x ∷ []) (made_by p) (within (suc n))
+                  (begins_both (gone ++ x ∷ []) (made_by p) refs b here (omega (arith, t, k))) there)
               | inr t ↦ inr (made_by p, begins_both (made_by p) gone refs here g.front t, omega (arith, grown, l), there)
             ]
         | inr s ↦ inl (whole (subst (λ r. Begins r (within n)) (begins_all p gone q s) h))
       ]
 
-  pub begins_in_time : (gone refs : List MethodRef) (x : MethodRef) (n : ℕ) → IsGrowing gone refs → Begins (gone ++ x ∷ []) refs → length refs ≤ n → Begins (gone ++ x ∷ []) (within n)
+  pub begins_in_time : (gone refs : List MethodRef) (x : MethodRef) (n : ℕ) → IsGrowing gone refs → Begins (gone ++ x ∷ []) refs
+      → length refs ≤ n → Begins (gone ++ x ∷ []) (within n)
   begins_in_time gone refs x n g b l = elim (within_begins gone refs x g b n) [
     | inl h ↦ h
     | inr h ↦
@@ -155,14 +163,20 @@ module _ (f : MethodRef → List MethodRef) (e : MethodRef) where
   ]
 
   -- where all is gone through, the definition's list is the whole
-  pub within_ends : (refs : List MethodRef) → IsGrowing refs refs → (n : ℕ) → (within n ≡ refs) ⊎ ((p : List MethodRef) × Begins p refs × (n < length p) × (within n ≡ p))
+  pub within_ends : (refs : List MethodRef) → IsGrowing refs refs → (n : ℕ)
+      → (within n ≡ refs) ⊎ ((p : List MethodRef) × Begins p refs × (n < length p) × (within n ≡ p))
   within_ends refs g zero = let w = with_new_begins (e ∷ []) (flat_map f refs) in inr (e ∷ [], (w.0, g.made ∙ w.1), omega arith, refl)
   within_ends refs g (suc n) = elim (within_ends refs g n) [
     | inl h ↦ inl (ap made_by h ∙ sym g.made)
     | inr h ↦ elim (cases_lt (length h.0) (length refs)) [
       | inl s ↦
           let grown = g.carried h.0 h.1 s in
-          inr (made_by h.0, subst (λ r. Begins (made_by h.0) r) (sym g.made) (made_begins h.0 refs h.1), omega (arith, grown, h.2), ap made_by h.3)
+          inr (
+            made_by h.0,
+            subst (λ r. Begins (made_by h.0) r) (sym g.made) (made_begins h.0 refs h.1),
+            omega (arith, grown, h.2),
+            ap made_by h.3,
+          )
       | inr s ↦ inl (ap made_by (h.3 ∙ begins_all h.0 refs h.1 s) ∙ sym g.made)
     ]
   ]

@@ -7,7 +7,8 @@ use Rattle.class_read.specs.Content.{ClassContent}
 use Rattle.class_world.specs.declared.fault.LinkFault.{LinkFault}
 use Rattle.class_world.specs.declared.fault.MethodName.{MethodName}
 use Rattle.class_program.specs.declared.refusal.Refusal.{Refusal}
-use Rattle.class_program.specs.declared.refusal.Refusal.TheVariants.{MissingClass, StaticInit, UnsupportedType, Unresolved, PrivateVirtual, Memory}
+use Rattle.class_program.specs.declared.refusal.Refusal.TheVariants.{MissingClass, StaticInit, UnsupportedType, Unresolved}
+use Rattle.class_program.specs.declared.refusal.Refusal.TheVariants.{PrivateVirtual, Memory}
 use Rattle.code_forms.specs.declared.insn.Insn.{Insn}
 use Rattle.class_program.specs.declared.op.Op.{Op}
 use Rattle.class_world.specs.World.{World}
@@ -21,7 +22,8 @@ use Rattle.class_program.specs.Said.{is_memory as is_fault_of_memory}
 -- a refusal's fault is what is said, unless memory ran out
 pub fault_said : {A : Type 0} (name : MethodName) (pc : ℕ) (refusal : Refusal) (said : Result A Refusal) (fault : LinkFault)
     → IsDue is_memory refusal said → fault ≡ fault_at name pc refusal → IsDue is_fault_of_memory fault (with_fault name pc said)
-fault_said name pc refusal said fault due e = subst (λ (f : LinkFault). IsDue is_fault_of_memory f (with_fault name pc said)) (sym e) (by refusal due)
+fault_said name pc refusal said fault due e = subst (λ (f : LinkFault). IsDue is_fault_of_memory f (with_fault name pc said))
+    (sym e) (by refusal due)
   where
     by : (r : Refusal) → IsDue is_memory r said → IsDue is_fault_of_memory (fault_at name pc r) (with_fault name pc said)
     by Memory f = tt
@@ -32,7 +34,8 @@ fault_said name pc refusal said fault due e = subst (λ (f : LinkFault). IsDue i
     by PrivateVirtual f = ap (with_fault name pc) f
 
 -- a refusal that isn't want of memory is what is said
-said_so : {A : Type 0} (refusal : Refusal) (said : Result A Refusal) → IsDue is_memory refusal said → (refusal ≡ Memory) ⊎ (said ≡ Err refusal)
+said_so : {A : Type 0} (refusal : Refusal) (said : Result A Refusal) → IsDue is_memory refusal said
+    → (refusal ≡ Memory) ⊎ (said ≡ Err refusal)
 said_so Memory said f = inl refl
 said_so (MissingClass name) said f = inr f
 said_so (StaticInit name) said f = inr f
@@ -79,19 +82,24 @@ together_gives (Err r) sa (Err q) sb f g = go (said_so r sa f) (said_so q sb g)
     go (inr e) (inr h) = is_due is_memory (first_refusal r q) (together sa sb) (ap (λ s. together s sb) e ∙ ap (together (Err r)) h)
 
 -- the pool of a class
-pub pool_at : (world : World) (class : ℕ) (c : ClassContent) (pool : List PoolEntry) → slice_get world class ≡ Some c → pool ≡ c.pool → pool_of world class ≡ pool
+pub pool_at : (world : World) (class : ℕ) (c : ClassContent) (pool : List PoolEntry) → slice_get world class ≡ Some c
+    → pool ≡ c.pool → pool_of world class ≡ pool
 pool_at world class c pool e p = ap (λ o. option_map_or (λ x. x.pool) o []) e ∙ sym p
 
 -- the instruction that was resolved with the pool of its class
 pub op_said : (world : World) (class : ℕ) (name : MethodName) (pc : ℕ) (insn : Insn) (pool : List PoolEntry) (op : Op)
     → pool_of world class ≡ pool → alike_with world class pool insn (operand_of insn) ≡ Ok op → op_of world class name pc insn ≡ Ok op
 unfolding op_of
-op_said world class name pc insn pool op p e = ap (λ q. with_fault name pc (alike_with world class q insn (operand_of insn))) p ∙ ap (with_fault name pc) e
+op_said world class name pc insn pool op p e = ap (λ q. with_fault name pc (alike_with world class q insn (operand_of insn))) p
+    ∙ ap (with_fault name pc) e
 
-pub op_refused : (world : World) (class : ℕ) (name : MethodName) (pc : ℕ) (insn : Insn) (pool : List PoolEntry) (refusal : Refusal) (fault : LinkFault)
-    → pool_of world class ≡ pool → IsDue is_memory refusal (alike_with world class pool insn (operand_of insn)) → fault ≡ fault_at name pc refusal
+pub op_refused : (world : World) (class : ℕ) (name : MethodName) (pc : ℕ) (insn : Insn) (pool : List PoolEntry) (refusal : Refusal)
+    (fault : LinkFault)
+    → pool_of world class ≡ pool → IsDue is_memory refusal (alike_with world class pool insn (operand_of insn))
+    → fault ≡ fault_at name pc refusal
     → IsDue is_fault_of_memory fault (op_of world class name pc insn)
 unfolding op_of
 op_refused world class name pc insn pool refusal fault p f e =
-    subst (λ (q : List PoolEntry). IsDue is_fault_of_memory fault (with_fault name pc (alike_with world class q insn (operand_of insn)))) (sym p)
+    subst (λ (q : List PoolEntry). IsDue is_fault_of_memory fault
+    (with_fault name pc (alike_with world class q insn (operand_of insn)))) (sym p)
     (fault_said name pc refusal (alike_with world class pool insn (operand_of insn)) fault f e)

@@ -29,7 +29,8 @@ unless_ok (Some fault) s x e = cc
 
 -- ---- a method's instructions
 
-ops_rise : (world : World) (class : ℕ) (name : MethodName) (p : ℕ) (xs : List (ℕ × Insn)) (ys : List (ℕ × Op)) → ops_of world class name xs ≡ Ok ys → rises_from p xs ≡ true → rises_from p ys ≡ true
+ops_rise : (world : World) (class : ℕ) (name : MethodName) (p : ℕ) (xs : List (ℕ × Insn)) (ys : List (ℕ × Op))
+    → ops_of world class name xs ≡ Ok ys → rises_from p xs ≡ true → rises_from p ys ≡ true
 unfolding ops_of op_said
 ops_rise world class name p [] ys e r = let same : [] ≡ ys = cc in subst (λ (zs : List (ℕ × Op)). rises_from p zs ≡ true) same refl
 ops_rise world class name p (x ∷ xs) ys e r =
@@ -44,7 +45,8 @@ ops_rise world class name p (x ∷ xs) ys e r =
     (subst (λ (v : ℕ × Op). rises_from p (v ∷ zs.0) ≡ true) place
     (and_from (leb p x.0) (rises_from (x.0 + 1) zs.0) parts.0 (ops_rise world class name (x.0 + 1) xs zs.0 zs.1 parts.1)))
 
-ops_first : (world : World) (class : ℕ) (name : MethodName) (xs : List (ℕ × Insn)) (ys : List (ℕ × Op)) → ops_of world class name xs ≡ Ok ys → starts_at_zero xs ≡ true → starts_at_zero ys ≡ true
+ops_first : (world : World) (class : ℕ) (name : MethodName) (xs : List (ℕ × Insn)) (ys : List (ℕ × Op))
+    → ops_of world class name xs ≡ Ok ys → starts_at_zero xs ≡ true → starts_at_zero ys ≡ true
 unfolding ops_of op_said
 ops_first world class name [] ys e r = let same : [] ≡ ys = cc in subst (λ (zs : List (ℕ × Op)). starts_at_zero zs ≡ true) same refl
 ops_first world class name (x ∷ xs) ys e r =
@@ -58,10 +60,12 @@ ops_first world class name (x ∷ xs) ys e r =
     (subst (λ (v : ℕ × Op). eqb v.0 0 ≡ true) place r)
 
 -- the instructions of a code whose exception table is good
-pub insns_read : (name : MethodName) (code : CodeContent) (xs : List (ℕ × Insn)) → insns_of name code ≡ Ok xs → (decode_of code.code ≡ Ok xs) × (table_said code xs ≡ Ok tt)
+pub insns_read : (name : MethodName) (code : CodeContent) (xs : List (ℕ × Insn)) → insns_of name code ≡ Ok xs
+    → (decode_of code.code ≡ Ok xs) × (table_said code xs ≡ Ok tt)
 unfolding insns_of
 insns_read name code xs e =
-    let insns = bind_ok (in_method name (decode_of code.code)) (λ insns. in_method name (table_said code insns) >>= λ tested. Ok insns) xs e in
+    let insns = bind_ok (in_method name (decode_of code.code))
+    (λ insns. in_method name (table_said code insns) >>= λ tested. Ok insns) xs e in
     let tested = bind_ok (in_method name (table_said code insns.0)) (λ tested. Ok insns.0) xs insns.2 in
     let same : insns.0 ≡ xs = cc in
     subst (λ (ys : List (ℕ × Insn)). (decode_of code.code ≡ Ok ys) × (table_said code ys ≡ Ok tt)) same
@@ -72,23 +76,30 @@ insns_read name code xs e =
     read (Err fault) ys f = cc
 
 -- with their names resolved they stand at the same places
-pub ops_placed : (world : World) (class : ℕ) (name : MethodName) (code : CodeContent) (xs : List (ℕ × Insn)) (ys : List (ℕ × Op)) → insns_of name code ≡ Ok xs → ops_of world class name xs ≡ Ok ys → is_placed ys ≡ true
+pub ops_placed : (world : World) (class : ℕ) (name : MethodName) (code : CodeContent) (xs : List (ℕ × Insn)) (ys : List (ℕ × Op))
+    → insns_of name code ≡ Ok xs → ops_of world class name xs ≡ Ok ys → is_placed ys ≡ true
 ops_placed world class name code xs ys i o =
     let placed = and_parts (starts_at_zero xs) (rises_from 0 xs) (code_placed code.code xs (insns_read name code xs i).0) in
-    and_from (starts_at_zero ys) (rises_from 0 ys) (ops_first world class name xs ys o placed.0) (ops_rise world class name 0 xs ys o placed.1)
+    and_from (starts_at_zero ys) (rises_from 0 ys) (ops_first world class name xs ys o placed.0)
+    (ops_rise world class name 0 xs ys o placed.1)
 
 -- ---- their calls' numbers change no place
 
-numbered_rise : (refs : List MethodRef) (statics : List StaticField) (p : ℕ) (xs : List (ℕ × Op)) → rises_from p (insns_numbered refs statics xs) ≡ rises_from p xs
+numbered_rise : (refs : List MethodRef) (statics : List StaticField) (p : ℕ) (xs : List (ℕ × Op))
+    → rises_from p (insns_numbered refs statics xs) ≡ rises_from p xs
 numbered_rise refs statics p [] = refl
 numbered_rise refs statics p (x ∷ xs) = ap (λ b. leb p x.0 && b) (numbered_rise refs statics (x.0 + 1) xs)
 
-numbered_first : (refs : List MethodRef) (statics : List StaticField) (xs : List (ℕ × Op)) → starts_at_zero (insns_numbered refs statics xs) ≡ starts_at_zero xs
+numbered_first : (refs : List MethodRef) (statics : List StaticField) (xs : List (ℕ × Op))
+    → starts_at_zero (insns_numbered refs statics xs) ≡ starts_at_zero xs
 numbered_first refs statics [] = refl
 numbered_first refs statics (x ∷ xs) = refl
 
-pub numbered_placed : (refs : List MethodRef) (statics : List StaticField) (xs : List (ℕ × Op)) → is_placed (insns_numbered refs statics xs) ≡ is_placed xs
-numbered_placed refs statics xs = ap (λ b. b && rises_from 0 (insns_numbered refs statics xs)) (numbered_first refs statics xs) ∙ ap (λ b. starts_at_zero xs && b) (numbered_rise refs statics 0 xs)
+pub numbered_placed : (refs : List MethodRef) (statics : List StaticField) (xs : List (ℕ × Op))
+    → is_placed (insns_numbered refs statics xs) ≡ is_placed xs
+numbered_placed refs statics xs = ap (λ b. b && rises_from 0 (insns_numbered refs statics xs)) (numbered_first refs statics xs)
+    ∙ ap (λ b. starts_at_zero xs && b) (numbered_rise refs statics 0 xs)
 
-pub items_placed : (refs : List MethodRef) (statics : List StaticField) (xs ys : List (ℕ × Op)) → is_placed xs ≡ true → ys ≡ insns_numbered refs statics xs → is_placed ys ≡ true
+pub items_placed : (refs : List MethodRef) (statics : List StaticField) (xs ys : List (ℕ × Op)) → is_placed xs ≡ true
+    → ys ≡ insns_numbered refs statics xs → is_placed ys ≡ true
 items_placed refs statics xs ys p e = ap (λ (zs : List (ℕ × Op)). is_placed zs) e ∙ numbered_placed refs statics xs ∙ p

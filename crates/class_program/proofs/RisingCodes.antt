@@ -1,5 +1,6 @@
 -- The instructions of a code stand at rising places.
-use Rattle.std.proofs.Common.{◌≡◌, ℕ, zero, suc, ◌+◌, ◌-◌, ◌≤◌, true, leb, List, [], ◌∷◌, length, Option, Some, None, Ok, Err, refl, subst, arith}
+use Rattle.std.proofs.Common.{◌≡◌, ℕ, zero, suc, ◌+◌, ◌-◌, ◌≤◌, true, leb, List, [], ◌∷◌, length, Option, Some, None, Ok, Err, refl}
+use Rattle.std.proofs.Common.{subst, arith}
 use Rattle.std.specs.Prelude.{Result}
 use Rattle.std.proofs.lemmas.Bool.{and_from, and_parts, le-leb, leb-true}
 use Rattle.code_forms.specs.declared.fault.CodeFault.{CodeFault}
@@ -23,13 +24,17 @@ decoded_rise zero pc (op ∷ bytes) xs e = go (insn_at pc op bytes) e (λ passed
     Rest : Type 0
     Rest = (passed : ℕ) (ys : List (ℕ × Insn)) → insns_from passed (pc + 1) bytes ≡ Ok ys → rises_from (pc + 1) ys ≡ true
 
-    behind : (insn : Insn) (passed : ℕ) (s : Result (List (ℕ × Insn)) CodeFault) → insns_from passed (pc + 1) bytes ≡ s → (s >>= λ rest. Ok ((pc, insn) ∷ rest)) ≡ Ok xs → Rest → rises_from pc xs ≡ true
+    behind : (insn : Insn) (passed : ℕ) (s : Result (List (ℕ × Insn)) CodeFault) → insns_from passed (pc + 1) bytes ≡ s
+        → (s >>= λ rest. Ok ((pc, insn) ∷ rest)) ≡ Ok xs → Rest → rises_from pc xs ≡ true
     behind insn passed (Err fault) q f rest = cc
     behind insn passed (Ok ys) q f rest =
         let same : (pc, insn) ∷ ys ≡ xs = cc in
-        subst (λ (zs : List (ℕ × Insn)). rises_from pc zs ≡ true) same (and_from (leb pc pc) (rises_from (pc + 1) ys) (le-leb pc pc (omega arith)) (rest passed ys q))
+        subst (λ (zs : List (ℕ × Insn)). rises_from pc zs ≡ true) same
+        (and_from (leb pc pc) (rises_from (pc + 1) ys) (le-leb pc pc (omega arith)) (rest passed ys q))
 
-    go : (r : Result (Insn × List ℕ) CodeFault) → (r >>= λ x. insns_from (length bytes - length x.1) (pc + 1) bytes >>= λ rest. Ok ((pc, x.0) ∷ rest)) ≡ Ok xs → Rest → rises_from pc xs ≡ true
+    go : (r : Result (Insn × List ℕ) CodeFault)
+        → (r >>= λ x. insns_from (length bytes - length x.1) (pc + 1) bytes >>= λ rest. Ok ((pc, x.0) ∷ rest)) ≡ Ok xs → Rest
+        → rises_from pc xs ≡ true
     go (Err fault) f rest = cc
     go (Ok x) f rest = behind x.0 (length bytes - length x.1) (insns_from (length bytes - length x.1) (pc + 1) bytes) refl f rest
 decoded_rise (suc passed) pc (b ∷ bytes) xs e = lower pc (pc + 1) xs (omega arith) (decoded_rise passed (pc + 1) bytes xs e)
@@ -39,28 +44,35 @@ unfolding insns_from
 decoded_first [] xs e = let same : [] ≡ xs = cc in subst (λ (ys : List (ℕ × Insn)). starts_at_zero ys ≡ true) same refl
 decoded_first (op ∷ bytes) xs e = go (insn_at 0 op bytes) e
   where
-    behind : (insn : Insn) (s : Result (List (ℕ × Insn)) CodeFault) → (s >>= λ rest. Ok ((0, insn) ∷ rest)) ≡ Ok xs → starts_at_zero xs ≡ true
+    behind : (insn : Insn) (s : Result (List (ℕ × Insn)) CodeFault) → (s >>= λ rest. Ok ((0, insn) ∷ rest)) ≡ Ok xs
+        → starts_at_zero xs ≡ true
     behind insn (Err fault) f = cc
     behind insn (Ok ys) f =
         let same : (0, insn) ∷ ys ≡ xs = cc in
         subst (λ (zs : List (ℕ × Insn)). starts_at_zero zs ≡ true) same refl
 
-    go : (r : Result (Insn × List ℕ) CodeFault) → (r >>= λ x. insns_from (length bytes - length x.1) (0 + 1) bytes >>= λ rest. Ok ((0, x.0) ∷ rest)) ≡ Ok xs → starts_at_zero xs ≡ true
+    go : (r : Result (Insn × List ℕ) CodeFault)
+        → (r >>= λ x. insns_from (length bytes - length x.1) (0 + 1) bytes >>= λ rest. Ok ((0, x.0) ∷ rest)) ≡ Ok xs
+        → starts_at_zero xs ≡ true
     go (Err fault) f = cc
     go (Ok x) f = behind x.0 (insns_from (length bytes - length x.1) (0 + 1) bytes) f
 
 -- what is decoded is what is read from the start, and has no stray target
-pub decoded : (code : List ℕ) (xs : List (ℕ × Insn)) → decode_of code ≡ Ok xs → (insns_from 0 0 code ≡ Ok xs) × (first_stray (stands (starts xs)) xs ≡ None)
+pub decoded : (code : List ℕ) (xs : List (ℕ × Insn)) → decode_of code ≡ Ok xs → (insns_from 0 0 code ≡ Ok xs)
+    × (first_stray (stands (starts xs)) xs ≡ None)
 unfolding decode_of
 decoded code xs e = go (insns_from 0 0 code) refl e
   where
-    tested : (ys : List (ℕ × Insn)) (o : Option ℕ) → first_stray (stands (starts ys)) ys ≡ o → insns_from 0 0 code ≡ Ok ys → with_targets ys o ≡ Ok xs → (insns_from 0 0 code ≡ Ok xs) × (first_stray (stands (starts xs)) xs ≡ None)
+    tested : (ys : List (ℕ × Insn)) (o : Option ℕ) → first_stray (stands (starts ys)) ys ≡ o → insns_from 0 0 code ≡ Ok ys
+        → with_targets ys o ≡ Ok xs → (insns_from 0 0 code ≡ Ok xs) × (first_stray (stands (starts xs)) xs ≡ None)
     tested ys None s q f =
         let same : ys ≡ xs = cc in
         subst (λ (zs : List (ℕ × Insn)). (insns_from 0 0 code ≡ Ok zs) × (first_stray (stands (starts zs)) zs ≡ None)) same (q, s)
     tested ys (Some pc) s q f = cc
 
-    go : (r : Result (List (ℕ × Insn)) CodeFault) → insns_from 0 0 code ≡ r → (r >>= λ insns. with_targets insns (first_stray (stands (starts insns)) insns)) ≡ Ok xs → (insns_from 0 0 code ≡ Ok xs) × (first_stray (stands (starts xs)) xs ≡ None)
+    go : (r : Result (List (ℕ × Insn)) CodeFault) → insns_from 0 0 code ≡ r
+        → (r >>= λ insns. with_targets insns (first_stray (stands (starts insns)) insns)) ≡ Ok xs → (insns_from 0 0 code ≡ Ok xs)
+        × (first_stray (stands (starts xs)) xs ≡ None)
     go (Err fault) q f = cc
     go (Ok ys) q f = tested ys (first_stray (stands (starts ys)) ys) refl q f
 

@@ -1,5 +1,6 @@
 -- A list of methods of a world, each once, is no longer than the world has methods.
-use Rattle.std.proofs.Common.{◌≡◌, ◌++◌, ◌||◌, ◌&&◌, ℕ, zero, suc, ◌+◌, ◌≤◌, Bool, true, false, not, cond, eqb, List, [], ◌∷◌, length, Option, Some, None, sym, refl, ap, ◌∙◌, subst, arith, length-append}
+use Rattle.std.proofs.Common.{◌≡◌, ◌++◌, ◌||◌, ◌&&◌, ℕ, zero, suc, ◌+◌, ◌≤◌, Bool, true, false, not, cond, eqb, List, [], ◌∷◌}
+use Rattle.std.proofs.Common.{length, Option, Some, None, sym, refl, ap, ◌∙◌, subst, arith, length-append}
 use Rattle.std.specs.Prelude.{flat_map, slice_get, option_and_then}
 use Rattle.std.specs.List.{list_all}
 use Rattle.std.specs.Option.{option_map_or}
@@ -48,36 +49,45 @@ open_less refs r [] = omega arith
 open_less refs r (x ∷ xs) = let a = missing_less refs r x in let b = open_less refs r xs in omega (arith, a, b)
 
 -- a method that comes to the list is one less that is missing
-missing_here : (refs : List MethodRef) (r x : MethodRef) → has_method refs r ≡ false → same_method r x ≡ true → missing_in (refs ++ r ∷ []) x + 1 ≤ missing_in refs x
+missing_here : (refs : List MethodRef) (r x : MethodRef) → has_method refs r ≡ false → same_method r x ≡ true
+    → missing_in (refs ++ r ∷ []) x + 1 ≤ missing_in refs x
 missing_here refs r x o s =
     let here : r ≡ x = same_is r x s in
-    let after : has_method (refs ++ r ∷ []) x ≡ true = list_any-append (same_method x) refs (r ∷ []) ∙ or_right (has_method refs x) _ (or_left (same_method x r) false (subst (λ y. same_method y r ≡ true) here (same_self r))) in
+    let after : has_method (refs ++ r ∷ []) x ≡ true = list_any-append (same_method x) refs (r ∷ [])
+    ∙ or_right (has_method refs x) _ (or_left (same_method x r) false (subst (λ y. same_method y r ≡ true) here (same_self r))) in
     let before : has_method refs x ≡ false = subst (λ y. has_method refs y ≡ false) here o in
-    subst (λ b. cond (has_method (refs ++ r ∷ []) x) 0 1 + 1 ≤ cond b 0 1) (sym before) (subst (λ b. cond b 0 1 + 1 ≤ 1) (sym after) (omega arith))
+    subst (λ b. cond (has_method (refs ++ r ∷ []) x) 0 1 + 1 ≤ cond b 0 1) (sym before)
+    (subst (λ b. cond b 0 1 + 1 ≤ 1) (sym after) (omega arith))
 
-pub open_one : (refs : List MethodRef) (r : MethodRef) (xs : List MethodRef) → has_method refs r ≡ false → has_method xs r ≡ true → open_in (refs ++ r ∷ []) xs + 1 ≤ open_in refs xs
+pub open_one : (refs : List MethodRef) (r : MethodRef) (xs : List MethodRef) → has_method refs r ≡ false → has_method xs r ≡ true
+    → open_in (refs ++ r ∷ []) xs + 1 ≤ open_in refs xs
 open_one refs r [] o h = absurd (false≢true h)
 open_one refs r (x ∷ xs) o h = by (same_method r x) refl h (λ k. open_one refs r xs o k)
   where
-    by : (b : Bool) → same_method r x ≡ b → (b || has_method xs r) ≡ true → (has_method xs r ≡ true → open_in (refs ++ r ∷ []) xs + 1 ≤ open_in refs xs) → open_in (refs ++ r ∷ []) (x ∷ xs) + 1 ≤ open_in refs (x ∷ xs)
+    by : (b : Bool) → same_method r x ≡ b → (b || has_method xs r) ≡ true
+        → (has_method xs r ≡ true → open_in (refs ++ r ∷ []) xs + 1 ≤ open_in refs xs)
+        → open_in (refs ++ r ∷ []) (x ∷ xs) + 1 ≤ open_in refs (x ∷ xs)
     by true s k more = let a = missing_here refs r x o s in let c = open_less refs r xs in omega (arith, a, c)
     by false s k more = let a = missing_less refs r x in let c = more k in omega (arith, a, c)
 
 -- the list and what is missing of the others are together no more than before
-pub room_one : (all refs : List MethodRef) (r : MethodRef) (n : ℕ) → has_method all r ≡ true → length refs + open_in refs all ≤ n → length (with_one refs r) + open_in (with_one refs r) all ≤ n
+pub room_one : (all refs : List MethodRef) (r : MethodRef) (n : ℕ) → has_method all r ≡ true → length refs + open_in refs all ≤ n
+    → length (with_one refs r) + open_in (with_one refs r) all ≤ n
 room_one all refs r n h l = by (has_method refs r) refl
   where
     by : (b : Bool) → has_method refs r ≡ b → length (cond b refs (refs ++ r ∷ [])) + open_in (cond b refs (refs ++ r ∷ [])) all ≤ n
     by true s = l
     by false s = let a = open_one refs r all s h in let k = length-append refs (r ∷ []) in omega (arith, a, k, l)
 
-pub room_new : (all refs more : List MethodRef) (n : ℕ) → list_all (has_method all) more ≡ true → length refs + open_in refs all ≤ n → length (with_new refs more) + open_in (with_new refs more) all ≤ n
+pub room_new : (all refs more : List MethodRef) (n : ℕ) → list_all (has_method all) more ≡ true → length refs + open_in refs all ≤ n
+    → length (with_new refs more) + open_in (with_new refs more) all ≤ n
 room_new all refs [] n h l = l
 room_new all refs (r ∷ rs) n h l =
     let p = and_parts (has_method all r) (list_all (has_method all) rs) h in
     room_new all (with_one refs r) rs n p.1 (room_one all refs r n p.0 l)
 
-pub all_new : (p : MethodRef → Bool) (refs more : List MethodRef) → list_all p refs ≡ true → list_all p more ≡ true → list_all p (with_new refs more) ≡ true
+pub all_new : (p : MethodRef → Bool) (refs more : List MethodRef) → list_all p refs ≡ true → list_all p more ≡ true
+    → list_all p (with_new refs more) ≡ true
 all_new p refs [] h k = h
 all_new p refs (r ∷ rs) h k =
     let q = and_parts (p r) (list_all p rs) k in
@@ -125,53 +135,64 @@ all_from_length n (c ∷ cs) =
 pub all_length : (world : World) → length (all_methods world) ≡ method_count world
 all_length world = all_from_length 0 world
 
-in_methods : (class i k : ℕ) (ms : List MethodContent) (m : MethodContent) → slice_get ms k ≡ Some m → has_method (methods_from class i ms) (record { class = class; index = i + k }) ≡ true
+in_methods : (class i k : ℕ) (ms : List MethodContent) (m : MethodContent) → slice_get ms k ≡ Some m
+    → has_method (methods_from class i ms) (record { class = class; index = i + k }) ≡ true
 in_methods class i k [] m e = cc
 in_methods class i zero (x ∷ xs) m e =
     let z : i + zero ≡ i = omega arith in
     or_left _ _ (and_from (eqb class class) (eqb (i + zero) i) (eq-eqb class class refl) (eq-eqb (i + zero) i z))
 in_methods class i (suc k) (x ∷ xs) m e =
     let z : suc i + k ≡ i + suc k = omega arith in
-    or_right _ _ (subst (λ j. has_method (methods_from class (suc i) xs) (record { class = class; index = j }) ≡ true) z (in_methods class (suc i) k xs m e))
+    or_right _ _ (subst (λ j. has_method (methods_from class (suc i) xs) (record { class = class; index = j }) ≡ true) z
+    (in_methods class (suc i) k xs m e))
 
-in_all : (n k : ℕ) (cs : List ClassContent) (c : ClassContent) (j : ℕ) (m : MethodContent) → slice_get cs k ≡ Some c → slice_get c.methods j ≡ Some m → has_method (all_from n cs) (record { class = n + k; index = j }) ≡ true
+in_all : (n k : ℕ) (cs : List ClassContent) (c : ClassContent) (j : ℕ) (m : MethodContent) → slice_get cs k ≡ Some c
+    → slice_get c.methods j ≡ Some m → has_method (all_from n cs) (record { class = n + k; index = j }) ≡ true
 in_all n k [] c j m e s = cc
 in_all n zero (x ∷ xs) c j m e s =
     let same : c ≡ x = cc in
     let z : n ≡ n + zero = omega arith in
     let r : MethodRef = record { class = n + zero; index = j } in
     let first : 0 + j ≡ j = omega arith in
-    let here = subst (λ i. has_method (methods_from n 0 x.methods) (record { class = n; index = i }) ≡ true) first (in_methods n 0 j x.methods m (subst (λ y. slice_get y.methods j ≡ Some m) same s)) in
+    let here = subst (λ i. has_method (methods_from n 0 x.methods) (record { class = n; index = i }) ≡ true) first
+    (in_methods n 0 j x.methods m (subst (λ y. slice_get y.methods j ≡ Some m) same s)) in
     list_any-append (same_method r) (methods_from n 0 x.methods) (all_from (suc n) xs)
     ∙ or_left _ _ (subst (λ y. has_method (methods_from n 0 x.methods) (record { class = y; index = j }) ≡ true) z here)
 in_all n (suc k) (x ∷ xs) c j m e s =
     let z : suc n + k ≡ n + suc k = omega arith in
     let r : MethodRef = record { class = n + suc k; index = j } in
     list_any-append (same_method r) (methods_from n 0 x.methods) (all_from (suc n) xs)
-    ∙ or_right _ _ (subst (λ y. has_method (all_from (suc n) xs) (record { class = y; index = j }) ≡ true) z (in_all (suc n) k xs c j m e s))
+    ∙ or_right _ _ (subst (λ y. has_method (all_from (suc n) xs) (record { class = y; index = j }) ≡ true) z
+    (in_all (suc n) k xs c j m e s))
 
 -- a method that the world has is one of its methods
-pub at_in_all : (world : World) (ref : MethodRef) (m : MethodContent) → method_at world ref ≡ Some m → has_method (all_methods world) ref ≡ true
+pub at_in_all : (world : World) (ref : MethodRef) (m : MethodContent) → method_at world ref ≡ Some m
+    → has_method (all_methods world) ref ≡ true
 unfolding method_at
 at_in_all world ref m e = by (slice_get world ref.class) refl e
   where
-    by : (o : Option ClassContent) → slice_get world ref.class ≡ o → option_and_then (λ c. slice_get c.methods ref.index) o ≡ Some m → has_method (all_methods world) ref ≡ true
+    by : (o : Option ClassContent) → slice_get world ref.class ≡ o → option_and_then (λ c. slice_get c.methods ref.index) o ≡ Some m
+        → has_method (all_methods world) ref ≡ true
     by None s h = cc
     by (Some c) s h =
         let z : 0 + ref.class ≡ ref.class = omega arith in
-        subst (λ n. has_method (all_from 0 world) (record { class = n; index = ref.index }) ≡ true) z (in_all 0 ref.class world c ref.index m s h)
+        subst (λ n. has_method (all_from 0 world) (record { class = n; index = ref.index }) ≡ true) z
+        (in_all 0 ref.class world c ref.index m s h)
 
 -- a method with a body is there
 pub body_at : (world : World) (ref : MethodRef) → has_body world ref ≡ true → (m : MethodContent) × (method_at world ref ≡ Some m)
 body_at world ref h = by (method_at world ref) refl h
   where
-    by : (o : Option MethodContent) → method_at world ref ≡ o → not (option_map_or (λ m. is_abstract m.flags) o true) ≡ true → (m : MethodContent) × (method_at world ref ≡ Some m)
+    by : (o : Option MethodContent) → method_at world ref ≡ o → not (option_map_or (λ m. is_abstract m.flags) o true) ≡ true
+        → (m : MethodContent) × (method_at world ref ≡ Some m)
     by None s k = absurd (false≢true k)
     by (Some m) s k = (m, s)
 
-pub bodies_in_all : (world : World) (refs : List MethodRef) → list_all (has_body world) refs ≡ true → list_all (has_method (all_methods world)) refs ≡ true
+pub bodies_in_all : (world : World) (refs : List MethodRef) → list_all (has_body world) refs ≡ true
+    → list_all (has_method (all_methods world)) refs ≡ true
 bodies_in_all world [] h = refl
 bodies_in_all world (r ∷ rs) h =
     let p = and_parts (has_body world r) (list_all (has_body world) rs) h in
     let m = body_at world r p.0 in
-    and_from (has_method (all_methods world) r) (list_all (has_method (all_methods world)) rs) (at_in_all world r m.0 m.1) (bodies_in_all world rs p.1)
+    and_from (has_method (all_methods world) r) (list_all (has_method (all_methods world)) rs) (at_in_all world r m.0 m.1)
+    (bodies_in_all world rs p.1)

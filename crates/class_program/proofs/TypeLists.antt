@@ -11,7 +11,8 @@ or_again : {A : Type 0} (a b c : Option A) → option_or a (option_or b c) ≡ o
 or_again None b c = refl
 or_again (Some x) b c = refl
 
-missing_both : (world : World) (ts us : List FieldType) → first_missing_class world (ts ++ us) ≡ option_or (first_missing_class world ts) (first_missing_class world us)
+missing_both : (world : World) (ts us : List FieldType)
+    → first_missing_class world (ts ++ us) ≡ option_or (first_missing_class world ts) (first_missing_class world us)
 missing_both world [] us = refl
 missing_both world (t ∷ ts) us =
     ap (option_or (missing_class (meaning_of world t))) (missing_both world ts us)
@@ -19,7 +20,8 @@ missing_both world (t ∷ ts) us =
 
 -- one among the parameters comes first
 pub missing_param : (world : World) (params seen : List FieldType) (returned : Option FieldType) (name : List ℕ)
-    → Some name ≡ first_missing_class world seen → seen ≡ params → Some name ≡ first_missing_class world (params ++ option_to_list returned)
+    → Some name ≡ first_missing_class world seen → seen ≡ params
+    → Some name ≡ first_missing_class world (params ++ option_to_list returned)
 missing_param world params seen returned name e same =
     ap (λ o. option_or o (first_missing_class world (option_to_list returned))) (e ∙ ap (first_missing_class world) same)
     ∙ sym (missing_both world params (option_to_list returned))

@@ -1,6 +1,7 @@
 -- What holds of every closed program: its instructions name what is there, with the types that they say, and lead to
 -- places where instructions stand.
-use Rattle.std.specs.Prelude.{◌≡◌, ◌⊎◌, ◌<◌, ◌≤◌, ℕ, Bool, true, List, [], ◌∷◌, ◌++◌, length, slice_get, Option, Some, None, option_and_then, IfSome, IsTrue, false}
+use Rattle.std.specs.Prelude.{◌≡◌, ◌⊎◌, ◌<◌, ◌≤◌, ℕ, Bool, true, List, [], ◌∷◌, ◌++◌, length, slice_get, Option, Some, None}
+use Rattle.std.specs.Prelude.{option_and_then, IfSome, IsTrue, false}
 use Rattle.std.specs.Str.{bytes_eq}
 use Rattle.std.specs.Option.{is_some}
 use Rattle.std.specs.List.{AllByRecursion}
@@ -17,7 +18,9 @@ use Rattle.class_world.specs.Resolve.{field_at, method_at}
 use Rattle.class_program.specs.declared.operand.Operand.{Operand}
 use Rattle.class_program.specs.declared.operand.Operand.TheVariants.{Nothing, Numbers}
 use Rattle.class_program.specs.declared.op.Op.{Op}
-use Rattle.class_program.specs.declared.op.Op.TheVariants.{Plain, Constant, Getstatic, Putstatic, Getfield, Putfield, Invokevirtual, Invokespecial, Invokestatic, Invokeinterface, New, Anewarray, Checkcast, Instanceof}
+use Rattle.class_program.specs.declared.op.Op.TheVariants.{Plain, Constant, Getstatic, Putstatic, Getfield, Putfield, Invokevirtual}
+use Rattle.class_program.specs.declared.op.Op.TheVariants.{Invokespecial, Invokestatic, Invokeinterface, New, Anewarray, Checkcast}
+use Rattle.class_program.specs.declared.op.Op.TheVariants.{Instanceof}
 use Rattle.class_program.specs.declared.op.Call.{Call}
 use Rattle.class_program.specs.declared.op.FieldUse.{FieldUse}
 use Rattle.class_program.specs.declared.op.StaticUse.{StaticUse}
@@ -52,7 +55,8 @@ pub record IsGoodField (world : World) (used : FieldUse) : Type 0 where
   pub class : used.class < length world
   pub no_interface : is_interface_class world used.class ≡ false
   pub slot : IsSlot (length world) used.slot
-  pub right : (class : ℕ) → class < length world → IsTrue (is_class_below world class used.class) → slice_get (fields_of world class) used.place ≡ Some used.slot
+  pub right : (class : ℕ) → class < length world → IsTrue (is_class_below world class used.class)
+      → slice_get (fields_of world class) used.place ≡ Some used.slot
 
 -- a static field at its place among those of the program
 pub record IsGoodStaticUse (p : Program) (used : StaticUse) : Type 0 where
@@ -99,7 +103,8 @@ pub record IsGoodSpecial (p : Program) (current : ℕ) (call : Call) : Type 0 wh
 
 -- what a call does on an object of a class: the method that it runs is declared by that class or by one above it
 abbrev pub IsGoodAnswer : Program → Call → ℕ → Selected → Type 0
-IsGoodAnswer p call class (answers.Method number) = (over : ℕ) × IsTrue (is_class_below p.world class over) × Takes p.methods (class_slot 0 over ∷ []) call number
+IsGoodAnswer p call class (answers.Method number) = (over : ℕ) × IsTrue (is_class_below p.world class over)
+    × Takes p.methods (class_slot 0 over ∷ []) call number
 IsGoodAnswer p call class answers.Abstract = Unit {0}
 IsGoodAnswer p call class answers.NoInterface = Unit {0}
 
@@ -114,7 +119,9 @@ pub record IsGoodSelecting (p : Program) (op : Op) (call : Call) : Type 0 where
   pub good : IsGoodCall p.world call
   pub class : is_interface_class p.world call.class ≡ names_interface op
   pub none : call.target ≡ None
-  pub answers : (class : ℕ) → IsTrue (can_receive p.world op class) → (answer : Selected) × (option_and_then (selected_in (refs_of p.methods)) (selection_at p.world op class) ≡ Some answer) × IsGoodAnswer p call class answer
+  pub answers : (class : ℕ) → IsTrue (can_receive p.world op class)
+      → (answer : Selected) × (option_and_then (selected_in (refs_of p.methods)) (selection_at p.world op class) ≡ Some answer)
+      × IsGoodAnswer p call class answer
 
 -- a class that can be made
 pub record IsGoodNew (world : World) (t : Ty) : Type 0 where

@@ -59,7 +59,8 @@ is_listed methods name desc = list_any (λ x. bytes_eq name x.0 && bytes_eq desc
 
 -- in a JVM a class inherits a method of that name and descriptor from Object, or from Throwable where it is below it
 abbrev pub inherits : World → List ℕ → List ℕ → ℕ → Bool
-inherits world name desc class = is_listed object_methods name desc || (is_class_below world class throwable && is_listed throwable_methods name desc)
+inherits world name desc class = is_listed object_methods name desc
+    || (is_class_below world class throwable && is_listed throwable_methods name desc)
 
 -- A class selects no declaration here, not even an abstract one, and inherits one in a JVM: the machine throws
 -- AbstractMethodError where a JVM runs a method (section 6.5, invokevirtual and invokeinterface). Elsewhere 'none' is an
@@ -110,7 +111,8 @@ virtual_differs world named declaring m = loses_method world named m || leaves_p
 
 -- A call on some receiver could run another method than in a JVM.
 unfoldable pub call_differs : World → Op → Bool
-call_differs world (Invokevirtual call) = option_map_or (virtual_differs world call.class call.method.class) (method_at world call.method) false
+call_differs world (Invokevirtual call) = option_map_or (virtual_differs world call.class call.method.class)
+    (method_at world call.method) false
 call_differs world (Invokeinterface call) = option_map_or (loses_method world call.class) (method_at world call.method) false
 call_differs world _ = false
 
@@ -125,7 +127,8 @@ has_code bytes m = option_map_or (λ code. bytes_eq code.code bytes) m.code fals
 -- alone.
 unfoldable pub declares_other : World → List ℕ → List ℕ → List ℕ → ℕ → Bool
 declares_other world name desc bytes class =
-    option_map_or (λ i. not (option_map_or (has_code bytes) (method_at world (method_ref (class, i))) false)) (declared_method world class name desc) false
+    option_map_or (λ i. not (option_map_or (has_code bytes) (method_at world (method_ref (class, i))) false))
+    (declared_method world class name desc) false
 
 -- The constructor of Throwable calls `fillInStackTrace` on the new object: a class of the chain has one that does more than
 -- give the object back, by the codes 42 and 176, aload_0 and areturn (java.lang.Throwable; section 6.5, athrow).

@@ -3,7 +3,8 @@
 --
 -- An instruction that has several faults has the one that stands first in the order of faults. What is said last of an
 -- instruction below has no fault that stands before one of an earlier part, so the parts can be asked in turn.
-use Rattle.std.specs.Prelude.{ℕ, ◌==◌, ◌&&◌, ◌||◌, not, Bool, true, false, if◌then◌else◌, List, [], slice_get, nat_lt, Option, Some, None, is_none, codes, Result, Ok, Err}
+use Rattle.std.specs.Prelude.{ℕ, ◌==◌, ◌&&◌, ◌||◌, not, Bool, true, false, if◌then◌else◌, List, [], slice_get, nat_lt, Option, Some}
+use Rattle.std.specs.Prelude.{None, is_none, codes, Result, Ok, Err}
 use Rattle.std.specs.List.{list_any}
 use Rattle.std.specs.Option.{option_map, option_map_or}
 use Rattle.std.specs.Str.{bytes_eq}
@@ -38,7 +39,9 @@ use Rattle.class_program.specs.declared.operand.CallForm.{CallForm}
 use Rattle.class_program.specs.declared.operand.CallForm.TheVariants as calls
 use Rattle.class_program.specs.declared.op.Op.{Op}
 use Rattle.class_program.specs.declared.signature.Signature.{Signature}
-use Rattle.class_program.specs.declared.op.Op.TheVariants.{Plain, Constant, Getstatic, Putstatic, Getfield, Putfield, Invokevirtual, Invokespecial, Invokestatic, Invokeinterface, New, Anewarray, Checkcast, Instanceof}
+use Rattle.class_program.specs.declared.op.Op.TheVariants.{Plain, Constant, Getstatic, Putstatic, Getfield, Putfield, Invokevirtual}
+use Rattle.class_program.specs.declared.op.Op.TheVariants.{Invokespecial, Invokestatic, Invokeinterface, New, Anewarray, Checkcast}
+use Rattle.class_program.specs.declared.op.Op.TheVariants.{Instanceof}
 use Rattle.class_program.specs.declared.op.Call.{Call}
 use Rattle.class_program.specs.declared.op.FieldUse.{FieldUse}
 use Rattle.class_program.specs.declared.op.StaticUse.{StaticUse}
@@ -167,7 +170,8 @@ field_op fields.Putfield use_ = Putfield use_
 unfoldable pub static_kind : World → List ℕ → ℕ × ℕ → Result StaticUse Refusal
 static_kind world desc found =
     if is_none (slot_of world desc) then Err UnsupportedType
-    else (required (is_static_field world found.0 found.1) >>= λ _. Ok (record { field = record { class = found.0; index = found.1 }; place = 0 }))
+    else (required (is_static_field world found.0 found.1) >>= λ _. Ok
+    (record { field = record { class = found.0; index = found.1 }; place = 0 }))
 
 -- The class that declares it is initialised, and those above it, whatever kind of field it is.
 unfoldable pub static_found : World → List ℕ → ℕ × ℕ → Result StaticUse Refusal

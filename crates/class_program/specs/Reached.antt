@@ -81,7 +81,14 @@ methods_of world refs = each (λ x. method_of world x.0 x.1) (contents_of world 
 
 -- a call with the number of its method among the reached ones, none where it is abstract and so isn't one of them
 abbrev pub numbered : List MethodRef → Call → Call
-numbered refs call = record { class = call.class; method = call.method; params = call.params; result = call.result; target = position (same_method call.method) refs }
+numbered refs call = record {
+  class = call.class;
+  method = call.method;
+  params = call.params;
+  result = call.result;
+  target =
+      position (same_method call.method) refs;
+}
 
 -- an instruction with the number of its method, or with the place of its static field
 abbrev pub op_numbered : List MethodRef → List StaticField → Op → Op

@@ -6,7 +6,8 @@ use Rattle.class_world.specs.declared.fault.MethodName.{MethodName}
 use Rattle.class_world.specs.declared.fault.LinkFault.{LinkFault}
 use Rattle.class_world.specs.declared.fault.LinkFault.TheVariants as faults
 use Rattle.class_program.specs.declared.refusal.Refusal.{Refusal}
-use Rattle.class_program.specs.declared.refusal.Refusal.TheVariants.{MissingClass, StaticInit, UnsupportedType, Unresolved, PrivateVirtual, Memory}
+use Rattle.class_program.specs.declared.refusal.Refusal.TheVariants.{MissingClass, StaticInit, UnsupportedType, Unresolved}
+use Rattle.class_program.specs.declared.refusal.Refusal.TheVariants.{PrivateVirtual, Memory}
 
 -- ---- what an operand names
 

@@ -15,8 +15,10 @@ Rows = List (MethodRef × List (Option MethodRef))
 
 -- each class that has a place in the row has there what it selects
 abbrev pub IsRow : World → MethodContent → List (Option MethodRef) → Type 0
-IsRow world m row = (class : ℕ) (selected : Option MethodRef) → slice_get row class ≡ Some selected → selected ≡ select world m.name m.desc class
+IsRow world m row = (class : ℕ) (selected : Option MethodRef) → slice_get row class ≡ Some selected
+    → selected ≡ select world m.name m.desc class
 
 -- every row is right for the method that it is found by
 abbrev pub AreRows : World → Rows → Type 0
-AreRows world rows = (ref : MethodRef) (m : MethodContent) (row : List (Option MethodRef)) → method_at world ref ≡ Some m → lookup (same_method ref) rows ≡ Some row → IsRow world m row
+AreRows world rows = (ref : MethodRef) (m : MethodContent) (row : List (Option MethodRef)) → method_at world ref ≡ Some m
+    → lookup (same_method ref) rows ≡ Some row → IsRow world m row

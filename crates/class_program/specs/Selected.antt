@@ -1,6 +1,7 @@
 -- What a virtual or interface call of a program does once it knows its receiver's class, with the number of the method
 -- that it runs (JVM specification, section 6.5, invokevirtual and invokeinterface).
-use Rattle.std.specs.Prelude.{◌≡◌, ℕ, Bool, false, if◌then◌else◌, nat_lt, IsTrue, List, length, position, Option, Some, None, option_and_then}
+use Rattle.std.specs.Prelude.{◌≡◌, ℕ, Bool, false, if◌then◌else◌, nat_lt, IsTrue, List, length, position, Option, Some, None}
+use Rattle.std.specs.Prelude.{option_and_then}
 use Rattle.std.specs.Option.{option_map, option_map_or}
 use Rattle.class_program.specs.declared.op.Op.{Op}
 use Rattle.class_program.specs.declared.op.Op.TheVariants.{Invokevirtual, Invokespecial, Invokestatic, Invokeinterface}
@@ -18,8 +19,10 @@ use Rattle.class_program.specs.Reached.{same_method}
 -- What a call does on an object of a class: the name and the descriptor are those of the method that resolution gave.
 -- Other instructions select nothing.
 unfoldable pub selection_at : World → Op → ℕ → Option Selection
-selection_at world (Invokevirtual call) class = Some (option_map_or (λ m. selected_virtual world m.name m.desc class) (method_at world call.method) Lacks)
-selection_at world (Invokeinterface call) class = Some (option_map_or (λ m. selected_interface world call.class m.name m.desc class) (method_at world call.method) Lacks)
+selection_at world (Invokevirtual call) class = Some
+    (option_map_or (λ m. selected_virtual world m.name m.desc class) (method_at world call.method) Lacks)
+selection_at world (Invokeinterface call) class = Some
+    (option_map_or (λ m. selected_interface world call.class m.name m.desc class) (method_at world call.method) Lacks)
 selection_at world _ class = None
 
 -- the same with the method's number among the reached ones
@@ -53,4 +56,5 @@ can_receive_at p number pc class = option_map_or (λ op. can_receive p.world op 
 abbrev pub CanRun : Program → Op → ℕ → Type 0
 CanRun p (Invokestatic call) number = call.target ≡ Some number
 CanRun p (Invokespecial call) number = call.target ≡ Some number
-CanRun p op number = (class : ℕ) × IsTrue (can_receive p.world op class) × (option_and_then (selected_in (refs_of p.methods)) (selection_at p.world op class) ≡ Some (answers.Method number))
+CanRun p op number = (class : ℕ) × IsTrue (can_receive p.world op class)
+    × (option_and_then (selected_in (refs_of p.methods)) (selection_at p.world op class) ≡ Some (answers.Method number))

@@ -1,5 +1,6 @@
 -- The static fields of a program: those that its methods' instructions name (JVM specification, section 5.4.3.2).
-use Rattle.std.specs.Prelude.{◌≡◌, ℕ, ◌==◌, ◌&&◌, nat_lt, Bool, if◌then◌else◌, List, [], ◌∷◌, ◌++◌, length, slice_get, Option, Some, None, option_and_then, Ok, Err}
+use Rattle.std.specs.Prelude.{◌≡◌, ℕ, ◌==◌, ◌&&◌, nat_lt, Bool, if◌then◌else◌, List, [], ◌∷◌, ◌++◌, length, slice_get, Option, Some}
+use Rattle.std.specs.Prelude.{None, option_and_then, Ok, Err}
 use Rattle.std.specs.List.{list_any, filter_map, flat_map, range_with_len, position_or_len}
 use Rattle.std.specs.Option.{option_map, option_map_or}
 use Rattle.class_read.specs.Content.{FieldContent}
@@ -59,7 +60,8 @@ static_ref s = record { class = s.class; index = s.index }
 
 -- a declared field with what it holds, where its type is supported and there
 abbrev pub static_field : World → FieldRef → FieldContent → Option StaticField
-static_field world field f = option_map (λ slot. record { class = field.class; index = field.index; name = f.name; desc = f.desc; slot = slot }) (slot_of world f.desc)
+static_field world field f = option_map
+    (λ slot. record { class = field.class; index = field.index; name = f.name; desc = f.desc; slot = slot }) (slot_of world f.desc)
 
 -- the field at a place of a class's file, where it is static and one of the named ones
 unfoldable pub static_at : World → List FieldRef → ℕ → ℕ → Option StaticField

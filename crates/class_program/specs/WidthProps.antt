@@ -2,7 +2,8 @@
 use Rattle.std.specs.Prelude.{ℕ, List}
 use Rattle.std.specs.List.{AllByRecursion-prop}
 use Rattle.std.proofs.Props.{props as below}
-use Rattle.code_forms.specs.Spellings.{Spelling, Plain, Byte, Pair, SignedByte, SignedPair, Jump, FarJump, Increment, Table, Lookup, Interface, Array, WideLocal, WideIncrement, spelling}
+use Rattle.code_forms.specs.Spellings.{Spelling, Plain, Byte, Pair, SignedByte, SignedPair, Jump, FarJump, Increment, Table, Lookup}
+use Rattle.code_forms.specs.Spellings.{Interface, Array, WideLocal, WideIncrement, spelling}
 use Rattle.code_decode.specs.Texts.{FitsSpelling}
 use Rattle.class_program.specs.declared.op.Op.{Op}
 use Rattle.class_program.specs.declared.op.Op.TheVariants as ops
@@ -42,4 +43,5 @@ IsInWidth-prop pc (ops.Checkcast x) = hlevel below
 IsInWidth-prop pc (ops.Instanceof x) = hlevel below
 
 pub AreMethodsInWidth-prop : (methods : List Method) → IsProp (AreMethodsInWidth methods)
-AreMethodsInWidth-prop methods = AllByRecursion-prop (λ (m : Method). AreInWidth m.insns) (λ m. AllByRecursion-prop (λ x. IsInWidth x.0 x.1) (λ x. IsInWidth-prop x.0 x.1) m.insns) methods
+AreMethodsInWidth-prop methods = AllByRecursion-prop (λ (m : Method). AreInWidth m.insns)
+    (λ m. AllByRecursion-prop (λ x. IsInWidth x.0 x.1) (λ x. IsInWidth-prop x.0 x.1) m.insns) methods

@@ -1,6 +1,7 @@
 //! Classes and array types that instructions name (JVM specification, sections 4.4.1 and 5.4.3.1).
 ghost use Rattle.class_world.specs.Worlds.{classes_of};
-ghost use Rattle.class_program.specs.Ops.{meant_type, array_type, class_named, type_named, type_operand, base_class, class_number, new_made, new_of, anewarray_of, class_op};
+ghost use Rattle.class_program.specs.Ops.{meant_type, array_type, class_named, type_named, type_operand, base_class, class_number};
+ghost use Rattle.class_program.specs.Ops.{new_made, new_of, anewarray_of, class_op};
 ghost use Rattle.class_program.specs.Refusals.{Gives};
 
 use crate::jvm_differs::new_differs;

@@ -8,7 +8,8 @@ ghost use Rattle.class_program.specs.Rows.{AreRows};
 ghost use Rattle.class_program.specs.Runs.{runs};
 ghost use Rattle.class_program.specs.Programs.{refs_of};
 ghost use Rattle.class_program.specs.Statics.{fields_named, statics_of, statics_named};
-ghost use Rattle.class_program.specs.Reached.{with_new, reached, methods_of, numbered, op_numbered, insns_numbered, method_numbered, close_of, is_closed};
+ghost use Rattle.class_program.specs.Reached.{with_new, reached, methods_of, numbered, op_numbered, insns_numbered, method_numbered};
+ghost use Rattle.class_program.specs.Reached.{close_of, is_closed};
 ghost use Rattle.class_program.specs.Widths.{AreInWidth, AreMethodsInWidth};
 
 use crate::insns::Instructions;

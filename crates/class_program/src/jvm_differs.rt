@@ -9,7 +9,10 @@ ghost use Rattle.class_world.specs.World.{line_of};
 ghost use Rattle.class_world.specs.Resolve.{method_at};
 ghost use Rattle.class_world.specs.Select.{is_selectable, receivers};
 ghost use Rattle.class_program.specs.Rows.{IsRow, AreRows};
-ghost use Rattle.class_program.specs.JvmDiffers.{object_methods, throwable_methods, is_listed, inherits, loses, loses_method, package_of, package_at, is_package_private, selects_outside, leaves_package, virtual_differs, call_differs, has_code, declares_other, fills_trace, is_finalized, new_differs};
+ghost use Rattle.class_program.specs.JvmDiffers.{object_methods, throwable_methods, is_listed, inherits, loses, loses_method};
+ghost use Rattle.class_program.specs.JvmDiffers.{package_of, package_at, is_package_private, selects_outside, leaves_package};
+ghost use Rattle.class_program.specs.JvmDiffers.{virtual_differs, call_differs, has_code, declares_other, fills_trace, is_finalized};
+ghost use Rattle.class_program.specs.JvmDiffers.{new_differs};
 
 use crate::op::{Call, Op};
 use crate::receivers::is_receiver;
@@ -111,7 +114,8 @@ fn some_loses(
     named: &MethodView<'_>,
 ) -> bool
     requires { IsRow (classes_of world.now) (method_content named.now) row.now }
-    ensures { result ≡ list_any (loses (classes_of world.now) named.now.name.now named.now.desc.now) (receivers (classes_of world.now) class) }
+    ensures { result ≡ list_any (loses (classes_of world.now) named.now.name.now named.now.desc.now)
+        (receivers (classes_of world.now) class) }
 {
     for receiver in 0..world.len() {
         let receiver = receiver as u32;
@@ -210,7 +214,8 @@ fn some_selects_outside(
     named: &MethodView<'_>,
 ) -> bool
     requires { IsRow (classes_of world.now) (method_content named.now) row.now }
-    ensures { result ≡ list_any (selects_outside (classes_of world.now) home.now named.now.name.now named.now.desc.now) (receivers (classes_of world.now) class) }
+    ensures { result ≡ list_any (selects_outside (classes_of world.now) home.now named.now.name.now named.now.desc.now)
+        (receivers (classes_of world.now) class) }
 {
     for receiver in 0..world.len() {
         let receiver = receiver as u32;
@@ -262,7 +267,9 @@ fn virtual_call_differs(
     call: &Call,
 ) -> Result<bool, AllocError>
     requires { AreRows (classes_of world.now) rows.now }
-    ensures differs { IfOk result (λ b. b ≡ option_map_or (virtual_differs (classes_of world.now) call.now.class call.now.method.class) (method_at (classes_of world.now) call.now.method) false) }
+    ensures differs { IfOk result
+        (λ b. b ≡ option_map_or (virtual_differs (classes_of world.now) call.now.class call.now.method.class)
+        (method_at (classes_of world.now) call.now.method) false) }
     ensures rows { IfOk result (λ _. AreRows (classes_of world.now) rows.new) }
 {
     match world.method_at(call.method) {
@@ -283,7 +290,9 @@ fn interface_call_differs(
     call: &Call,
 ) -> Result<bool, AllocError>
     requires { AreRows (classes_of world.now) rows.now }
-    ensures differs { IfOk result (λ b. b ≡ option_map_or (loses_method (classes_of world.now) call.now.class) (method_at (classes_of world.now) call.now.method) false) }
+    ensures differs { IfOk result
+        (λ b. b ≡ option_map_or (loses_method (classes_of world.now) call.now.class)
+        (method_at (classes_of world.now) call.now.method) false) }
     ensures rows { IfOk result (λ _. AreRows (classes_of world.now) rows.new) }
 {
     match world.method_at(call.method) {

@@ -13,7 +13,9 @@ ghost use Rattle.class_program.specs.Said.{Says};
 ghost use Rattle.class_program.specs.Ops.{pool_of};
 ghost use Rattle.class_program.specs.Rows.{AreRows};
 ghost use Rattle.class_world.specs.Resolve.{method_at, has_body};
-ghost use Rattle.class_program.specs.Methods.{method_name, static_init, code_of, synchronized, own_types, in_method, table_said, insns_of, op_said, ops_of, caught, catch_of, range_of, table_of, with_receiver, coded_of, named_of, method_of};
+ghost use Rattle.class_program.specs.Methods.{method_name, static_init, code_of, synchronized, own_types, in_method, table_said};
+ghost use Rattle.class_program.specs.Methods.{insns_of, op_said, ops_of, caught, catch_of, range_of, table_of, with_receiver};
+ghost use Rattle.class_program.specs.Methods.{coded_of, named_of, method_of};
 ghost use Rattle.class_program.specs.Widths.{constant_in, IsConstantInWidth, AreInWidth};
 
 use crate::insns::Instructions;
@@ -334,7 +336,8 @@ fn coded<'a>(
     requires class { method.class < length (classes_of world.now) }
     requires short { length code.now.code.now < 2 ^ 16 }
     requires rows { AreRows (classes_of world.now) rows.now }
-    ensures method { Says (λ m. m) result (coded_of (classes_of world.now) method name.now (method_content view.now) (code_content code.now) types.now) }
+    ensures method { Says (λ m. m) result
+        (coded_of (classes_of world.now) method name.now (method_content view.now) (code_content code.now) types.now) }
     ensures rows { IfOk result (λ _. AreRows (classes_of world.now) rows.new) }
 {
     let class = method.class;
@@ -409,7 +412,8 @@ pub(crate) fn method_of<'a>(
 ) -> Result<Method<'a>, LinkFault>
     requires body { IsTrue (has_body (classes_of world.now) method) }
     requires rows { AreRows (classes_of world.now) rows.now }
-    ensures method { (content : MethodContent) → method_at (classes_of world.now) method ≡ Some content → Says (λ m. m) result (method_of (classes_of world.now) method content) }
+    ensures method { (content : MethodContent) → method_at (classes_of world.now) method ≡ Some content
+        → Says (λ m. m) result (method_of (classes_of world.now) method content) }
     ensures rows { IfOk result (λ _. AreRows (classes_of world.now) rows.new) }
 {
     match world.method_at(method) {

@@ -77,7 +77,8 @@ impl<'a> Program<'a> {
     #[tactic(auto, unfolding(class_world::specs::Select::selected_virtual, crate::specs::Selected::selected_in))]
     fn selected_by(&self, method: MethodRef, named: &MethodView<'_>, class: u32) -> Option<Selected>
         requires { method_at (classes_of self.now.world) method ≡ Some (method_content named.now) }
-        ensures { result ≡ selected_in (refs_of self.now.methods) (selected_virtual (classes_of self.now.world) named.now.name.now named.now.desc.now class) }
+        ensures { result ≡ selected_in (refs_of self.now.methods)
+            (selected_virtual (classes_of self.now.world) named.now.name.now named.now.desc.now class) }
     {
         match selected(&self.world, self.selections.row(method), named, class) {
             Some(method) => {
@@ -94,7 +95,9 @@ impl<'a> Program<'a> {
     /// What a virtual call does.
     #[tactic(auto, unfolding(crate::specs::Selected::selected_in))]
     fn selected_virtual(&self, call: &Call, class: u32) -> Option<Selected>
-        ensures { result ≡ selected_in (refs_of self.now.methods) (option_map_or (λ m. selected_virtual (classes_of self.now.world) m.name m.desc class) (method_at (classes_of self.now.world) call.now.method) Lacks) }
+        ensures { result ≡ selected_in (refs_of self.now.methods)
+            (option_map_or (λ m. selected_virtual (classes_of self.now.world) m.name m.desc class)
+            (method_at (classes_of self.now.world) call.now.method) Lacks) }
     {
         match self.world.method_at(call.method) {
             Some(named) => self.selected_by(call.method, named, class),
@@ -106,7 +109,9 @@ impl<'a> Program<'a> {
     #[tactic(auto, unfolding(class_world::specs::Select::selected_interface, crate::specs::Selected::selected_in))]
     fn selected_interface(&self, call: &Call, class: u32) -> Option<Selected>
         requires { class < length (classes_of self.now.world) }
-        ensures { result ≡ selected_in (refs_of self.now.methods) (option_map_or (λ m. selected_interface (classes_of self.now.world) call.now.class m.name m.desc class) (method_at (classes_of self.now.world) call.now.method) Lacks) }
+        ensures { result ≡ selected_in (refs_of self.now.methods)
+            (option_map_or (λ m. selected_interface (classes_of self.now.world) call.now.class m.name m.desc class)
+            (method_at (classes_of self.now.world) call.now.method) Lacks) }
     {
         match self.world.method_at(call.method) {
             Some(named) => {
@@ -124,7 +129,8 @@ impl<'a> Program<'a> {
     #[tactic(auto, unfolding(crate::specs::Selected::selection_at))]
     fn selected_by_op(&self, op: &Op, class: u32) -> Option<Selected>
         requires { class < length (classes_of self.now.world) }
-        ensures { result ≡ option_and_then (selected_in (refs_of self.now.methods)) (selection_at (classes_of self.now.world) op.now class) }
+        ensures { result ≡ option_and_then (selected_in (refs_of self.now.methods))
+            (selection_at (classes_of self.now.world) op.now class) }
     {
         match op {
             Op::Invokevirtual(call) => self.selected_virtual(call, class),

@@ -68,7 +68,9 @@ impl Selections {
 
     /// Puts a row in, in the place of the method's own.
     fn put(&mut self, method: MethodRef, row: Seq<Option<MethodRef>>) -> Result<(), AllocError>
-        ensures { OnOk result ((other : MethodRef) → lookup (same_method other) self.new ≡ (if same_method method other then Some row else lookup (same_method other) self.old)) }
+        ensures { OnOk result ((other : MethodRef)
+            → lookup (same_method other) self.new
+            ≡ (if same_method method other then Some row else lookup (same_method other) self.old)) }
     {
         self.rows.insert(method, row)?;
         Ok(())

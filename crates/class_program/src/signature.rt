@@ -4,7 +4,9 @@ ghost use Rattle.std.specs.Prelude.{◌≡◌, IfOk};
 ghost use Rattle.std.specs.Option.{option_copied};
 ghost use Rattle.class_world.specs.Descriptors.{meaning_of, known_slot};
 ghost use Rattle.class_program.specs.Refusals.{Gives};
-ghost use Rattle.class_program.specs.Signatures.{types_of, has_unsupported, first_missing_class, missing_class, is_unsupported, slots_of, returned_slot, signature, all_there, all_supported, signature_of, declared_signature};
+ghost use Rattle.class_program.specs.Signatures.{types_of, has_unsupported, first_missing_class, missing_class, is_unsupported};
+ghost use Rattle.class_program.specs.Signatures.{slots_of, returned_slot, signature, all_there, all_supported, signature_of};
+ghost use Rattle.class_program.specs.Signatures.{declared_signature};
 
 use crate::refusal::Refusal;
 use class_base::{FieldType, MethodType, method_type};

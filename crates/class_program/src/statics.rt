@@ -3,7 +3,8 @@ ghost use Rattle.class_world.specs.Worlds.{classes_of};
 ghost use Rattle.std.specs.Prelude.{◌≡◌, ◌<◌, ◌≤◌, ◌++◌, [], length, IfOk, OnOk};
 ghost use Rattle.class_world.specs.Resolve.{is_static_field};
 ghost use Rattle.class_program.specs.Said.{Says};
-ghost use Rattle.class_program.specs.Statics.{field_count, has_field, with_field, SameFields, field_named, fields_in, fields_named, static_at, statics_in, statics_of, statics_named, is_field, static_place, placed_use};
+ghost use Rattle.class_program.specs.Statics.{field_count, has_field, with_field, SameFields, field_named, fields_in, fields_named};
+ghost use Rattle.class_program.specs.Statics.{static_at, statics_in, statics_of, statics_named, is_field, static_place, placed_use};
 
 use crate::op::{FieldRef, Op, StaticUse};
 use crate::program::{Method, StaticField};

@@ -1,5 +1,6 @@
 -- The reading of a class file is exact: the class that is read is the one that the bytes spell.
-use Rattle.std.proofs.Common.{◌≡◌, ℕ, zero, suc, ◌+◌, ◌-◌, ◌^◌, ◌<◌, ◌≤◌, true, eqb, List, [], ◌∷◌, ◌++◌, length, map, Result, Ok, Err, refl, sym, ap, subst, ◌∙◌, arith}
+use Rattle.std.proofs.Common.{◌≡◌, ℕ, zero, suc, ◌+◌, ◌-◌, ◌^◌, ◌<◌, ◌≤◌, true, eqb, List, [], ◌∷◌, ◌++◌, length, map, Result, Ok}
+use Rattle.std.proofs.Common.{Err, refl, sym, ap, subst, ◌∙◌, arith}
 use Rattle.std.specs.Prelude.{IsSome}
 use Rattle.std.specs.List.{flat_map, AllByRecursion}
 use Rattle.std.proofs.lemmas.Bool.{eqb-true}
@@ -18,8 +19,10 @@ use Rattle.class_read.specs.Content.{ClassContent}
 use Rattle.class_read.specs.Reading.{Read, ◌>>=◌, pure, place}
 use Rattle.class_read.specs.Text.{u2, counted, attr_text, member_text, magic_number, class_bytes}
 use Rattle.class_read.specs.Rules.{IsClass, name_of, WellFormed, is_read_major, field_of, method_of, content_of, Spells}
-use Rattle.class_read.specs.FirstFault.{interfaces_at, pool_read, pool_field_at, end_at, lists_at, body_at, file_at, whole_at, without_rest, class_in}
-use Rattle.class_read.proofs.Exact.{IsBytes, IsBytes-drop, Exact, then_exact, made_exact, told_exact, passing_exact, u2_exact, u4_exact, listed_exact, bind_ok, tested_ok, parts_of}
+use Rattle.class_read.specs.FirstFault.{interfaces_at, pool_read, pool_field_at, end_at, lists_at, body_at, file_at, whole_at}
+use Rattle.class_read.specs.FirstFault.{without_rest, class_in}
+use Rattle.class_read.proofs.Exact.{IsBytes, IsBytes-drop, Exact, then_exact, made_exact, told_exact, passing_exact, u2_exact}
+use Rattle.class_read.proofs.Exact.{u4_exact, listed_exact, bind_ok, tested_ok, parts_of}
 use Rattle.class_read.proofs.AttributeLaws.{class_exact, AreOthers, others_exact}
 use Rattle.class_read.proofs.MemberLaws.{AreFields, AreMethods, fields_exact, methods_exact}
 
@@ -35,7 +38,8 @@ IsCounted p = (p.0 < 2 ^ 16) × IsPool p.1 × (length (places_of p.1) ≡ p.0 - 
 abbrev counted_text : Counted → List ℕ
 counted_text p = counted_bytes p.0 p.1
 
-pool_ok : (r : Result (List PoolEntry × Unread) PoolFault) (v : List PoolEntry) (rest : List ℕ) → pool_read r ≡ Ok (v, rest) → (x : List PoolEntry × Unread) × (r ≡ Ok x) × (x.0 ≡ v) × (x.1.bytes ≡ rest)
+pool_ok : (r : Result (List PoolEntry × Unread) PoolFault) (v : List PoolEntry) (rest : List ℕ) → pool_read r ≡ Ok (v, rest)
+    → (x : List PoolEntry × Unread) × (r ≡ Ok x) × (x.0 ≡ v) × (x.1.bytes ≡ rest)
 pool_ok (Ok x) v rest e = let p = parts_of x.0 v x.1.bytes rest e in (x, refl, p.0, p.1)
 pool_ok (Err f) v rest e = absurd cc
 
@@ -49,7 +53,14 @@ pool_exact total = record {
       let o = pool_ok (pool_at u) v rest e in
       let s = pool_found u o.0.0 o.0.1 fits o.1 in
       let parts : bytes ≡ counted_bytes s.count o.0.0 ++ rest = s.text ∙ ap (λ (r : List ℕ). counted_bytes s.count o.0.0 ++ r) o.3 in
-      record { it = (s.count, o.0.0); fits = (s.count_fits, s.pool, s.places); parts = parts; seen = o.2; rest_fits = IsBytes-behind (counted_bytes s.count o.0.0) rest (subst IsBytes parts fits) };
+      record {
+        it = (s.count, o.0.0);
+        fits = (s.count_fits, s.pool, s.places);
+        parts = parts;
+        seen = o.2;
+        rest_fits = IsBytes-behind
+            (counted_bytes s.count o.0.0) rest (subst IsBytes parts fits);
+      };
   again = λ p rest h.
       let u : Unread = record { at = place total (counted_text p ++ rest); bytes = counted_text p ++ rest } in
       let v : Unread = record { at = place total (counted_text p ++ rest) + length (counted_text p); bytes = rest } in
@@ -58,7 +69,8 @@ pool_exact total = record {
 
 -- ---- what follows the pool
 
-interfaces_exact : (total : ℕ) (pool : List PoolEntry) → Exact (interfaces_at total pool) (counted u2) (λ is. (length is < 2 ^ 16) × AllByRecursion (IsClass pool) is) (map (name_of pool))
+interfaces_exact : (total : ℕ) (pool : List PoolEntry)
+    → Exact (interfaces_at total pool) (counted u2) (λ is. (length is < 2 ^ 16) × AllByRecursion (IsClass pool) is) (map (name_of pool))
 unfolding interfaces_at
 interfaces_exact total pool = listed_exact total (class_exact total pool)
 
@@ -66,11 +78,16 @@ abbrev Body : Type 0
 Body = ℕ × (ℕ × (ℕ × (List ℕ × (List MemberText × (List MemberText × List AttrText)))))
 
 abbrev body_text : Body → List ℕ
-body_text b = u2 b.0 ++ (u2 b.1.0 ++ (u2 b.1.1.0 ++ (counted u2 b.1.1.1.0 ++ (counted member_text b.1.1.1.1.0 ++ (counted member_text b.1.1.1.1.1.0 ++ counted attr_text b.1.1.1.1.1.1)))))
+body_text b = u2 b.0 ++ (u2 b.1.0
+    ++ (u2 b.1.1.0 ++ (counted u2 b.1.1.1.0
+    ++ (counted member_text b.1.1.1.1.0 ++ (counted member_text b.1.1.1.1.1.0 ++ counted attr_text b.1.1.1.1.1.1)))))
 
 abbrev IsBody : List PoolEntry → Body → Type 0
 IsBody pool b =
-    (b.0 < 2 ^ 16) × (IsClass pool b.1.0 × (IsClass pool b.1.1.0 × (((length b.1.1.1.0 < 2 ^ 16) × AllByRecursion (IsClass pool) b.1.1.1.0) × (AreFields pool b.1.1.1.1.0 × (AreMethods pool b.1.1.1.1.1.0 × AreOthers pool b.1.1.1.1.1.1)))))
+    (b.0 < 2 ^ 16) × (IsClass pool b.1.0
+    × (IsClass pool b.1.1.0
+    × (((length b.1.1.1.0 < 2 ^ 16) × AllByRecursion (IsClass pool) b.1.1.1.0)
+    × (AreFields pool b.1.1.1.1.0 × (AreMethods pool b.1.1.1.1.1.0 × AreOthers pool b.1.1.1.1.1.1)))))
 
 abbrev body_content : ℕ → List PoolEntry → Body → ClassContent
 body_content major pool b = record {
@@ -87,7 +104,9 @@ body_content major pool b = record {
 body_exact : (total major : ℕ) (pool : List PoolEntry) → Exact (body_at total major pool) body_text (IsBody pool) (body_content major pool)
 unfolding body_at lists_at
 body_exact total major pool =
-    then_exact (u2_exact total) (λ flags. then_exact (class_exact total pool) (λ name. then_exact (class_exact total pool) (λ super_name. then_exact (interfaces_exact total pool) (λ interfaces.
+    then_exact (u2_exact total)
+    (λ flags. then_exact (class_exact total pool)
+    (λ name. then_exact (class_exact total pool) (λ super_name. then_exact (interfaces_exact total pool) (λ interfaces.
     then_exact (fields_exact total pool) (λ fields. then_exact (methods_exact total pool) (λ methods.
     made_exact {B = ClassContent} (λ (u : Unit {0}). record {
       major = major;
@@ -106,7 +125,19 @@ abbrev File : Type 0
 File = ℕ × (ℕ × (ℕ × (Counted × Body)))
 
 abbrev parts_of_class : ClassText → File
-parts_of_class c = (magic_number, (c.minor, (c.major, ((length (places_of c.pool), c.pool), (c.flags, (c.this_index, (c.super_index, (c.interfaces, (c.fields, (c.methods, c.attributes))))))))))
+parts_of_class c = (
+  magic_number,
+  (
+    c.minor,
+    (
+      c.major,
+      (
+        (length (places_of c.pool), c.pool),
+        (c.flags, (c.this_index, (c.super_index, (c.interfaces, (c.fields, (c.methods, c.attributes)))))),
+      ),
+    ),
+  ),
+)
 
 abbrev class_of_parts : File → ClassText
 class_of_parts f = record {
@@ -140,8 +171,10 @@ IsReadClass c = WellFormed c × (is_read_major c.major ≡ true)
 pub file_exact : (total : ℕ) → Exact (file_at total) class_bytes IsReadClass content_of
 unfolding file_at
 file_exact total =
-    told_exact (then_exact (passing_exact (λ n. eqb n magic_number) (λ _ _. BadMagic) total (u4_exact total)) (λ magic. then_exact (u2_exact total) (λ minor.
-    then_exact (passing_exact is_read_major (λ n _. Version n) total (u2_exact total)) (λ major. then_exact (pool_exact total) (λ pool. body_exact total major pool)))))
+    told_exact (then_exact (passing_exact (λ n. eqb n magic_number) (λ _ _. BadMagic) total (u4_exact total))
+    (λ magic. then_exact (u2_exact total) (λ minor.
+    then_exact (passing_exact is_read_major (λ n _. Version n) total (u2_exact total))
+    (λ major. then_exact (pool_exact total) (λ pool. body_exact total major pool)))))
     parts_of_class class_of_parts
     (λ f h.
     let magic : magic_number ≡ f.0 = sym (eqb-true f.0 magic_number h.0.1) in
@@ -171,8 +204,34 @@ file_exact total =
       h.1.1.0.1,
     ))
     (λ c h.
-    let r = h.0 in
-    ((omega arith, refl), (r.minor_fits, ((r.major_fits, h.1), ((r.pool.count, r.pool, omega arith), (r.flags_fit, (r.this_class, (r.super_class, ((r.interfaces_fit, r.interfaces), ((r.fields_fit, r.fields, r.fields_differ), ((r.methods_fit, r.methods, r.methods_differ), (r.attributes_fit, r.attributes))))))))))))
+    let r = h.0 in (
+      (omega arith, refl),
+      (
+        r.minor_fits,
+        (
+          (r.major_fits, h.1),
+          (
+            (r.pool.count, r.pool, omega arith),
+            (
+              r.flags_fit,
+              (
+                r.this_class,
+                (
+                  r.super_class,
+                  (
+                    (r.interfaces_fit, r.interfaces),
+                    (
+                      (r.fields_fit, r.fields, r.fields_differ),
+                      ((r.methods_fit, r.methods, r.methods_differ), (r.attributes_fit, r.attributes)),
+                    ),
+                  ),
+                ),
+              ),
+            ),
+          ),
+        ),
+      ),
+    ))
     (λ c h. refl) (λ c h. refl)
 
 -- ---- classes
@@ -213,7 +272,8 @@ pub class_again : (bytes : List ℕ) (c : ClassContent) → Spells bytes c → c
 unfolding class_in whole_at
 class_again bytes c s =
     let whole : class_bytes s.text ++ [] ≡ bytes = append-nil (class_bytes s.text) ∙ s.bytes_are in
-    let read : file_at (length bytes) bytes ≡ Ok (c, []) = ap (file_at (length bytes)) (sym whole) ∙ (file_exact (length bytes)).again s.text [] (s.rules, s.major) ∙ ap (λ (d : ClassContent). Ok (d, [])) s.content in
+    let read : file_at (length bytes) bytes ≡ Ok (c, []) = ap (file_at (length bytes)) (sym whole)
+    ∙ (file_exact (length bytes)).again s.text [] (s.rules, s.major) ∙ ap (λ (d : ClassContent). Ok (d, [])) s.content in
     rw read refl
 
 -- no bytes spell two classes

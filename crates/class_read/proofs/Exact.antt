@@ -1,5 +1,6 @@
 -- A reading is exact for a text: what it reads is a text that keeps the rules, and each such text is read.
-use Rattle.std.proofs.Common.{◌≡◌, ℕ, zero, suc, ◌+◌, ◌-◌, ◌^◌, ◌<◌, ◌≤◌, Bool, true, false, cond, ltb, eqb, List, [], ◌∷◌, ◌++◌, length, take, drop, map, Option, Some, None, Ok, Err, refl, sym, ap, subst, ◌∙◌, append_assoc, arith}
+use Rattle.std.proofs.Common.{◌≡◌, ℕ, zero, suc, ◌+◌, ◌-◌, ◌^◌, ◌<◌, ◌≤◌, Bool, true, false, cond, ltb, eqb, List, [], ◌∷◌, ◌++◌}
+use Rattle.std.proofs.Common.{length, take, drop, map, Option, Some, None, Ok, Err, refl, sym, ap, subst, ◌∙◌, append_assoc, arith}
 use Rattle.std.specs.Prelude.{IsSome, unwrap_or}
 use Rattle.std.specs.List.{flat_map, AllByRecursion}
 use Rattle.std.specs.Int.{Width, w16, w32, byte_len, from_be_bytes, to_be_bytes}
@@ -11,11 +12,13 @@ pub use Rattle.list_views.specs.ByteLists.{IsBytes}
 pub use Rattle.list_views.proofs.ByteLists.{IsBytes-drop, IsBytes-take}
 use Rattle.class_read.specs.declared.fault.ClassFault.{ClassFault}
 use Rattle.class_read.specs.declared.fault.ClassFault.TheVariants.{Truncated, BadDescriptor, CodeLength}
-use Rattle.class_read.specs.Reading.{Read, and_then, ◌>>=◌, pure, place, passing, holding, u2_at, u4_at, bytes_at, found, named_at, sized_at, repeated, collected}
+use Rattle.class_read.specs.Reading.{Read, and_then, ◌>>=◌, pure, place, passing, holding, u2_at, u4_at, bytes_at, found, named_at}
+use Rattle.class_read.specs.Reading.{sized_at, repeated, collected}
 use Rattle.class_read.specs.Text.{u2, u4, counted}
 
 -- what a reading took from the front of the bytes
-pub record Taken {T V : Type 0} (text : T → List ℕ) (Fits : T → Type 0) (view : T → V) (bytes : List ℕ) (v : V) (rest : List ℕ) : Type 0 where
+pub record Taken {T V : Type 0} (text : T → List ℕ) (Fits : T → Type 0) (view : T → V) (bytes : List ℕ) (v : V)
+    (rest : List ℕ) : Type 0 where
   pub it : T
   pub fits : Fits it
   pub parts : bytes ≡ text it ++ rest
@@ -28,7 +31,8 @@ pub record Exact {T V : Type 0} (read : List ℕ → Read V) (text : T → List 
 
 -- ---- steps that did not fail
 
-pub bind_ok : {A B : Type 0} (r : Read A) (next : A → List ℕ → Read B) (y : B × List ℕ) → and_then r next ≡ Ok y → (x : A × List ℕ) × (r ≡ Ok x) × (next x.0 x.1 ≡ Ok y)
+pub bind_ok : {A B : Type 0} (r : Read A) (next : A → List ℕ → Read B) (y : B × List ℕ) → and_then r next ≡ Ok y
+    → (x : A × List ℕ) × (r ≡ Ok x) × (next x.0 x.1 ≡ Ok y)
 bind_ok (Ok x) next y e = (x, refl, e)
 bind_ok (Err d) next y e = absurd cc
 
@@ -54,26 +58,28 @@ parts_of x y r s e = pair_parts (x, r) y s (ok_is (x, r) (y, s) e)
 
 -- ---- combinators
 
-pub then_exact : {T U A B : Type 0} {read : List ℕ → Read A} {next : A → List ℕ → Read B} {text : T → List ℕ} {Fits : T → Type 0} {view : T → A} {text2 : U → List ℕ} {Fits2 : A → U → Type 0} {view2 : A → U → B}
+pub then_exact : {T U A B : Type 0} {read : List ℕ → Read A} {next : A → List ℕ → Read B} {text : T → List ℕ} {Fits : T → Type 0}
+    {view : T → A} {text2 : U → List ℕ} {Fits2 : A → U → Type 0} {view2 : A → U → B}
     → Exact read text Fits view → ((a : A) → Exact (next a) text2 (Fits2 a) (view2 a))
     → Exact (read >>= next) (λ (p : T × U). text p.0 ++ text2 p.1) (λ p. Fits p.0 × Fits2 (view p.0) p.1) (λ p. view2 (view p.0) p.1)
-then_exact {read = read} {next = next} {text = text} {Fits = Fits} {view = view} {text2 = text2} {Fits2 = Fits2} {view2 = view2} first second = record {
-  takes = λ bytes v rest fits e.
-      let b = bind_ok (read bytes) next (v, rest) e in
-      let t = first.takes bytes b.0.0 b.0.1 fits b.1 in
-      let u = (second b.0.0).takes b.0.1 v rest t.rest_fits b.2 in
-      record {
-        it = (t.it, u.it);
-        fits = (t.fits, subst (λ a. Fits2 a u.it) (sym t.seen) u.fits);
-        parts = t.parts ∙ ap (λ (r : List ℕ). text t.it ++ r) u.parts ∙ sym (append_assoc (text t.it) (text2 u.it) rest);
-        seen = ap (λ a. view2 a u.it) t.seen ∙ u.seen;
-        rest_fits = u.rest_fits;
-      };
-  again = λ p rest fits.
-      ap (read >>= next) (append_assoc (text p.0) (text2 p.1) rest)
-      ∙ ap (λ r. and_then r next) (first.again p.0 (text2 p.1 ++ rest) fits.0)
-      ∙ (second (view p.0)).again p.1 rest fits.1;
-}
+then_exact {read = read} {next = next} {text = text} {Fits = Fits} {view = view} {text2 = text2} {Fits2 = Fits2} {view2 = view2}
+    first second = record {
+      takes = λ bytes v rest fits e.
+          let b = bind_ok (read bytes) next (v, rest) e in
+          let t = first.takes bytes b.0.0 b.0.1 fits b.1 in
+          let u = (second b.0.0).takes b.0.1 v rest t.rest_fits b.2 in
+          record {
+            it = (t.it, u.it);
+            fits = (t.fits, subst (λ a. Fits2 a u.it) (sym t.seen) u.fits);
+            parts = t.parts ∙ ap (λ (r : List ℕ). text t.it ++ r) u.parts ∙ sym (append_assoc (text t.it) (text2 u.it) rest);
+            seen = ap (λ a. view2 a u.it) t.seen ∙ u.seen;
+            rest_fits = u.rest_fits;
+          };
+      again = λ p rest fits.
+          ap (read >>= next) (append_assoc (text p.0) (text2 p.1) rest)
+          ∙ ap (λ r. and_then r next) (first.again p.0 (text2 p.1 ++ rest) fits.0)
+          ∙ (second (view p.0)).again p.1 rest fits.1;
+    }
 
 -- a value made of the one that is read
 pub made_exact : {T A B : Type 0} {read : List ℕ → Read A} {text : T → List ℕ} {Fits : T → Type 0} {view : T → A} (f : A → B)
@@ -94,7 +100,8 @@ made_exact {read = read} {text = text} {view = view} f first = record {
 }
 
 -- the same reading, with its text, rules and value told in other words
-pub told_exact : {T U V : Type 0} {read : List ℕ → Read V} {text : T → List ℕ} {Fits : T → Type 0} {view : T → V} {text2 : U → List ℕ} {Fits2 : U → Type 0} {view2 : U → V}
+pub told_exact : {T U V : Type 0} {read : List ℕ → Read V} {text : T → List ℕ} {Fits : T → Type 0} {view : T → V} {text2 : U
+    → List ℕ} {Fits2 : U → Type 0} {view2 : U → V}
     → Exact read text Fits view → (part : U → T) (make : T → U)
     → ((t : T) → Fits t → part (make t) ≡ t) → ((t : T) → Fits t → Fits2 (make t)) → ((u : U) → Fits2 u → Fits (part u))
     → ((u : U) → Fits2 u → text (part u) ≡ text2 u) → ((u : U) → Fits2 u → view (part u) ≡ view2 u)
@@ -112,7 +119,8 @@ told_exact {read = read} {text = text} {view = view} first part make back to fro
         rest_fits = t.rest_fits;
       };
   again = λ u rest fits.
-      ap (λ (b : List ℕ). read (b ++ rest)) (sym (text_is u fits)) ∙ first.again (part u) rest (from u fits) ∙ ap (λ v. Ok (v, rest)) (view_is u fits);
+      ap (λ (b : List ℕ). read (b ++ rest)) (sym (text_is u fits)) ∙ first.again (part u) rest (from u fits)
+      ∙ ap (λ v. Ok (v, rest)) (view_is u fits);
 }
 
 -- the same reading, with its rules in other words
@@ -120,7 +128,8 @@ pub ruled_exact : {T V : Type 0} {read : List ℕ → Read V} {text : T → List
     → Exact read text Fits view → ((t : T) → Fits t → Fits2 t) → ((t : T) → Fits2 t → Fits t) → Exact read text Fits2 view
 ruled_exact first to from = told_exact first (λ t. t) (λ t. t) (λ t h. refl) to from (λ t h. refl) (λ t h. refl)
 
-pub passing_exact : {T A : Type 0} {read : List ℕ → Read A} {text : T → List ℕ} {Fits : T → Type 0} {view : T → A} (test : A → Bool) (fault : A → ℕ → ClassFault) (total : ℕ)
+pub passing_exact : {T A : Type 0} {read : List ℕ → Read A} {text : T → List ℕ} {Fits : T → Type 0} {view : T → A} (test : A → Bool)
+    (fault : A → ℕ → ClassFault) (total : ℕ)
     → Exact read text Fits view → Exact (passing test fault total read) text (λ t. Fits t × (test (view t) ≡ true)) view
 passing_exact {A = A} {read = read} {text = text} {view = view} test fault total first = record {
   takes = λ bytes v rest fits e.
@@ -140,8 +149,10 @@ passing_exact {A = A} {read = read} {text = text} {view = view} test fault total
 }
 
 -- a rule on a value at the place after it
-pub held_exact : {T A : Type 0} {read : List ℕ → Read A} {text : T → List ℕ} {Fits : T → Type 0} {view : T → A} (test : A → Bool) (fault : ℕ → ClassFault) (total : ℕ)
-    → Exact read text Fits view → Exact (read >>= λ x. holding (test x) fault total >>= λ u. pure x) text (λ t. Fits t × (test (view t) ≡ true)) view
+pub held_exact : {T A : Type 0} {read : List ℕ → Read A} {text : T → List ℕ} {Fits : T → Type 0} {view : T → A} (test : A → Bool)
+    (fault : ℕ → ClassFault) (total : ℕ)
+    → Exact read text Fits view
+    → Exact (read >>= λ x. holding (test x) fault total >>= λ u. pure x) text (λ t. Fits t × (test (view t) ≡ true)) view
 held_exact {A = A} {read = read} {text = text} {view = view} test fault total first = record {
   takes = λ bytes v rest fits e.
       let next : A → List ℕ → Read A = λ x. holding (test x) fault total >>= λ u. pure x in
@@ -191,16 +202,19 @@ wide32 = record {
 }
 
 abbrev number_at : Width → ℕ → List ℕ → Read ℕ
-number_at w total bytes = cond (ltb (length bytes) (byte_len w)) (Err (Truncated (place total bytes))) (Ok (from_be_bytes w (take (byte_len w) bytes), drop (byte_len w) bytes))
+number_at w total bytes = cond (ltb (length bytes) (byte_len w)) (Err (Truncated (place total bytes)))
+    (Ok (from_be_bytes w (take (byte_len w) bytes), drop (byte_len w) bytes))
 
 number_exact : (w : Width) (limit : ℕ) → IsWide w limit → (total : ℕ) → Exact (number_at w total) (to_be_bytes w) (λ n. n < limit) (λ n. n)
 number_exact w limit wide total = record {
   takes = λ bytes v rest fits e.
-      let g = guarded_ok (ltb (length bytes) (byte_len w)) (Truncated (place total bytes)) (from_be_bytes w (take (byte_len w) bytes), drop (byte_len w) bytes) (v, rest) e in
+      let g = guarded_ok (ltb (length bytes) (byte_len w)) (Truncated (place total bytes))
+      (from_be_bytes w (take (byte_len w) bytes), drop (byte_len w) bytes) (v, rest) e in
       let long : byte_len w ≤ length bytes = ltb-false _ _ g.0 in
       let p = pair_parts (from_be_bytes w (take (byte_len w) bytes), drop (byte_len w) bytes) v rest g.1 in
       let front = IsBytes-take (byte_len w) bytes fits in
-      let value : to_be_bytes w v ≡ take (byte_len w) bytes = rw (← p.0) (wide.back (take (byte_len w) bytes) (omega (arith, length-take (byte_len w) bytes)) front) in
+      let value : to_be_bytes w v ≡ take (byte_len w) bytes = rw (← p.0)
+      (wide.back (take (byte_len w) bytes) (omega (arith, length-take (byte_len w) bytes)) front) in
       record {
         it = v;
         fits = rw (← p.0) (wide.below (take (byte_len w) bytes) front);
@@ -210,7 +224,8 @@ number_exact w limit wide total = record {
       };
   again = λ n rest lt.
       let len = wide.len n in
-      let long : ltb (length (to_be_bytes w n ++ rest)) (byte_len w) ≡ false = le-ltb _ _ (omega (arith, length-append (to_be_bytes w n) rest)) in
+      let long : ltb (length (to_be_bytes w n ++ rest)) (byte_len w) ≡ false = le-ltb _ _
+      (omega (arith, length-append (to_be_bytes w n) rest)) in
       rw (long, take_at (to_be_bytes w n) rest (byte_len w) len, drop_at (to_be_bytes w n) rest (byte_len w) len, wide.again n lt) refl;
 }
 
@@ -239,15 +254,18 @@ bytes_exact total count = record {
 }
 
 -- what an index names
-found_ok : {A : Type 0} (o : Option A) (fault : ClassFault) (rest : List ℕ) (none : A) (y : A) (s : List ℕ) → found o fault rest ≡ Ok (y, s) → IsSome o × (unwrap_or o none ≡ y) × (rest ≡ s)
+found_ok : {A : Type 0} (o : Option A) (fault : ClassFault) (rest : List ℕ) (none : A) (y : A) (s : List ℕ)
+    → found o fault rest ≡ Ok (y, s) → IsSome o × (unwrap_or o none ≡ y) × (rest ≡ s)
 found_ok (Some x) fault rest none y s e = let p = parts_of x y rest s e in (refl, p.0, p.1)
 found_ok None fault rest none y s e = absurd cc
 
-found_again : {A : Type 0} (o : Option A) (fault : ClassFault) (rest : List ℕ) (none : A) → IsSome o → found o fault rest ≡ Ok (unwrap_or o none, rest)
+found_again : {A : Type 0} (o : Option A) (fault : ClassFault) (rest : List ℕ) (none : A) → IsSome o
+    → found o fault rest ≡ Ok (unwrap_or o none, rest)
 found_again (Some x) fault rest none there = refl
 found_again None fault rest none there = absurd cc
 
-pub named_exact : {A : Type 0} (look : ℕ → Option A) (none : A) (total : ℕ) → Exact (named_at look total) u2 (λ i. (i < 2 ^ 16) × IsSome (look i)) (λ i. unwrap_or (look i) none)
+pub named_exact : {A : Type 0} (look : ℕ → Option A) (none : A) (total : ℕ)
+    → Exact (named_at look total) u2 (λ i. (i < 2 ^ 16) × IsSome (look i)) (λ i. unwrap_or (look i) none)
 named_exact look none total = record {
   takes = λ bytes v rest fits e.
       let b = bind_ok (u2_at total bytes) (λ i r. found (look i) (BadDescriptor (place total bytes)) r) (v, rest) e in
@@ -267,10 +285,12 @@ named_exact look none total = record {
 
 -- a content that is as long as its length says
 pub sized_exact : {T A : Type 0} {read : List ℕ → Read A} {text : T → List ℕ} {Fits : T → Type 0} {view : T → A} (total : ℕ)
-    → Exact read text Fits view → Exact (sized_at total read) (λ t. u4 (length (text t)) ++ text t) (λ t. Fits t × (length (text t) < 2 ^ 32)) view
+    → Exact read text Fits view
+    → Exact (sized_at total read) (λ t. u4 (length (text t)) ++ text t) (λ t. Fits t × (length (text t) < 2 ^ 32)) view
 sized_exact {A = A} {read = read} {text = text} {view = view} total first = record {
   takes = λ bytes v rest fits e.
-      let check : ℕ → List ℕ → A → List ℕ → Read A = λ size content x r. cond (eqb (length content - length r) size) (Ok (x, r)) (Err (CodeLength (place total bytes))) in
+      let check : ℕ → List ℕ → A → List ℕ → Read A = λ size content x r. cond (eqb (length content - length r) size) (Ok (x, r))
+      (Err (CodeLength (place total bytes))) in
       let a = bind_ok (u4_at total bytes) (λ size content. and_then (read content) (check size content)) (v, rest) e in
       let s = (u4_exact total).takes bytes a.0.0 a.0.1 fits a.1 in
       let b = bind_ok (read a.0.1) (check a.0.0 a.0.1) (v, rest) a.2 in
@@ -283,18 +303,25 @@ sized_exact {A = A} {read = read} {text = text} {view = view} total first = reco
         it = t.it;
         fits = (t.fits, rw (← size, ← s.seen) s.fits);
         parts =
-            s.parts ∙ ap (λ (n : ℕ). u4 n ++ a.0.1) (s.seen ∙ size) ∙ ap (λ (r : List ℕ). u4 (length (text t.it)) ++ r) (t.parts ∙ ap (λ (r : List ℕ). text t.it ++ r) p.1)
+            s.parts ∙ ap (λ (n : ℕ). u4 n ++ a.0.1) (s.seen ∙ size) ∙ ap (λ (r : List ℕ). u4 (length (text t.it)) ++ r)
+            (t.parts ∙ ap (λ (r : List ℕ). text t.it ++ r) p.1)
             ∙ sym (append_assoc (u4 (length (text t.it))) (text t.it) rest);
         seen = t.seen ∙ p.0;
         rest_fits = subst IsBytes p.1 t.rest_fits;
       };
   again = λ t rest fits.
       let whole : length (text t ++ rest) - length rest ≡ length (text t) = omega (arith, length-append (text t) rest) in
-      let regroup : (u4 (length (text t)) ++ text t) ++ rest ≡ u4 (length (text t)) ++ (text t ++ rest) = append_assoc (u4 (length (text t))) (text t) rest in
+      let regroup : (u4 (length (text t)) ++ text t) ++ rest ≡ u4 (length (text t)) ++ (text t ++ rest) = append_assoc
+      (u4 (length (text t))) (text t) rest in
       let passes : eqb (length (text t ++ rest) - length rest) (length (text t)) ≡ true = eq-eqb _ _ whole in
       ap (sized_at total read) regroup
-      ∙ ap (λ r. and_then r (λ size content. and_then (read content) (λ x s. cond (eqb (length content - length s) size) (Ok (x, s)) (Err (CodeLength (place total (u4 (length (text t)) ++ (text t ++ rest)))))))) ((u4_exact total).again (length (text t)) (text t ++ rest) fits.1)
-      ∙ ap (λ r. and_then r (λ x s. cond (eqb (length (text t ++ rest) - length s) (length (text t))) (Ok (x, s)) (Err (CodeLength (place total (u4 (length (text t)) ++ (text t ++ rest))))))) (first.again t rest fits.0)
+      ∙ ap (λ r. and_then r
+      (λ size content. and_then (read content)
+      (λ x s. cond (eqb (length content - length s) size) (Ok (x, s))
+      (Err (CodeLength (place total (u4 (length (text t)) ++ (text t ++ rest))))))))
+      ((u4_exact total).again (length (text t)) (text t ++ rest) fits.1)
+      ∙ ap (λ r. and_then r (λ x s. cond (eqb (length (text t ++ rest) - length s) (length (text t))) (Ok (x, s))
+      (Err (CodeLength (place total (u4 (length (text t)) ++ (text t ++ rest))))))) (first.again t rest fits.0)
       ∙ rw passes refl;
 }
 
@@ -309,7 +336,8 @@ abbrev pub next_all : {S T : Type 0} → (S → T → S) → S → List T → S
 next_all next s [] = s
 next_all next s (t ∷ ts) = next_all next (next s t) ts
 
-repeated_takes : {S T : Type 0} (step : S → List ℕ → Read S) (text : T → List ℕ) (Fits : S → T → Type 0) (next : S → T → S) → ((s : S) → Exact (step s) text (Fits s) (next s))
+repeated_takes : {S T : Type 0} (step : S → List ℕ → Read S) (text : T → List ℕ) (Fits : S → T → Type 0) (next : S → T → S)
+    → ((s : S) → Exact (step s) text (Fits s) (next s))
     → (n : ℕ) (s : S) (bytes : List ℕ) (v : S) (rest : List ℕ) → IsBytes bytes → repeated step n s bytes ≡ Ok (v, rest)
     → Taken (flat_map text) (λ ts. (length ts ≡ n) × FitAll Fits next s ts) (next_all next s) bytes v rest
 unfolding repeated
@@ -323,33 +351,43 @@ repeated_takes step text Fits next each (suc n) s bytes v rest fits e =
     record {
       it = t.it ∷ u.it;
       fits = (ap suc u.fits.0, (t.fits, subst (λ x. FitAll Fits next x u.it) (sym t.seen) u.fits.1));
-      parts = t.parts ∙ ap (λ (r : List ℕ). text t.it ++ r) u.parts ∙ sym (append_assoc (text t.it) (flat_map text u.it) rest) ∙ ap (λ (b : List ℕ). b ++ rest) (sym (flat_map-cons text t.it u.it));
+      parts = t.parts ∙ ap (λ (r : List ℕ). text t.it ++ r) u.parts ∙ sym (append_assoc (text t.it) (flat_map text u.it) rest)
+          ∙ ap (λ (b : List ℕ). b ++ rest) (sym (flat_map-cons text t.it u.it));
       seen = ap (λ x. next_all next x u.it) t.seen ∙ u.seen;
       rest_fits = u.rest_fits;
     }
 
-repeated_again : {S T : Type 0} (step : S → List ℕ → Read S) (text : T → List ℕ) (Fits : S → T → Type 0) (next : S → T → S) → ((s : S) → Exact (step s) text (Fits s) (next s))
-    → (s : S) (ts : List T) (rest : List ℕ) → FitAll Fits next s ts → repeated step (length ts) s (flat_map text ts ++ rest) ≡ Ok (next_all next s ts, rest)
+repeated_again : {S T : Type 0} (step : S → List ℕ → Read S) (text : T → List ℕ) (Fits : S → T → Type 0) (next : S → T → S)
+    → ((s : S) → Exact (step s) text (Fits s) (next s))
+    → (s : S) (ts : List T) (rest : List ℕ) → FitAll Fits next s ts
+    → repeated step (length ts) s (flat_map text ts ++ rest) ≡ Ok (next_all next s ts, rest)
 unfolding repeated
 repeated_again step text Fits next each s [] rest fits = refl
 repeated_again step text Fits next each s (t ∷ ts) rest fits =
-    let regroup : flat_map text (t ∷ ts) ++ rest ≡ text t ++ (flat_map text ts ++ rest) = ap (λ (b : List ℕ). b ++ rest) (flat_map-cons text t ts) ∙ append_assoc (text t) (flat_map text ts) rest in
-    ap (repeated step (suc (length ts)) s) regroup ∙ ap (λ r. and_then r (repeated step (length ts))) ((each s).again t (flat_map text ts ++ rest) fits.0) ∙ repeated_again step text Fits next each (next s t) ts rest fits.1
+    let regroup : flat_map text (t ∷ ts) ++ rest ≡ text t ++ (flat_map text ts ++ rest) = ap (λ (b : List ℕ). b ++ rest)
+    (flat_map-cons text t ts) ∙ append_assoc (text t) (flat_map text ts) rest in
+    ap (repeated step (suc (length ts)) s) regroup ∙ ap (λ r. and_then r (repeated step (length ts)))
+    ((each s).again t (flat_map text ts ++ rest) fits.0) ∙ repeated_again step text Fits next each (next s t) ts rest fits.1
 
-pub repeated_exact : {S T : Type 0} {step : S → List ℕ → Read S} {text : T → List ℕ} {Fits : S → T → Type 0} {next : S → T → S} → ((s : S) → Exact (step s) text (Fits s) (next s))
+pub repeated_exact : {S T : Type 0} {step : S → List ℕ → Read S} {text : T → List ℕ} {Fits : S → T → Type 0} {next : S → T → S}
+    → ((s : S) → Exact (step s) text (Fits s) (next s))
     → (n : ℕ) (s : S) → Exact (repeated step n s) (flat_map text) (λ ts. (length ts ≡ n) × FitAll Fits next s ts) (next_all next s)
 repeated_exact {step = step} {text = text} {Fits = Fits} {next = next} each n s = record {
   takes = repeated_takes step text Fits next each n s;
-  again = λ ts rest fits. ap (λ (k : ℕ). repeated step k s (flat_map text ts ++ rest)) (sym fits.0) ∙ repeated_again step text Fits next each s ts rest fits.1;
+  again = λ ts rest fits. ap (λ (k : ℕ). repeated step k s (flat_map text ts ++ rest)) (sym fits.0)
+      ∙ repeated_again step text Fits next each s ts rest fits.1;
 }
 
 -- a count, and so many steps
-pub counted_exact : {S T : Type 0} {step : S → List ℕ → Read S} {text : T → List ℕ} {Fits : S → T → Type 0} {next : S → T → S} (total : ℕ) → ((s : S) → Exact (step s) text (Fits s) (next s))
-    → (s : S) → Exact (u2_at total >>= λ count. repeated step count s) (counted text) (λ ts. (length ts < 2 ^ 16) × FitAll Fits next s ts) (next_all next s)
+pub counted_exact : {S T : Type 0} {step : S → List ℕ → Read S} {text : T → List ℕ} {Fits : S → T → Type 0} {next : S → T → S}
+    (total : ℕ) → ((s : S) → Exact (step s) text (Fits s) (next s))
+    → (s : S) → Exact (u2_at total >>= λ count. repeated step count s) (counted text)
+    (λ ts. (length ts < 2 ^ 16) × FitAll Fits next s ts) (next_all next s)
 counted_exact {T = T} {Fits = Fits} {next = next} total each s =
     told_exact (then_exact (u2_exact total) (λ count. repeated_exact each count s))
     (λ (ts : List T). (length ts, ts)) (λ (p : ℕ × List T). p.1)
-    (λ p h. ap (λ (n : ℕ). (n, p.1)) h.1.0) (λ p h. (omega (arith, h.0, h.1.0), h.1.1)) (λ ts h. (h.0, (refl, h.1))) (λ ts h. refl) (λ ts h. refl)
+    (λ p h. ap (λ (n : ℕ). (n, p.1)) h.1.0) (λ p h. (omega (arith, h.0, h.1.0), h.1.1)) (λ ts h. (h.0, (refl, h.1))) (λ ts h. refl)
+    (λ ts h. refl)
 
 -- ---- lists of independent items
 
@@ -361,11 +399,13 @@ pub collected_exact : {T A : Type 0} {read : List ℕ → Read A} {text : T → 
 unfolding collected
 collected_exact first made = made_exact (λ x. made ++ x ∷ []) first
 
-pub all_to : {S T : Type 0} (Fits : T → Type 0) (next : S → T → S) (s : S) (ts : List T) → FitAll (λ _ t. Fits t) next s ts → AllByRecursion Fits ts
+pub all_to : {S T : Type 0} (Fits : T → Type 0) (next : S → T → S) (s : S) (ts : List T) → FitAll (λ _ t. Fits t) next s ts
+    → AllByRecursion Fits ts
 all_to Fits next s [] h = tt
 all_to Fits next s (t ∷ ts) h = (h.0, all_to Fits next (next s t) ts h.1)
 
-pub all_from : {S T : Type 0} (Fits : T → Type 0) (next : S → T → S) (s : S) (ts : List T) → AllByRecursion Fits ts → FitAll (λ _ t. Fits t) next s ts
+pub all_from : {S T : Type 0} (Fits : T → Type 0) (next : S → T → S) (s : S) (ts : List T) → AllByRecursion Fits ts
+    → FitAll (λ _ t. Fits t) next s ts
 all_from Fits next s [] h = tt
 all_from Fits next s (t ∷ ts) h = (h.0, all_from Fits next (next s t) ts h.1)
 
@@ -375,7 +415,9 @@ added_all view made (t ∷ ts) = added_all view (made ++ view t ∷ []) ts ∙ a
 
 -- a count, and so many items
 pub listed_exact : {T A : Type 0} {read : List ℕ → Read A} {text : T → List ℕ} {Fits : T → Type 0} {view : T → A} (total : ℕ)
-    → Exact read text Fits view → Exact (u2_at total >>= λ count. repeated (collected read) count []) (counted text) (λ ts. (length ts < 2 ^ 16) × AllByRecursion Fits ts) (map view)
+    → Exact read text Fits view → Exact (u2_at total >>= λ count. repeated (collected read) count []) (counted text)
+    (λ ts. (length ts < 2 ^ 16) × AllByRecursion Fits ts) (map view)
 listed_exact {Fits = Fits} {view = view} total first =
     told_exact (counted_exact total (collected_exact first) [])
-    (λ ts. ts) (λ ts. ts) (λ ts h. refl) (λ ts h. (h.0, all_to Fits (adds view) [] ts h.1)) (λ ts h. (h.0, all_from Fits (adds view) [] ts h.1)) (λ ts h. refl) (λ ts h. added_all view [] ts)
+    (λ ts. ts) (λ ts. ts) (λ ts h. refl) (λ ts h. (h.0, all_to Fits (adds view) [] ts h.1))
+    (λ ts h. (h.0, all_from Fits (adds view) [] ts h.1)) (λ ts h. refl) (λ ts h. added_all view [] ts)

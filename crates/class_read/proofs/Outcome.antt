@@ -9,9 +9,11 @@ use Rattle.class_read.specs.FirstFault.{class_in}
 use Rattle.class_read.proofs.Exact.{IsBytes}
 use Rattle.class_read.proofs.ClassLaws.{class_found, class_again}
 
-pub is_found : (bytes : List ℕ) (r : Result ClassContent ClassFault) → IsBytes bytes → Gives (λ c. c) r (class_in bytes) → IfOk r (λ c. Spells bytes c)
+pub is_found : (bytes : List ℕ) (r : Result ClassContent ClassFault) → IsBytes bytes → Gives (λ c. c) r (class_in bytes)
+    → IfOk r (λ c. Spells bytes c)
 is_found bytes (Ok c) fits given = class_found bytes c fits given
 is_found bytes (Err e) fits given = tt
 
-pub is_only : (bytes : List ℕ) (r : Result ClassContent ClassFault) (c : ClassContent) → Spells bytes c → Gives {Y = ClassContent} (λ d. d) r (class_in bytes) → Gives {Y = ClassContent} (λ d. d) r (Ok c)
+pub is_only : (bytes : List ℕ) (r : Result ClassContent ClassFault) (c : ClassContent) → Spells bytes c
+    → Gives {Y = ClassContent} (λ d. d) r (class_in bytes) → Gives {Y = ClassContent} (λ d. d) r (Ok c)
 is_only bytes r c spelled given = rw (← class_again bytes c spelled) given

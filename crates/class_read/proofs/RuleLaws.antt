@@ -1,5 +1,6 @@
 -- What the tests of a text's rules answer, as the rules themselves.
-use Rattle.std.proofs.Common.{◌≡◌, ℕ, suc, ◌+◌, ◌*◌, ◌<◌, ◌^◌, Bool, true, false, cond, List, [], ◌∷◌, ◌++◌, length, get_or, take, drop, map, Result, Ok, Err, refl, sym, ap, ap₂, subst, ◌∙◌, arith}
+use Rattle.std.proofs.Common.{◌≡◌, ℕ, suc, ◌+◌, ◌*◌, ◌<◌, ◌^◌, Bool, true, false, cond, List, [], ◌∷◌, ◌++◌, length, get_or, take}
+use Rattle.std.proofs.Common.{drop, map, Result, Ok, Err, refl, sym, ap, ap₂, subst, ◌∙◌, arith}
 use Rattle.std.specs.Prelude.{IfOk}
 use Rattle.std.specs.List.{flat_map, list_any, AllByRecursion, IsDistinct}
 use Rattle.std.proofs.lemmas.Bool.{or_parts, or_from, false≢true}
@@ -23,7 +24,8 @@ handlers_length [] = refl
 handlers_length (h ∷ table) = omega (arith, handlers_length table)
 
 pub content_length : (max_stack max_locals : ℕ) (code : List ℕ) (table : List Handler) (attributes : List (ℕ × List ℕ))
-    → length (code_text max_stack max_locals code table attributes) ≡ 12 + length code + 8 * length table + length (flat_map attribute_text attributes)
+    → length (code_text max_stack max_locals code table attributes) ≡ 12 + length code + 8 * length table + length
+    (flat_map attribute_text attributes)
 content_length max_stack max_locals code table attributes =
     omega (
       arith,
@@ -53,60 +55,78 @@ distinct_new : (ks : List Key) (k : Key) (more : List Key) → IsDistinct same_k
 unfolding IsDistinct
 distinct_new [] k more distinct = refl
 distinct_new (j ∷ ks) k more distinct =
-    or_from (same_key k j) (list_any (same_key k) ks) (same_swapped k j ∙ all_within (λ y. same_key j y ≡ false) ks k more distinct.0) (distinct_new ks k more distinct.1)
+    or_from (same_key k j) (list_any (same_key k) ks)
+    (same_swapped k j ∙ all_within (λ y. same_key j y ≡ false) ks k more distinct.0) (distinct_new ks k more distinct.1)
 
 abbrev pair : List ℕ → List ℕ → Key
 pair name desc = (name, desc)
 
 -- one more member, and what comes after it
-split_at : (members : List MemberText) (i : ℕ) (m : MemberText) → i < length members → get_or members i m ≡ m → members ≡ take i members ++ m ∷ drop (suc i) members
+split_at : (members : List MemberText) (i : ℕ) (m : MemberText) → i < length members → get_or members i m ≡ m
+    → members ≡ take i members ++ m ∷ drop (suc i) members
 split_at members i m lt is =
-    sym (take-append-drop i members) ∙ ap (λ (r : List MemberText). take i members ++ r) (drop-cons members i m lt ∙ ap (λ (x : MemberText). x ∷ drop (suc i) members) is)
+    sym (take-append-drop i members) ∙ ap (λ (r : List MemberText). take i members ++ r)
+    (drop-cons members i m lt ∙ ap (λ (x : MemberText). x ∷ drop (suc i) members) is)
 
 keys_more : (pool : List PoolEntry) (members : List MemberText) (i : ℕ) (m : MemberText) → i < length members → get_or members i m ≡ m
     → map (key_of pool) (take (i + 1) members) ≡ map (key_of pool) (take i members) ++ key_of pool m ∷ []
 keys_more pool members i m lt is =
-    ap (map (key_of pool)) (take_more members i m lt ∙ ap (λ (x : MemberText). take i members ++ x ∷ []) is) ∙ map-append (key_of pool) (take i members) (m ∷ [])
+    ap (map (key_of pool)) (take_more members i m lt ∙ ap (λ (x : MemberText). take i members ++ x ∷ []) is)
+    ∙ map-append (key_of pool) (take i members) (m ∷ [])
 
-key_of_texts : (pool : List PoolEntry) (m : MemberText) (name desc : List ℕ) → name ≡ text_of pool m.name → desc ≡ text_of pool m.desc → pair name desc ≡ key_of pool m
+key_of_texts : (pool : List PoolEntry) (m : MemberText) (name desc : List ℕ) → name ≡ text_of pool m.name
+    → desc ≡ text_of pool m.desc → pair name desc ≡ key_of pool m
 key_of_texts pool m name desc n d = ap (λ (x : List ℕ). pair x desc) n ∙ ap (pair (text_of pool m.name)) d
 
 -- a member that is looked up by its texts among those before it
-looked_up : (pool : List PoolEntry) (members : List MemberText) (i : ℕ) (m : MemberText) (name desc : List ℕ) (seen : List Key) → name ≡ text_of pool m.name → desc ≡ text_of pool m.desc
-    → seen ≡ map (key_of pool) (take i members) → list_any (same_key (key_of pool m)) (map (key_of pool) (take i members)) ≡ list_any (same_key (name, desc)) seen
-looked_up pool members i m name desc seen n d same = sym (ap₂ (λ (k : Key) (ks : List Key). list_any (same_key k) ks) (key_of_texts pool m name desc n d) same)
+looked_up : (pool : List PoolEntry) (members : List MemberText) (i : ℕ) (m : MemberText) (name desc : List ℕ) (seen : List Key)
+    → name ≡ text_of pool m.name → desc ≡ text_of pool m.desc
+    → seen ≡ map (key_of pool) (take i members)
+    → list_any (same_key (key_of pool m)) (map (key_of pool) (take i members)) ≡ list_any (same_key (name, desc)) seen
+looked_up pool members i m name desc seen n d same = sym
+    (ap₂ (λ (k : Key) (ks : List Key). list_any (same_key k) ks) (key_of_texts pool m name desc n d) same)
 
 -- one more member whose name and descriptor no earlier one has
-pub still_distinct : (pool : List PoolEntry) (members : List MemberText) (i : ℕ) (m : MemberText) (name desc : List ℕ) (seen more : List Key) (added : Bool) → i < length members → get_or members i m ≡ m
-    → name ≡ text_of pool m.name → desc ≡ text_of pool m.desc → seen ≡ map (key_of pool) (take i members) → IsDistinct same_key (map (key_of pool) (take i members))
+pub still_distinct : (pool : List PoolEntry) (members : List MemberText) (i : ℕ) (m : MemberText) (name desc : List ℕ)
+    (seen more : List Key) (added : Bool) → i < length members → get_or members i m ≡ m
+    → name ≡ text_of pool m.name → desc ≡ text_of pool m.desc → seen ≡ map (key_of pool) (take i members)
+    → IsDistinct same_key (map (key_of pool) (take i members))
     → more ≡ cond added (seen ++ (name, desc) ∷ []) seen → list_any (same_key (name, desc)) seen ≡ cond added false true → added ≡ true
     → (more ≡ map (key_of pool) (take (i + 1) members)) × IsDistinct same_key (map (key_of pool) (take (i + 1) members))
 still_distinct pool members i m name desc seen more added lt is n d same distinct now there new =
     let before : List Key = map (key_of pool) (take i members) in
     let longer : map (key_of pool) (take (i + 1) members) ≡ before ++ key_of pool m ∷ [] = keys_more pool members i m lt is in
-    let fresh : list_any (same_key (key_of pool m)) before ≡ false = looked_up pool members i m name desc seen n d same ∙ there ∙ ap (λ (b : Bool). cond b false true) new in (
-      now ∙ ap (λ (b : Bool). cond b (seen ++ (name, desc) ∷ []) seen) new ∙ ap₂ (λ (ks : List Key) (k : Key). ks ++ k ∷ []) same (key_of_texts pool m name desc n d) ∙ sym longer,
+    let fresh : list_any (same_key (key_of pool m)) before ≡ false = looked_up pool members i m name desc seen n d same ∙ there
+    ∙ ap (λ (b : Bool). cond b false true) new in (
+      now ∙ ap (λ (b : Bool). cond b (seen ++ (name, desc) ∷ []) seen) new ∙ ap₂ (λ (ks : List Key) (k : Key). ks ++ k ∷ []) same
+          (key_of_texts pool m name desc n d) ∙ sym longer,
       subst (IsDistinct same_key) (sym longer) (distinct_more before (key_of pool m) distinct fresh),
     )
 
 -- a member that an earlier one is equal to
-pub not_distinct : (pool : List PoolEntry) (members : List MemberText) (i : ℕ) (m : MemberText) (name desc : List ℕ) (seen : List Key) (added : Bool) → i < length members → get_or members i m ≡ m
+pub not_distinct : (pool : List PoolEntry) (members : List MemberText) (i : ℕ) (m : MemberText) (name desc : List ℕ)
+    (seen : List Key) (added : Bool) → i < length members → get_or members i m ≡ m
     → name ≡ text_of pool m.name → desc ≡ text_of pool m.desc → seen ≡ map (key_of pool) (take i members)
     → list_any (same_key (name, desc)) seen ≡ cond added false true → added ≡ false → AreDistinct pool members → ⊥
 not_distinct pool members i m name desc seen added lt is n d same there old distinct =
     let before : List Key = map (key_of pool) (take i members) in
     let after : List Key = map (key_of pool) (drop (suc i) members) in
-    let parts : map (key_of pool) members ≡ before ++ key_of pool m ∷ after = ap (map (key_of pool)) (split_at members i m lt is) ∙ map-append (key_of pool) (take i members) (m ∷ drop (suc i) members) in
-    let new : list_any (same_key (key_of pool m)) before ≡ false = distinct_new before (key_of pool m) after (subst (IsDistinct same_key) parts distinct) in
-    let found : list_any (same_key (key_of pool m)) before ≡ true = looked_up pool members i m name desc seen n d same ∙ there ∙ ap (λ (b : Bool). cond b false true) old in
+    let parts : map (key_of pool) members ≡ before ++ key_of pool m ∷ after = ap (map (key_of pool)) (split_at members i m lt is)
+    ∙ map-append (key_of pool) (take i members) (m ∷ drop (suc i) members) in
+    let new : list_any (same_key (key_of pool m)) before ≡ false = distinct_new before (key_of pool m) after
+    (subst (IsDistinct same_key) parts distinct) in
+    let found : list_any (same_key (key_of pool m)) before ≡ true = looked_up pool members i m name desc seen n d same ∙ there
+    ∙ ap (λ (b : Bool). cond b false true) old in
     false≢true (sym new ∙ found)
 
 -- ---- the pool
 
-pub pool_is : (text : List ℕ) (entries others : List PoolEntry) (v : Unread) → text ≡ pool_bytes entries → HasTexts entries → Spells (unread text 0) others v → entries ≡ others
+pub pool_is : (text : List ℕ) (entries others : List PoolEntry) (v : Unread) → text ≡ pool_bytes entries → HasTexts entries
+    → Spells (unread text 0) others v → entries ≡ others
 pool_is text entries others v same texts s =
     let whole : pool_bytes entries ++ [] ≡ text = append-nil (pool_bytes entries) ∙ sym same in
-    sym (same_pool 0 entries others [] v texts (subst (λ (bytes : List ℕ). Spells (record { at = 0; bytes = bytes }) others v) (sym whole) s))
+    sym (same_pool 0 entries others [] v texts
+    (subst (λ (bytes : List ℕ). Spells (record { at = 0; bytes = bytes }) others v) (sym whole) s))
 
 -- ---- the class
 
@@ -144,6 +164,8 @@ formed pool c same holds =
       attributes = h.attributes.1;
     }
 
-pub methods_of : (pool : List PoolEntry) (c : ClassText) → c.pool ≡ pool → WellFormed c → (length c.methods < 2 ^ 16) × AllByRecursion (IsMethod pool) c.methods × AreDistinct pool c.methods
+pub methods_of : (pool : List PoolEntry) (c : ClassText) → c.pool ≡ pool → WellFormed c
+    → (length c.methods < 2 ^ 16) × AllByRecursion (IsMethod pool) c.methods × AreDistinct pool c.methods
 methods_of pool c same w =
-    subst (λ (p : List PoolEntry). (length c.methods < 2 ^ 16) × AllByRecursion (IsMethod p) c.methods × AreDistinct p c.methods) same (w.methods_fit, w.methods, w.methods_differ)
+    subst (λ (p : List PoolEntry). (length c.methods < 2 ^ 16) × AllByRecursion (IsMethod p) c.methods × AreDistinct p c.methods)
+    same (w.methods_fit, w.methods, w.methods_differ)

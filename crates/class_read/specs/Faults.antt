@@ -3,7 +3,9 @@ use Rattle.std.specs.Prelude.{ℕ, List, [], ◌∷◌, codes}
 use Rattle.list_views.specs.FaultWords.{joined, number_field}
 use Rattle.class_pool.specs.Faults.{fault_name as pool_fault_name, fault_fields as pool_fault_fields}
 use Rattle.class_read.specs.declared.fault.ClassFault.{ClassFault}
-use Rattle.class_read.specs.declared.fault.ClassFault.TheVariants.{BadMagic, Version, Pool, Truncated, BadDescriptor, DuplicateMember, CodeLength, MissingCode, ExtraCode, TrailingBytes, Memory}
+use Rattle.class_read.specs.declared.fault.ClassFault.TheVariants.{BadMagic, Version, Pool, Truncated, BadDescriptor}
+use Rattle.class_read.specs.declared.fault.ClassFault.TheVariants.{DuplicateMember, CodeLength, MissingCode, ExtraCode}
+use Rattle.class_read.specs.declared.fault.ClassFault.TheVariants.{TrailingBytes, Memory}
 
 abbrev pub fault_name : ClassFault → List ℕ
 fault_name BadMagic = codes "BadMagic"

@@ -1,6 +1,7 @@
 -- The class that bytes spell, or the first fault: the fields of the file in their order, and each rule where the last
 -- field that it speaks of ends.
-use Rattle.std.specs.Prelude.{◌≡◌, ◌&&◌, ◌||◌, ◌==◌, ℕ, ◌-◌, not, Bool, false, List, [], length, map, drop, Option, Some, None, Result, Ok, Err, is_some, is_none, nat_lt, nat_le, if◌then◌else◌}
+use Rattle.std.specs.Prelude.{◌≡◌, ◌&&◌, ◌||◌, ◌==◌, ℕ, ◌-◌, not, Bool, false, List, [], length, map, drop, Option, Some, None}
+use Rattle.std.specs.Prelude.{Result, Ok, Err, is_some, is_none, nat_lt, nat_le, if◌then◌else◌}
 use Rattle.std.specs.Option.{option_map_or}
 use Rattle.std.specs.List.{list_any}
 use Rattle.std.specs.Str.{bytes_eq}
@@ -11,14 +12,16 @@ use Rattle.class_pool.specs.declared.fault.PoolFault.TheVariants as pools
 use Rattle.class_pool.specs.Text.{Unread}
 use Rattle.class_pool.specs.Reading.{pool_at}
 use Rattle.class_read.specs.declared.fault.ClassFault.{ClassFault}
-use Rattle.class_read.specs.declared.fault.ClassFault.TheVariants.{BadMagic, Version, Pool, BadDescriptor, DuplicateMember, CodeLength, MissingCode, ExtraCode, TrailingBytes, Memory}
+use Rattle.class_read.specs.declared.fault.ClassFault.TheVariants.{BadMagic, Version, Pool, BadDescriptor, DuplicateMember}
+use Rattle.class_read.specs.declared.fault.ClassFault.TheVariants.{CodeLength, MissingCode, ExtraCode, TrailingBytes, Memory}
 use Rattle.class_base.specs.declared.member_kind.MemberKind.{MemberKind}
 use Rattle.class_base.specs.declared.member_kind.MemberKind.TheVariants.{Field, Method}
 use Rattle.class_base.specs.ClassNames.{is_class_name}
 use Rattle.class_base.specs.MemberKinds.{is_descriptor}
 pub use Rattle.class_base.specs.Members.{Key}
 use Rattle.class_read.specs.Content.{Handler, FieldContent, CodeContent, MethodContent, ClassContent}
-use Rattle.class_read.specs.Reading.{Read, ◌>>=◌, pure, place, passing, holding, u2_at, u4_at, bytes_at, named_at, sized_at, repeated, collected}
+use Rattle.class_read.specs.Reading.{Read, ◌>>=◌, pure, place, passing, holding, u2_at, u4_at, bytes_at, named_at, sized_at}
+use Rattle.class_read.specs.Reading.{repeated, collected}
 use Rattle.class_read.specs.Text.{magic_number}
 use Rattle.class_read.specs.Rules.{code_name, has_code, same_key, is_read_major}
 

@@ -1,5 +1,6 @@
 -- Reading from left to right: a field's value and the bytes after it, or the first fault and its place.
-use Rattle.std.specs.Prelude.{ℕ, zero, suc, ◌-◌, Bool, true, false, List, [], ◌∷◌, ◌++◌, length, take, drop, Option, Some, None, Result, Ok, Err, nat_lt, ◌==◌, if◌then◌else◌}
+use Rattle.std.specs.Prelude.{ℕ, zero, suc, ◌-◌, Bool, true, false, List, [], ◌∷◌, ◌++◌, length, take, drop, Option, Some, None}
+use Rattle.std.specs.Prelude.{Result, Ok, Err, nat_lt, ◌==◌, if◌then◌else◌}
 use Rattle.std.specs.Int.{w16, w32, from_be_bytes}
 use Rattle.list_views.specs.Results as results
 use Rattle.list_views.specs.Results.{IsDue}
@@ -37,15 +38,18 @@ holding test fault total bytes = if test then Ok (tt, bytes) else Err (fault (pl
 
 -- A number of two bytes, the higher first.
 abbrev pub u2_at : ℕ → List ℕ → Read ℕ
-u2_at total bytes = if nat_lt (length bytes) 2 then Err (Truncated (place total bytes)) else Ok (from_be_bytes w16 (take 2 bytes), drop 2 bytes)
+u2_at total bytes = if nat_lt (length bytes) 2 then Err (Truncated (place total bytes)) else Ok
+    (from_be_bytes w16 (take 2 bytes), drop 2 bytes)
 
 -- A number of four bytes, the highest first.
 abbrev pub u4_at : ℕ → List ℕ → Read ℕ
-u4_at total bytes = if nat_lt (length bytes) 4 then Err (Truncated (place total bytes)) else Ok (from_be_bytes w32 (take 4 bytes), drop 4 bytes)
+u4_at total bytes = if nat_lt (length bytes) 4 then Err (Truncated (place total bytes)) else Ok
+    (from_be_bytes w32 (take 4 bytes), drop 4 bytes)
 
 -- `count` bytes.
 abbrev pub bytes_at : ℕ → ℕ → List ℕ → Read (List ℕ)
-bytes_at total count bytes = if nat_lt (length bytes) count then Err (Truncated (place total bytes)) else Ok (take count bytes, drop count bytes)
+bytes_at total count bytes = if nat_lt (length bytes) count then Err (Truncated (place total bytes)) else Ok
+    (take count bytes, drop count bytes)
 
 abbrev pub found : {A : Type 0} → Option A → ClassFault → List ℕ → Read A
 found (Some x) fault rest = Ok (x, rest)

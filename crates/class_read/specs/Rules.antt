@@ -1,5 +1,6 @@
 -- The rules that a class file keeps, and the class that it spells (JVM specification, SE 8, chapter 4).
-use Rattle.std.specs.Prelude.{◌≡◌, ◌≢◌, ◌&&◌, ◌||◌, ℕ, ◌<◌, ◌^◌, ◌⊎◌, not, Bool, true, false, List, [], ◌∷◌, length, map, Option, Some, None, IsSome, unwrap_or, nat_le, if◌then◌else◌}
+use Rattle.std.specs.Prelude.{◌≡◌, ◌≢◌, ◌&&◌, ◌||◌, ℕ, ◌<◌, ◌^◌, ◌⊎◌, not, Bool, true, false, List, [], ◌∷◌, length, map, Option}
+use Rattle.std.specs.Prelude.{Some, None, IsSome, unwrap_or, nat_le, if◌then◌else◌}
 use Rattle.std.specs.List.{AllByRecursion, IsDistinct}
 use Rattle.class_pool.specs.Text.{IsPool, utf8_at, class_name_at}
 use Rattle.class_pool.specs.declared.entry.PoolEntry.{PoolEntry}
@@ -55,7 +56,8 @@ pub record IsHandler (pool : List PoolEntry) (h : Handler) : Type 0 where
   pub catch : (h.catch ≡ 0) ⊎ IsClass pool h.catch
 
 -- A method's attribute. The one that is named `Code` is read as code, with 1 to 65,535 bytes of code.
-pub record IsCode (pool : List PoolEntry) (name max_stack max_locals : ℕ) (code : List ℕ) (table : List Handler) (attributes : List (ℕ × List ℕ)) : Type 0 where
+pub record IsCode (pool : List PoolEntry) (name max_stack max_locals : ℕ) (code : List ℕ) (table : List Handler)
+    (attributes : List (ℕ × List ℕ)) : Type 0 where
   pub name_is : IsText pool name
   pub named : text_of pool name ≡ code_name
   pub stack_fits : max_stack < 2 ^ 16
@@ -155,7 +157,13 @@ abbrev pub field_of : List PoolEntry → MemberText → FieldContent
 field_of pool m = record { flags = m.flags; name = text_of pool m.name; desc = text_of pool m.desc }
 
 abbrev pub method_of : List PoolEntry → MemberText → MethodContent
-method_of pool m = record { flags = m.flags; name = text_of pool m.name; desc = text_of pool m.desc; code = first_of (codes_in m.attributes) }
+method_of pool m = record {
+  flags = m.flags;
+  name = text_of pool m.name;
+  desc = text_of pool m.desc;
+  code = first_of
+      (codes_in m.attributes);
+}
 
 -- what a text says, by the entries that its indexes name
 abbrev pub content_of : ClassText → ClassContent

@@ -35,7 +35,8 @@ code_text max_stack max_locals code table attributes =
 
 abbrev pub attr_text : AttrText → List ℕ
 attr_text (Skipped name content) = attribute_text (name, content)
-attr_text (Code name max_stack max_locals code table attributes) = attribute_text (name, code_text max_stack max_locals code table attributes)
+attr_text (Code name max_stack max_locals code table attributes) = attribute_text
+    (name, code_text max_stack max_locals code table attributes)
 
 -- a field or a method
 abbrev pub member_text : MemberText → List ℕ
@@ -48,4 +49,5 @@ magic_number = 0xcafebabe
 abbrev pub class_bytes : ClassText → List ℕ
 class_bytes c =
     u4 magic_number ++ (u2 c.minor ++ (u2 c.major ++ (pool_bytes c.pool ++ (u2 c.flags ++ (u2 c.this_index ++ (u2 c.super_index
-    ++ (counted u2 c.interfaces ++ (counted member_text c.fields ++ (counted member_text c.methods ++ counted attr_text c.attributes)))))))))
+    ++ (counted u2 c.interfaces
+    ++ (counted member_text c.fields ++ (counted member_text c.methods ++ counted attr_text c.attributes)))))))))

@@ -33,7 +33,9 @@ pub record HasClassText (c : ClassText) : Type 0 where
 
 -- a class's bytes up to the interfaces, and from there on
 abbrev pub front_text : ClassText → List ℕ
-front_text c = u4 magic_number ++ (u2 c.minor ++ (u2 c.major ++ (pool_bytes c.pool ++ (u2 c.flags ++ (u2 c.this_index ++ u2 c.super_index)))))
+front_text c = u4 magic_number
+    ++ (u2 c.minor ++ (u2 c.major ++ (pool_bytes c.pool ++ (u2 c.flags ++ (u2 c.this_index ++ u2 c.super_index)))))
 
 abbrev pub lists_text : ClassText → List ℕ
-lists_text c = counted u2 c.interfaces ++ (counted member_text c.fields ++ (counted member_text c.methods ++ counted attr_text c.attributes))
+lists_text c = counted u2 c.interfaces
+    ++ (counted member_text c.fields ++ (counted member_text c.methods ++ counted attr_text c.attributes))

@@ -6,7 +6,8 @@ ghost use Rattle.class_read.specs.Numbers.{keys_in, AreNumbers, Joins};
 ghost use Rattle.class_read.specs.Reading.{Gives, repeated};
 ghost use Rattle.class_read.specs.View.{field_content, method_content};
 ghost use Rattle.class_read.specs.Rules.{has_code};
-ghost use Rattle.class_read.specs.FirstFault.{descriptor_at, new_descriptor_at, head_at, field_at, method_at, more_fields_at, more_methods_at, fields_at, methods_at};
+ghost use Rattle.class_read.specs.FirstFault.{descriptor_at, new_descriptor_at, head_at, field_at, method_at, more_fields_at};
+ghost use Rattle.class_read.specs.FirstFault.{more_methods_at, fields_at, methods_at};
 
 use crate::attribute::{attributes, indexed_text};
 use crate::fault::ClassFault;
@@ -58,7 +59,8 @@ fn new_descriptor<'a>(
 ) -> Result<(&'a [u8], &'a [u8]), ClassFault>
     requires numbers { AreNumbers pool.now seen.old }
     requires name { utf8_at pool.now index ≡ Some name.now }
-    ensures desc { Gives (λ x. (x.0.now, x.1.now)) result (new_descriptor_at total pool.now kind (keys_in pool.now seen.old) flags name.now bytes.now) }
+    ensures desc { Gives (λ x. (x.0.now, x.1.now)) result
+        (new_descriptor_at total pool.now kind (keys_in pool.now seen.old) flags name.now bytes.now) }
     ensures joins { IfOk result (λ x. Joins pool.now seen.old seen.new (name.now, x.0.now)) }
 {
     let ((desc_index, desc), rest) = descriptor(total, pool, kind, flags, bytes)?;

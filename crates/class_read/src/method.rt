@@ -3,7 +3,8 @@
 ghost use Rattle.std.specs.Prelude.{◌≡◌, Ok, None};
 ghost use Rattle.class_read.specs.Reading.{Gives, repeated};
 ghost use Rattle.class_read.specs.View.{code_contents};
-ghost use Rattle.class_read.specs.FirstFault.{is_code_name, may_stand, method_name_at, code_found_at, no_code_at, method_attribute_at, method_attributes_at};
+ghost use Rattle.class_read.specs.FirstFault.{is_code_name, may_stand, method_name_at, code_found_at, no_code_at};
+ghost use Rattle.class_read.specs.FirstFault.{method_attribute_at, method_attributes_at};
 
 use crate::attribute::{content, text};
 use crate::code::code;
@@ -78,7 +79,8 @@ fn attribute<'a>(
     found: Option<CodeView<'a>>,
     bytes: &'a [u8],
 ) -> Result<(Option<CodeView<'a>>, &'a [u8]), ClassFault>
-    ensures { Gives (λ x. (code_contents x.0, x.1.now)) result (method_attribute_at total pool.now coded (code_contents found.entry) bytes.now) }
+    ensures { Gives (λ x. (code_contents x.0, x.1.now)) result
+        (method_attribute_at total pool.now coded (code_contents found.entry) bytes.now) }
 {
     let (name, rest) = name(total, pool, coded, &found, bytes)?;
     if is_code_name(name) {

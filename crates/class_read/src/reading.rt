@@ -6,7 +6,8 @@ ghost use Rattle.class_read.specs.Reading.{Gives, repeated, collected};
 ghost use Rattle.class_read.specs.Content.{ClassContent};
 ghost use Rattle.class_read.specs.View.{class_content};
 ghost use Rattle.class_read.specs.Rules.{is_read_major, Spells};
-ghost use Rattle.class_read.specs.FirstFault.{class_index_at, interfaces_at, magic_at, major_at, of_pool, IsEnd, pool_field_at, end_at, lists_at, body_at, file_at, class_in};
+ghost use Rattle.class_read.specs.FirstFault.{class_index_at, interfaces_at, magic_at, major_at, of_pool, IsEnd, pool_field_at};
+ghost use Rattle.class_read.specs.FirstFault.{end_at, lists_at, body_at, file_at, class_in};
 
 use crate::attribute::{attributes, class_index};
 use crate::fault::ClassFault;
@@ -53,7 +54,8 @@ fn interface_times<'a>(
     count: u16,
     bytes: &'a [u8],
 ) -> Result<&'a [u8], ClassFault>
-    ensures { Gives (λ x. (map (λ i. i.now) interfaces.new, x.now)) result (repeated (collected (class_index_at total pool.now)) count (map (λ i. i.now) interfaces.old) bytes.now) }
+    ensures { Gives (λ x. (map (λ i. i.now) interfaces.new, x.now)) result
+        (repeated (collected (class_index_at total pool.now)) count (map (λ i. i.now) interfaces.old) bytes.now) }
 {
     let mut rest = bytes;
     'interfaces: for _ in 0..count {
@@ -130,7 +132,8 @@ fn put_lists<'a>(
     requires interfaces { lists.old.interfaces ≡ [] }
     requires fields { lists.old.fields ≡ [] }
     requires methods { lists.old.methods ≡ [] }
-    ensures { Gives (λ x. (class_content pool.now front.entry lists.new, x.now)) result (lists_at total pool.now front.entry.major front.entry.flags front.entry.name.now front.entry.super_name.now bytes.now) }
+    ensures { Gives (λ x. (class_content pool.now front.entry lists.new, x.now)) result
+        (lists_at total pool.now front.entry.major front.entry.flags front.entry.name.now front.entry.super_name.now bytes.now) }
 {
     let rest = interfaces(total, pool, &mut lists.interfaces, bytes)?;
     let rest = fields(alloc, total, pool, &mut lists.fields, rest)?;

@@ -5,7 +5,8 @@ ghost use Rattle.std.specs.List.{flat_map, AllByRecursion};
 ghost use Rattle.class_read.specs.Text.{attribute_text, code_text};
 ghost use Rattle.class_read.specs.Writing.{HasAttributeText};
 ghost use Rattle.class_base.specs.MemberKinds.{IsDescriptor};
-ghost use Rattle.class_read.specs.Rules.{text_of, IsText, IsClass, code_name, IsAttribute, IsHandler, IsCode, IsMethodAttribute, IsOtherAttribute, is_code_attribute, codes_in, has_code, IsMember, IsField, IsMethod};
+ghost use Rattle.class_read.specs.Rules.{text_of, IsText, IsClass, code_name, IsAttribute, IsHandler, IsCode, IsMethodAttribute};
+ghost use Rattle.class_read.specs.Rules.{IsOtherAttribute, is_code_attribute, codes_in, has_code, IsMember, IsField, IsMethod};
 
 use crate::member::has_code;
 use crate::method::is_code_name;
@@ -106,7 +107,8 @@ fn content_fits(code: &[u8], table: &[Handler], attributes: &[(u16, Seq<u8>)]) -
     requires table_fits { length table.now < 2 ^ 16 }
     requires attributes_fit { length attributes.now < 2 ^ 16 }
     requires each { AllByRecursion HasAttributeText attributes.now }
-    ensures { (max_stack max_locals : ℕ) → IsTrue result ↔ (length (code_text max_stack max_locals code.now table.now attributes.now) < 2 ^ 32) }
+    ensures { (max_stack max_locals : ℕ)
+        → IsTrue result ↔ (length (code_text max_stack max_locals code.now table.now attributes.now) < 2 ^ 32) }
 {
     12 + code.len() + 8 * table.len() + attributes_size(attributes) <= 0xffff_ffff
 }
@@ -121,7 +123,8 @@ fn names_code(pool: &Pool<'_>, name: u16) -> bool
 }
 
 fn counts_fit(code: &[u8], table: &[Handler], attributes: &[(u16, Seq<u8>)]) -> bool
-    ensures { IsTrue result ↔ ((0 < length code.now) × (length code.now < 2 ^ 16) × (length table.now < 2 ^ 16) × (length attributes.now < 2 ^ 16)) }
+    ensures { IsTrue result ↔ ((0 < length code.now) × (length code.now < 2 ^ 16) × (length table.now < 2 ^ 16)
+        × (length attributes.now < 2 ^ 16)) }
 {
     0 < code.len() && code.len() <= 0xffff && table.len() <= 0xffff && attributes.len() <= 0xffff
 }

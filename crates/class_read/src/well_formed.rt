@@ -28,7 +28,9 @@ fn are_distinct(alloc: Global, pool: &Pool<'_>, members: &[MemberText]) -> Resul
 }
 
 fn fields_hold(alloc: Global, pool: &Pool<'_>, fields: &Seq<MemberText>) -> Result<bool, AllocError>
-    ensures { IfOk result (λ b. IsTrue b ↔ ((length fields.now < 2 ^ 16) × AllByRecursion (IsField pool.now) fields.now × AreDistinct pool.now fields.now)) }
+    ensures { IfOk result
+        (λ b. IsTrue b ↔ ((length fields.now < 2 ^ 16) × AllByRecursion (IsField pool.now) fields.now
+        × AreDistinct pool.now fields.now)) }
 {
     if fields.len() > 0xffff {
         return Ok(false);
@@ -44,7 +46,9 @@ fn methods_hold(
     pool: &Pool<'_>,
     methods: &Seq<MemberText>,
 ) -> Result<bool, AllocError>
-    ensures { IfOk result (λ b. IsTrue b ↔ ((length methods.now < 2 ^ 16) × AllByRecursion (IsMethod pool.now) methods.now × AreDistinct pool.now methods.now)) }
+    ensures { IfOk result
+        (λ b. IsTrue b ↔ ((length methods.now < 2 ^ 16) × AllByRecursion (IsMethod pool.now) methods.now
+        × AreDistinct pool.now methods.now)) }
 {
     if methods.len() > 0xffff {
         return Ok(false);

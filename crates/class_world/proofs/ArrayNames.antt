@@ -17,7 +17,8 @@ use Rattle.class_world.specs.BuiltIns.{IsWorld}
 named_breaks : (world : World) (i : ℕ) (c : ClassContent) → is_array_interface c.name ≡ true → duplicate_class world i c ≡ None → ⊥
 unfolding duplicate_class
 named_breaks world i c named kept =
-    let says : Bool → Option LinkFault = λ b. cond (not b && option_map_or (λ first. eqb first i) (class_of world c.name) false) None (Some (DuplicateClass c.name)) in
+    let says : Bool → Option LinkFault = λ b. cond (not b && option_map_or (λ first. eqb first i) (class_of world c.name) false)
+    None (Some (DuplicateClass c.name)) in
     let broken : Some (DuplicateClass c.name) ≡ None = sym (ap says named) ∙ kept in
     cc
 
@@ -31,4 +32,5 @@ no_array_class world known name named = go (class_of world name) refl
         let c = get_or world i d in
         let at = position-Some (λ x. bytes_eq name x.name) world i d e in
         let same : name ≡ c.name = (bytes_decides name c.name).0 at.1 in
-        absurd (named_breaks world i c (ap is_array_interface (sym same) ∙ named) ((linked_from world known.linked).distinct i c (slice_get-get_or world i d at.0)))
+        absurd (named_breaks world i c (ap is_array_interface (sym same) ∙ named)
+        ((linked_from world known.linked).distinct i c (slice_get-get_or world i d at.0)))

@@ -11,9 +11,12 @@ end_below world a c b [] w = subst (λ (x : ℕ). x < length world) w.1 (supers_
 end_below world a c b (d ∷ p) w = end_below world c d b p w.1
 
 -- no class is below one that isn't there
-pub not_below : (world : World) (a b : ℕ) (there : Bool) → a < length world → length world ≤ b → there ≡ ltb b (length world) → there ≡ is_class_below world a b
+pub not_below : (world : World) (a b : ℕ) (there : Bool) → a < length world → length world ≤ b → there ≡ ltb b (length world)
+    → there ≡ is_class_below world a b
 unfolding is_class_below is_above
-not_below world a b there l m t = t ∙ first (ltb b (length world)) refl ∙ sym (or_from _ _ (or_from _ _ (root (eqb b 0) refl) (same (eqb a b) refl)) (over (leads_up (supers_of world) (length world) a b) refl))
+not_below world a b there l m t = t ∙ first (ltb b (length world)) refl
+    ∙ sym (or_from _ _ (or_from _ _ (root (eqb b 0) refl) (same (eqb a b) refl))
+    (over (leads_up (supers_of world) (length world) a b) refl))
   where
     first : (x : Bool) → ltb b (length world) ≡ x → ltb b (length world) ≡ false
     first true e = absurd (omega (arith, ltb-true b (length world) e, m))

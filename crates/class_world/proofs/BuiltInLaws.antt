@@ -1,5 +1,6 @@
 -- What worlds know of the built-in classes.
-use Rattle.std.proofs.Common.{◌≡◌, ◌≢◌, ℕ, zero, suc, ◌<◌, Bool, true, false, not, cond, eqb, ltb, List, [], ◌++◌, length, drop, Option, Some, None, sym, refl, ap, ◌∙◌, subst, inl, arith, length-append}
+use Rattle.std.proofs.Common.{◌≡◌, ◌≢◌, ℕ, zero, suc, ◌<◌, Bool, true, false, not, cond, eqb, ltb, List, [], ◌++◌, length, drop}
+use Rattle.std.proofs.Common.{Option, Some, None, sym, refl, ap, ◌∙◌, subst, inl, arith, length-append}
 use Rattle.std.specs.Prelude.{position, slice_get, option_and_then, codes}
 use Rattle.std.specs.List.{prefix_len}
 use Rattle.std.specs.Str.{bytes_eq}
@@ -18,7 +19,8 @@ use Rattle.class_world.proofs.Prefixes.{fields_step}
 use Rattle.class_world.proofs.Found.{super_below, further_below}
 
 -- what holds of each of the fifteen
-each : (P : ℕ → Type 0) → P 0 → P 1 → P 2 → P 3 → P 4 → P 5 → P 6 → P 7 → P 8 → P 9 → P 10 → P 11 → P 12 → P 13 → P 14 → (class : ℕ) → class < 15 → P class
+each : (P : ℕ → Type 0) → P 0 → P 1 → P 2 → P 3 → P 4 → P 5 → P 6 → P 7 → P 8 → P 9 → P 10 → P 11 → P 12 → P 13 → P 14 → (class : ℕ)
+    → class < 15 → P class
 each P a b c d e f g h i j k l m n o zero s = a
 each P a b c d e f g h i j k l m n o (suc zero) s = b
 each P a b c d e f g h i j k l m n o (suc (suc zero)) s = c
@@ -34,10 +36,12 @@ each P a b c d e f g h i j k l m n o (suc (suc (suc (suc (suc (suc (suc (suc (su
 each P a b c d e f g h i j k l m n o (suc (suc (suc (suc (suc (suc (suc (suc (suc (suc (suc (suc zero)))))))))))) s = m
 each P a b c d e f g h i j k l m n o (suc (suc (suc (suc (suc (suc (suc (suc (suc (suc (suc (suc (suc zero))))))))))))) s = n
 each P a b c d e f g h i j k l m n o (suc (suc (suc (suc (suc (suc (suc (suc (suc (suc (suc (suc (suc (suc zero)))))))))))))) s = o
-each P a b c d e f g h i j k l m n o (suc (suc (suc (suc (suc (suc (suc (suc (suc (suc (suc (suc (suc (suc (suc class))))))))))))))) s = absurd (omega (arith, s))
+each P a b c d e f g h i j k l m n o (suc (suc (suc (suc (suc (suc (suc (suc (suc (suc (suc (suc (suc (suc (suc class)))))))))))))))
+    s = absurd (omega (arith, s))
 
 -- the first that passes, where so many do not
-position_at : (p : ClassContent → Bool) (xs : List ClassContent) (k : ℕ) → prefix_len (λ x. not (p x)) xs ≡ k → k < length xs → position p xs ≡ Some k
+position_at : (p : ClassContent → Bool) (xs : List ClassContent) (k : ℕ) → prefix_len (λ x. not (p x)) xs ≡ k → k < length xs
+    → position p xs ≡ Some k
 position_at p xs k e l =
     let found : ℕ → Option ℕ = λ n. cond (ltb n (length xs)) (Some n) None in
     ap found e ∙ ap (λ b. cond b (Some k) None) (lt-ltb k (length xs) l)
@@ -49,22 +53,26 @@ module _ (given : List ClassContent) where
 
   made : (class : ℕ) → class < 15 → can_be_made (world_of given) class ≡ true
   unfolding can_be_made built_in_names
-  made = each (λ class. can_be_made (world_of given) class ≡ true) refl refl refl refl refl refl refl refl refl refl refl refl refl refl refl
+  made = each (λ class. can_be_made (world_of given) class ≡ true) refl refl refl refl refl refl refl refl refl refl refl refl refl
+      refl refl
 
   without_own : (class : ℕ) → class < 15 → own_slots (world_of given) class ≡ []
   unfolding own_slots built_in_names
-  without_own = each (λ class. own_slots (world_of given) class ≡ []) refl refl refl refl refl refl refl refl refl refl refl refl refl refl refl
+  without_own = each (λ class. own_slots (world_of given) class ≡ []) refl refl refl refl refl refl refl refl refl refl refl refl
+      refl refl refl
 
   root_fields : fields_of (world_of given) 0 ≡ []
   unfolding fields_of own_slots line_of built_in_names
   root_fields = refl
 
   -- a built-in class by its name
-  named : (name : List ℕ) (k : ℕ) → k < 15 → prefix_len (λ c. not (bytes_eq name c.name)) (world_of given) ≡ k → class_of (world_of given) name ≡ Some k
+  named : (name : List ℕ) (k : ℕ) → k < 15 → prefix_len (λ c. not (bytes_eq name c.name)) (world_of given) ≡ k
+      → class_of (world_of given) name ≡ Some k
   named name k l e = position_at (λ c. bytes_eq name c.name) (world_of given) k e (there k l)
 
   -- the superclass of each
-  super_is : (over class : ℕ) (c : ClassContent) → eqb class 0 ≡ false → slice_get (world_of given) class ≡ Some c → over < 15 → prefix_len (λ x. not (bytes_eq c.super_name x.name)) (world_of given) ≡ over → super_of (world_of given) class ≡ Some over
+  super_is : (over class : ℕ) (c : ClassContent) → eqb class 0 ≡ false → slice_get (world_of given) class ≡ Some c → over < 15
+      → prefix_len (λ x. not (bytes_eq c.super_name x.name)) (world_of given) ≡ over → super_of (world_of given) class ≡ Some over
   super_is over class c z s l e =
       ap (λ b. cond b None (option_and_then (λ x. class_of (world_of given) x.super_name) (slice_get (world_of given) class))) z
       ∙ ap (option_and_then (λ x. class_of (world_of given) x.super_name)) s
@@ -84,31 +92,38 @@ module _ (given : List ClassContent) where
 
   under_4 : super_of (world_of given) 4 ≡ Some 3
   unfolding built_in_names
-  under_4 = super_is 3 4 (built_in (codes "java/lang/NullPointerException") (codes "java/lang/RuntimeException")) refl refl (omega arith) refl
+  under_4 = super_is 3 4 (built_in (codes "java/lang/NullPointerException") (codes "java/lang/RuntimeException")) refl refl
+      (omega arith) refl
 
   under_5 : super_of (world_of given) 5 ≡ Some 3
   unfolding built_in_names
-  under_5 = super_is 3 5 (built_in (codes "java/lang/ArithmeticException") (codes "java/lang/RuntimeException")) refl refl (omega arith) refl
+  under_5 = super_is 3 5 (built_in (codes "java/lang/ArithmeticException") (codes "java/lang/RuntimeException")) refl refl
+      (omega arith) refl
 
   under_6 : super_of (world_of given) 6 ≡ Some 3
   unfolding built_in_names
-  under_6 = super_is 3 6 (built_in (codes "java/lang/IndexOutOfBoundsException") (codes "java/lang/RuntimeException")) refl refl (omega arith) refl
+  under_6 = super_is 3 6 (built_in (codes "java/lang/IndexOutOfBoundsException") (codes "java/lang/RuntimeException")) refl refl
+      (omega arith) refl
 
   under_7 : super_of (world_of given) 7 ≡ Some 6
   unfolding built_in_names
-  under_7 = super_is 6 7 (built_in (codes "java/lang/ArrayIndexOutOfBoundsException") (codes "java/lang/IndexOutOfBoundsException")) refl refl (omega arith) refl
+  under_7 = super_is 6 7 (built_in (codes "java/lang/ArrayIndexOutOfBoundsException") (codes "java/lang/IndexOutOfBoundsException"))
+      refl refl (omega arith) refl
 
   under_8 : super_of (world_of given) 8 ≡ Some 3
   unfolding built_in_names
-  under_8 = super_is 3 8 (built_in (codes "java/lang/NegativeArraySizeException") (codes "java/lang/RuntimeException")) refl refl (omega arith) refl
+  under_8 = super_is 3 8 (built_in (codes "java/lang/NegativeArraySizeException") (codes "java/lang/RuntimeException")) refl refl
+      (omega arith) refl
 
   under_9 : super_of (world_of given) 9 ≡ Some 3
   unfolding built_in_names
-  under_9 = super_is 3 9 (built_in (codes "java/lang/ClassCastException") (codes "java/lang/RuntimeException")) refl refl (omega arith) refl
+  under_9 = super_is 3 9 (built_in (codes "java/lang/ClassCastException") (codes "java/lang/RuntimeException")) refl refl
+      (omega arith) refl
 
   under_10 : super_of (world_of given) 10 ≡ Some 3
   unfolding built_in_names
-  under_10 = super_is 3 10 (built_in (codes "java/lang/ArrayStoreException") (codes "java/lang/RuntimeException")) refl refl (omega arith) refl
+  under_10 = super_is 3 10 (built_in (codes "java/lang/ArrayStoreException") (codes "java/lang/RuntimeException")) refl refl
+      (omega arith) refl
 
   under_11 : super_of (world_of given) 11 ≡ Some 1
   unfolding built_in_names
@@ -120,14 +135,17 @@ module _ (given : List ClassContent) where
 
   under_13 : super_of (world_of given) 13 ≡ Some 12
   unfolding built_in_names
-  under_13 = super_is 12 13 (built_in (codes "java/lang/IncompatibleClassChangeError") (codes "java/lang/LinkageError")) refl refl (omega arith) refl
+  under_13 = super_is 12 13 (built_in (codes "java/lang/IncompatibleClassChangeError") (codes "java/lang/LinkageError")) refl refl
+      (omega arith) refl
 
   under_14 : super_of (world_of given) 14 ≡ Some 13
   unfolding built_in_names
-  under_14 = super_is 13 14 (built_in (codes "java/lang/AbstractMethodError") (codes "java/lang/IncompatibleClassChangeError")) refl refl (omega arith) refl
+  under_14 = super_is 13 14 (built_in (codes "java/lang/AbstractMethodError") (codes "java/lang/IncompatibleClassChangeError")) refl
+      refl (omega arith) refl
 
   module _ (linked : is_linked (world_of given) ≡ true) where
-    fields_on : (class over : ℕ) → class < 15 → super_of (world_of given) class ≡ Some over → fields_of (world_of given) over ≡ [] → fields_of (world_of given) class ≡ []
+    fields_on : (class over : ℕ) → class < 15 → super_of (world_of given) class ≡ Some over → fields_of (world_of given) over ≡ []
+        → fields_of (world_of given) class ≡ []
     fields_on class over l s e =
         fields_step (world_of given) (linked_from (world_of given) linked) class over (there class l) s
         ∙ ap (λ xs. xs ++ own_slots (world_of given) class) e ∙ without_own class l
@@ -175,9 +193,11 @@ module _ (given : List ClassContent) where
     empty_14 = fields_on 14 13 (omega arith) under_14 empty_13
 
     without_fields : (class : ℕ) → class < 15 → fields_of (world_of given) class ≡ []
-    without_fields = each (λ class. fields_of (world_of given) class ≡ []) root_fields empty_1 empty_2 empty_3 empty_4 empty_5 empty_6 empty_7 empty_8 empty_9 empty_10 empty_11 empty_12 empty_13 empty_14
+    without_fields = each (λ class. fields_of (world_of given) class ≡ []) root_fields empty_1 empty_2 empty_3 empty_4 empty_5
+        empty_6 empty_7 empty_8 empty_9 empty_10 empty_11 empty_12 empty_13 empty_14
 
-    on : (class over : ℕ) → super_of (world_of given) class ≡ Some over → is_class_below (world_of given) over 1 ≡ true → is_class_below (world_of given) class 1 ≡ true
+    on : (class over : ℕ) → super_of (world_of given) class ≡ Some over → is_class_below (world_of given) over 1 ≡ true
+        → is_class_below (world_of given) class 1 ≡ true
     on class over s b = further_below (world_of given) linked class over 1 (super_below (world_of given) linked class over s) b
 
     itself_below : is_class_below (world_of given) 1 1 ≡ true
@@ -223,7 +243,8 @@ module _ (given : List ClassContent) where
     below_14 : is_class_below (world_of given) 14 1 ≡ true
     below_14 = on 14 13 under_14 below_13
 
-    sub_from : (class : ℕ) → class < 15 → is_class_below (world_of given) class 1 ≡ true → is_sub (world_of given) (class_type class) (class_type 1) ≡ true
+    sub_from : (class : ℕ) → class < 15 → is_class_below (world_of given) class 1 ≡ true
+        → is_sub (world_of given) (class_type class) (class_type 1) ≡ true
     sub_from class l b =
         let n = length (world_of given) in
         let order = class_order (world_of given) linked in
@@ -235,7 +256,9 @@ module _ (given : List ClassContent) where
     Throws class = class ≢ 0 → is_class_below (world_of given) class 1 ≡ true
 
     below_throwable : (class : ℕ) → class < 15 → class ≢ 0 → is_class_below (world_of given) class 1 ≡ true
-    below_throwable = each Throws (λ no. absurd (no refl)) (λ _. itself_below) (λ _. below_2) (λ _. below_3) (λ _. below_4) (λ _. below_5) (λ _. below_6) (λ _. below_7) (λ _. below_8) (λ _. below_9) (λ _. below_10) (λ _. below_11) (λ _. below_12) (λ _. below_13) (λ _. below_14)
+    below_throwable = each Throws (λ no. absurd (no refl)) (λ _. itself_below) (λ _. below_2) (λ _. below_3) (λ _. below_4)
+        (λ _. below_5) (λ _. below_6) (λ _. below_7) (λ _. below_8) (λ _. below_9) (λ _. below_10) (λ _. below_11) (λ _. below_12)
+        (λ _. below_13) (λ _. below_14)
 
     of_given : HasBuiltIns (world_of given)
     of_given = record {

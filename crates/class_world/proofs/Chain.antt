@@ -1,5 +1,6 @@
 -- Seeking class by class along a superclass chain.
-use Rattle.std.proofs.Common.{◌≡◌, ◌-◌, ◌+◌, ℕ, suc, ◌<◌, ◌≤◌, Bool, true, false, cond, List, [], ◌∷◌, Option, Some, None, sym, refl, ap, ap₂, ◌∙◌, arith}
+use Rattle.std.proofs.Common.{◌≡◌, ◌-◌, ◌+◌, ℕ, suc, ◌<◌, ◌≤◌, Bool, true, false, cond, List, [], ◌∷◌, Option, Some, None, sym}
+use Rattle.std.proofs.Common.{refl, ap, ap₂, ◌∙◌, arith}
 use Rattle.std.specs.List.{find}
 use Rattle.std.specs.Option.{option_map, option_or}
 use Rattle.class_world.specs.World.{line_from}
@@ -25,7 +26,8 @@ pub find_by : (p : ℕ → Bool) (xs : List ℕ) → find p xs ≡ first_by (whe
 find_by p [] = refl
 find_by p (c ∷ cs) = go (p c) (find_by p cs)
   where
-    go : (b : Bool) → find p cs ≡ first_by (where_true p) cs → cond b (Some c) (find p cs) ≡ option_or (cond b (Some c) None) (first_by (where_true p) cs)
+    go : (b : Bool) → find p cs ≡ first_by (where_true p) cs
+        → cond b (Some c) (find p cs) ≡ option_or (cond b (Some c) None) (first_by (where_true p) cs)
     go true e = refl
     go false e = e
 
@@ -36,18 +38,21 @@ module _ {A : Type 0} (super : ℕ → Option ℕ) (g : ℕ → Option A) (all :
   pub starts : (n class : ℕ) → first_by g (line_from super n class) ≡ all → Goes (n - 0) (Some class)
   starts n class e = let k : n - 0 ≡ n = omega arith in ap (λ x. first_by g (line_from super x class)) k ∙ e
 
-  step : (n i here : ℕ) (next : Option ℕ) → i < n → next ≡ Some here → first_by g (rest_of_line super (n - i) next) ≡ option_or (g here) (first_by g (rest_of_line super (n - (i + 1)) (super here)))
+  step : (n i here : ℕ) (next : Option ℕ) → i < n → next ≡ Some here
+      → first_by g (rest_of_line super (n - i) next) ≡ option_or (g here) (first_by g (rest_of_line super (n - (i + 1)) (super here)))
   step n i here next l s =
       let k : n - i ≡ suc (n - (i + 1)) = omega arith in
       ap₂ (λ x o. first_by g (rest_of_line super x o)) k s
 
-  pub goes_on : (n i here : ℕ) (next next' : Option ℕ) → i < n → Goes (n - i) next → next ≡ Some here → g here ≡ None → next' ≡ super here → Goes (n - (i + 1)) next'
+  pub goes_on : (n i here : ℕ) (next next' : Option ℕ) → i < n → Goes (n - i) next → next ≡ Some here → g here ≡ None
+      → next' ≡ super here → Goes (n - (i + 1)) next'
   goes_on n i here next next' l e s m q =
       ap (λ o. first_by g (rest_of_line super (n - (i + 1)) o)) q
       ∙ sym (ap (λ o. option_or o (first_by g (rest_of_line super (n - (i + 1)) (super here)))) m)
       ∙ sym (step n i here next l s) ∙ e
 
-  pub comes_to : (n i here : ℕ) (next : Option ℕ) (answer : Option A) (x : A) → i < n → Goes (n - i) next → next ≡ Some here → g here ≡ Some x → answer ≡ Some x → answer ≡ all
+  pub comes_to : (n i here : ℕ) (next : Option ℕ) (answer : Option A) (x : A) → i < n → Goes (n - i) next → next ≡ Some here
+      → g here ≡ Some x → answer ≡ Some x → answer ≡ all
   comes_to n i here next answer x l e s m a =
       a ∙ sym (ap (λ o. option_or o (first_by g (rest_of_line super (n - (i + 1)) (super here)))) m) ∙ sym (step n i here next l s) ∙ e
 

@@ -1,5 +1,7 @@
 -- Seeking along a superclass chain up to a class, and among all classes of a world.
-use Rattle.std.proofs.Common.{◌≡◌, ◌||◌, ◌-◌, ◌+◌, ℕ, zero, suc, ◌<◌, ◌≤◌, Bool, true, false, cond, eqb, List, [], ◌∷◌, ◌++◌, length, get_or, drop, Option, Some, None, sym, refl, ap, ap₂, ◌∙◌, subst, inl, inr, arith, zero-add, add-one}
+use Rattle.std.proofs.Common.{◌≡◌, ◌||◌, ◌-◌, ◌+◌, ℕ, zero, suc, ◌<◌, ◌≤◌, Bool, true, false, cond, eqb, List, [], ◌∷◌, ◌++◌}
+use Rattle.std.proofs.Common.{length, get_or, drop, Option, Some, None, sym, refl, ap, ap₂, ◌∙◌, subst, inl, inr, arith, zero-add}
+use Rattle.std.proofs.Common.{add-one}
 use Rattle.std.specs.List.{list_any, range_with_len}
 use Rattle.std.proofs.Math.Seq.{drop-cons}
 use Rattle.std.proofs.lemmas.List.Folds.{list_any-append}
@@ -20,7 +22,8 @@ pub any_below : (p : ℕ → Bool) (n x : ℕ) → x < n → p x ≡ true → li
 any_below p n x l e = AnyOf-here p (range_with_len 0 n) x (in_range 0 n x (omega arith) (omega (arith, l))) e
 
 -- none so far, and not the next one
-pub none_more : (p : ℕ → Bool) (n : ℕ) → list_any p (range_with_len 0 n) ≡ false → p n ≡ false → list_any p (range_with_len 0 (n + 1)) ≡ false
+pub none_more : (p : ℕ → Bool) (n : ℕ) → list_any p (range_with_len 0 n) ≡ false → p n ≡ false
+    → list_any p (range_with_len 0 (n + 1)) ≡ false
 none_more p n none f =
     ap (list_any p) (range_more 0 n) ∙ list_any-append p (range_with_len 0 n) ((0 + n) ∷ [])
     ∙ ap₂ (λ v w. v || (w || false)) none (ap p (zero-add n) ∙ f)
@@ -28,7 +31,8 @@ none_more p n none f =
 -- ---- items of a list
 
 -- the one at a place passes, where what comes from there on decides
-pub any_at : {X : Type 0} (p : X → Bool) (xs : List X) (i : ℕ) (d : X) (all : Bool) → list_any p (drop i xs) ≡ all → i < length xs → p (get_or xs i d) ≡ true → true ≡ all
+pub any_at : {X : Type 0} (p : X → Bool) (xs : List X) (i : ℕ) (d : X) (all : Bool) → list_any p (drop i xs) ≡ all → i < length xs
+    → p (get_or xs i d) ≡ true → true ≡ all
 any_at p xs i d all e l t =
     let a : drop i xs ≡ get_or xs i d ∷ drop (i + 1) xs = rw (add-one) (drop-cons xs i d l) in
     sym (ap (list_any p) a ∙ ap (λ b. b || list_any p (drop (i + 1) xs)) t) ∙ e
@@ -39,7 +43,8 @@ any_past p xs i all e l = sym (ap (list_any p) (drop_past xs i l)) ∙ e
 
 -- ---- up to a class
 
-any_cond : (p : ℕ → Bool) (b : Bool) (here : ℕ) (rest : List ℕ) → list_any p (cond b [] (here ∷ rest)) ≡ cond b false (p here || list_any p rest)
+any_cond : (p : ℕ → Bool) (b : Bool) (here : ℕ) (rest : List ℕ)
+    → list_any p (cond b [] (here ∷ rest)) ≡ cond b false (p here || list_any p rest)
 any_cond p true here rest = refl
 any_cond p false here rest = refl
 
@@ -50,7 +55,9 @@ module _ (super : ℕ → Option ℕ) (p : ℕ → Bool) (end : ℕ) (all : Bool
   pub seek_starts : (n class : ℕ) → list_any p (before end (line_from super n class)) ≡ all → Seeks (n - 0) (Some class)
   seek_starts n class e = let k : n - 0 ≡ n = omega arith in ap (λ x. list_any p (before end (line_from super x class))) k ∙ e
 
-  step : (n i here : ℕ) (next : Option ℕ) → i < n → next ≡ Some here → list_any p (before end (rest_of_line super (n - i) next)) ≡ cond (eqb here end) false (p here || list_any p (before end (rest_of_line super (n - (i + 1)) (super here))))
+  step : (n i here : ℕ) (next : Option ℕ) → i < n → next ≡ Some here
+      → list_any p (before end (rest_of_line super (n - i) next)) ≡ cond (eqb here end) false
+      (p here || list_any p (before end (rest_of_line super (n - (i + 1)) (super here))))
   step n i here next l s =
       let k : n - i ≡ suc (n - (i + 1)) = omega arith in
       ap₂ (λ x o. list_any p (before end (rest_of_line super x o))) k s
@@ -58,15 +65,19 @@ module _ (super : ℕ → Option ℕ) (p : ℕ → Bool) (end : ℕ) (all : Bool
 
   -- the class itself
   pub seek_ends_at : (n i here : ℕ) (next : Option ℕ) → i < n → Seeks (n - i) next → next ≡ Some here → eqb here end ≡ true → false ≡ all
-  seek_ends_at n i here next l e s m = sym (step n i here next l s ∙ ap (λ b. cond b false (p here || list_any p (before end (rest_of_line super (n - (i + 1)) (super here))))) m) ∙ e
+  seek_ends_at n i here next l e s m = sym
+      (step n i here next l s
+      ∙ ap (λ b. cond b false (p here || list_any p (before end (rest_of_line super (n - (i + 1)) (super here))))) m) ∙ e
 
   -- a class that passes
-  pub seek_comes_to : (n i here : ℕ) (next : Option ℕ) (b : Bool) → i < n → Seeks (n - i) next → next ≡ Some here → eqb here end ≡ false → b ≡ p here → b ≡ true → true ≡ all
+  pub seek_comes_to : (n i here : ℕ) (next : Option ℕ) (b : Bool) → i < n → Seeks (n - i) next → next ≡ Some here
+      → eqb here end ≡ false → b ≡ p here → b ≡ true → true ≡ all
   seek_comes_to n i here next b l e s m q t =
       let rest = list_any p (before end (rest_of_line super (n - (i + 1)) (super here))) in
       sym (step n i here next l s ∙ ap₂ (λ v w. cond v false (w || rest)) m (sym q ∙ t)) ∙ e
 
-  pub seek_goes_on : (n i here : ℕ) (next next' : Option ℕ) (b : Bool) → i < n → Seeks (n - i) next → next ≡ Some here → eqb here end ≡ false → b ≡ p here → b ≡ false → next' ≡ super here → Seeks (n - (i + 1)) next'
+  pub seek_goes_on : (n i here : ℕ) (next next' : Option ℕ) (b : Bool) → i < n → Seeks (n - i) next → next ≡ Some here
+      → eqb here end ≡ false → b ≡ p here → b ≡ false → next' ≡ super here → Seeks (n - (i + 1)) next'
   seek_goes_on n i here next next' b l e s m q f w =
       let rest = list_any p (before end (rest_of_line super (n - (i + 1)) (super here))) in
       ap (λ o. list_any p (before end (rest_of_line super (n - (i + 1)) o))) w
@@ -92,7 +103,9 @@ In_at (x ∷ xs) zero d l = inl refl
 In_at (x ∷ xs) (suc i) d l = inr (In_at xs i d (omega (arith, l)))
 
 -- each of them is a class of the world
-pub interface_within : (world : World) (class i x d : ℕ) (row : List ℕ) → row ≡ interfaces_once world class → i < length row → x ≡ get_or row i d → x < length world
+pub interface_within : (world : World) (class i x d : ℕ) (row : List ℕ) → row ≡ interfaces_once world class → i < length row
+    → x ≡ get_or row i d → x < length world
 unfolding interfaces_once
 interface_within world class i x d row r l e =
-    interface_of_world world class x (In_once x (interfaces_of world class) (subst (IsIn x) r (subst (λ (y : ℕ). IsIn y row) (sym e) (In_at row i d l))))
+    interface_of_world world class x
+    (In_once x (interfaces_of world class) (subst (IsIn x) r (subst (λ (y : ℕ). IsIn y row) (sym e) (In_at row i d l))))

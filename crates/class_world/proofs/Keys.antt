@@ -1,5 +1,6 @@
 -- Members of different names and descriptors, put into an index one after another.
-use Rattle.std.proofs.Common.{◌≡◌, ◌||◌, ℕ, zero, suc, ◌+◌, ◌<◌, Bool, true, false, cond, List, [], ◌∷◌, ◌++◌, length, get_or, take, sym, refl, ap, ap₂, ◌∙◌, arith, add-one}
+use Rattle.std.proofs.Common.{◌≡◌, ◌||◌, ℕ, zero, suc, ◌+◌, ◌<◌, Bool, true, false, cond, List, [], ◌∷◌, ◌++◌, length, get_or, take}
+use Rattle.std.proofs.Common.{sym, refl, ap, ap₂, ◌∙◌, arith, add-one}
 use Rattle.std.specs.Prelude.{map}
 use Rattle.std.specs.List.{list_any, IsDistinct, AllByRecursion}
 use Rattle.std.proofs.Math.Seq.{take-suc}
@@ -9,7 +10,8 @@ use Rattle.class_base.specs.Members.{Key, same_key}
 use Rattle.class_base.proofs.Keys.{same_swapped}
 
 -- no earlier one has the key of a place
-pub none_before : {X : Type 0} (key : X → Key) (xs : List X) (i : ℕ) (d : X) → IsDistinct same_key (map key xs) → i < length xs → list_any (same_key (key (get_or xs i d))) (map key (take i xs)) ≡ false
+pub none_before : {X : Type 0} (key : X → Key) (xs : List X) (i : ℕ) (d : X) → IsDistinct same_key (map key xs) → i < length xs
+    → list_any (same_key (key (get_or xs i d))) (map key (take i xs)) ≡ false
 unfolding IsDistinct
 none_before key [] i d h l = absurd (omega (arith, l))
 none_before key (x ∷ xs) zero d h l = refl
@@ -18,7 +20,8 @@ none_before {X} key (x ∷ xs) (suc i) d h l =
     ap (λ b. b || list_any (same_key (key (get_or xs i d))) (map key (take i xs))) (same_swapped (key (get_or xs i d)) (key x) ∙ apart)
     ∙ none_before key xs i d h.1 (omega (arith, l))
   where
-    at : (ys : List X) (j : ℕ) → AllByRecursion (λ k. same_key (key x) k ≡ false) (map key ys) → j < length ys → same_key (key x) (key (get_or ys j d)) ≡ false
+    at : (ys : List X) (j : ℕ) → AllByRecursion (λ k. same_key (key x) k ≡ false) (map key ys) → j < length ys
+        → same_key (key x) (key (get_or ys j d)) ≡ false
     at [] j a m = absurd (omega (arith, m))
     at (y ∷ ys) zero a m = a.0
     at (y ∷ ys) (suc j) a m = at ys j a.1 (omega (arith, m))
@@ -32,7 +35,8 @@ names_more key xs i x d old new added h l e o n w = go added n w
     fresh : list_any (same_key (key x)) old ≡ false
     fresh = ap₂ (λ k ks. list_any (same_key k) ks) (ap key e) o ∙ none_before key xs i d h l
 
-    go : (b : Bool) → new ≡ cond b (old ++ key x ∷ []) old → list_any (same_key (key x)) old ≡ cond b false true → new ≡ map key (take (i + 1) xs)
+    go : (b : Bool) → new ≡ cond b (old ++ key x ∷ []) old → list_any (same_key (key x)) old ≡ cond b false true
+        → new ≡ map key (take (i + 1) xs)
     go false m v = absurd (false≢true (sym fresh ∙ v))
     go true m v =
         m ∙ ap₂ (λ ks k. ks ++ k ∷ []) o (ap key e)

@@ -16,15 +16,18 @@ use Rattle.class_world.specs.BuiltIns.{throwable, IsWorld, HasNoInterfacesBelow}
 use Rattle.class_world.proofs.BuiltInLaws.{built_ins_known}
 
 module _ (world : World) (known : IsWorld world) where
-  below_no_interface : (class above : ℕ) → is_class_below world class above ≡ true → above ≢ 0 → is_interface_class world above ≡ false → is_interface_class world class ≡ false
+  below_no_interface : (class above : ℕ) → is_class_below world class above ≡ true → above ≢ 0
+      → is_interface_class world above ≡ false → is_interface_class world class ≡ false
   unfolding is_class_below is_above
-  below_no_interface class above = below_class (length world) (super_of world) (supers_of world) (is_interface_class world) (hierarchy world (linked_from world known.linked)) class above
+  below_no_interface class above = below_class (length world) (super_of world) (supers_of world) (is_interface_class world)
+      (hierarchy world (linked_from world known.linked)) class above
 
   throwable_apart : throwable ≢ 0
   throwable_apart e = omega (arith, e)
 
   below_throwable : (class : ℕ) → is_class_below world class throwable ≡ true → is_interface_class world class ≡ false
-  below_throwable class e = below_no_interface class throwable e throwable_apart (made_no_interface world throwable ((built_ins_known world known).made throwable (omega arith)))
+  below_throwable class e = below_no_interface class throwable e throwable_apart
+      (made_no_interface world throwable ((built_ins_known world known).made throwable (omega arith)))
 
   base_erased : (x : Base) → is_base_below (is_class_below world) x (Class throwable) ≡ true → erased_base (is_interface_class world) x ≡ x
   base_erased (Class c) e = ap (λ (b : Bool). cond b (Class 0) (Class c)) (below_throwable c e)
@@ -32,9 +35,11 @@ module _ (world : World) (known : IsWorld world) where
 
   type_erased : (t : Ty) → is_sub world t (class_type throwable) ≡ true → IsErased (erase world) t
   unfolding erase_by
-  type_erased t e = go (stands_from (length world) (is_class_below world) (is_interface_class world) (class_order world known.linked) t (class_type throwable) e).2
+  type_erased t e = go (stands_from (length world) (is_class_below world) (is_interface_class world)
+      (class_order world known.linked) t (class_type throwable) e).2
     where
-      go : ((t.dims ≡ 0) × (is_base_below (is_class_below world) t.base (Class throwable) ≡ true)) ⊎ ((0 < t.dims) × (Class throwable ≡ Class 0)) → IsErased (erase world) t
+      go : ((t.dims ≡ 0) × (is_base_below (is_class_below world) t.base (Class throwable) ≡ true))
+          ⊎ ((0 < t.dims) × (Class throwable ≡ Class 0)) → IsErased (erase world) t
       go (inl p) = same_type (erase world t) t refl (base_erased t.base p.1)
       go (inr p) = absurd (throwable_apart (let same : throwable ≡ 0 = cc in same))
 

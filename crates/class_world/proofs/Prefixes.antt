@@ -1,5 +1,7 @@
 -- The fields of a class come first among those of the classes below it.
-use Rattle.std.proofs.Common.{◌≡◌, ℕ, zero, suc, ◌+◌, ◌<◌, ◌≤◌, Bool, true, false, cond, eqb, List, [], ◌∷◌, ◌++◌, length, take, drop, Option, Some, None, sym, refl, ap, ap₂, ◌∙◌, subst, inl, inr, ◌⊎◌, arith, append-nil, append_assoc, zero-add}
+use Rattle.std.proofs.Common.{◌≡◌, ℕ, zero, suc, ◌+◌, ◌<◌, ◌≤◌, Bool, true, false, cond, eqb, List, [], ◌∷◌, ◌++◌, length, take}
+use Rattle.std.proofs.Common.{drop, Option, Some, None, sym, refl, ap, ap₂, ◌∙◌, subst, inl, inr, ◌⊎◌, arith, append-nil}
+use Rattle.std.proofs.Common.{append_assoc, zero-add}
 use Rattle.std.specs.Prelude.{option_and_then, slice_get, reverse, is_none}
 use Rattle.std.specs.List.{filter_map, flat_map, cons_option}
 use Rattle.std.specs.Option.{option_map, option_map_or, option_or}
@@ -11,7 +13,8 @@ use Rattle.list_views.proofs.Items.{get_before, get_behind}
 use Rattle.jvm_values.specs.declared.types.Slot.{Slot}
 use Rattle.class_read.specs.Content.{ClassContent, FieldContent}
 use Rattle.class_world.specs.declared.fault.LinkFault.TheVariants.{MissingClass}
-use Rattle.class_world.specs.World.{World, built_in, leads_up, class_of, super_of, supers_of, is_interface_class, is_above, line_from, line_of}
+use Rattle.class_world.specs.World.{World, built_in, leads_up, class_of, super_of, supers_of, is_interface_class, is_above}
+use Rattle.class_world.specs.World.{line_from, line_of}
 use Rattle.class_world.specs.Types.{is_class_below}
 use Rattle.class_world.specs.Fields.{field_slot, own_slots, fields_of}
 use Rattle.class_world.specs.Resolve.{field_place, slots_above, own_slots_before}
@@ -26,14 +29,17 @@ use Rattle.class_world.proofs.Counting.{length-flat_reverse, itself_first, own_h
 -- ---- superclass chains
 
 -- a chain that ends early enough is the same with room for one more
-line_stable : (super : ℕ → Option ℕ) (up : ℕ → List ℕ) → ((a b : ℕ) → super a ≡ Some b → IsIn b (up a)) → (k a : ℕ) → ((b : ℕ) (p : List ℕ) → Walk up a p b → length p < k) → line_from super k a ≡ line_from super (suc k) a
+line_stable : (super : ℕ → Option ℕ) (up : ℕ → List ℕ) → ((a b : ℕ) → super a ≡ Some b → IsIn b (up a)) → (k a : ℕ)
+    → ((b : ℕ) (p : List ℕ) → Walk up a p b → length p < k) → line_from super k a ≡ line_from super (suc k) a
 line_stable super up inside zero a h = absurd (omega (arith, h a [] refl))
 line_stable super up inside (suc k) a h = ap (λ xs. a ∷ xs) (go (super a) refl (line_stable super up inside k))
   where
     less : (x y : ℕ) → suc x < suc y → x < y
     less x y l = omega (arith, l)
 
-    go : (o : Option ℕ) → super a ≡ o → ((c : ℕ) → ((b : ℕ) (p : List ℕ) → Walk up c p b → length p < k) → line_from super k c ≡ line_from super (suc k) c) → option_map_or (line_from super k) o [] ≡ option_map_or (line_from super (suc k)) o []
+    go : (o : Option ℕ) → super a ≡ o
+        → ((c : ℕ) → ((b : ℕ) (p : List ℕ) → Walk up c p b → length p < k) → line_from super k c ≡ line_from super (suc k) c)
+        → option_map_or (line_from super k) o [] ≡ option_map_or (line_from super (suc k)) o []
     go None e further = refl
     go (Some s) e further = further s (λ b p w. less (length p) k (h b (s ∷ p) (inside a s e, w)))
 
@@ -42,12 +48,19 @@ super_found None name e = cc
 super_found (Some s) name e = (s, refl)
 
 -- each class but the first has a superclass
-super_there : (world : World) → IsLinked world → (a : ℕ) (c : ClassContent) → slice_get world a ≡ Some c → eqb a 0 ≡ false → (s : ℕ) × (super_of world a ≡ Some s)
+super_there : (world : World) → IsLinked world → (a : ℕ) (c : ClassContent) → slice_get world a ≡ Some c → eqb a 0 ≡ false
+    → (s : ℕ) × (super_of world a ≡ Some s)
 unfolding missing_super
 super_there world h a c e z =
-    let first : option_or (missing_name world c.super_name) (first_missing world c.interfaces) ≡ None = subst (λ (b : Bool). option_or (cond b None (missing_name world c.super_name)) (first_missing world c.interfaces) ≡ None) z (h.present a c e) in
-    let s = super_found (class_of world c.super_name) c.super_name (or_none (missing_name world c.super_name) (first_missing world c.interfaces) first).0 in
-    (s.0, ap (λ b. cond b None (option_and_then (λ x. class_of world x.super_name) (slice_get world a))) z ∙ ap (option_and_then (λ x. class_of world x.super_name)) e ∙ s.1)
+    let first : option_or (missing_name world c.super_name) (first_missing world c.interfaces) ≡ None = subst
+    (λ (b : Bool). option_or (cond b None (missing_name world c.super_name)) (first_missing world c.interfaces) ≡ None) z
+    (h.present a c e) in
+    let s = super_found (class_of world c.super_name) c.super_name
+    (or_none (missing_name world c.super_name) (first_missing world c.interfaces) first).0 in (
+      s.0,
+      ap (λ b. cond b None (option_and_then (λ x. class_of world x.super_name) (slice_get world a))) z
+          ∙ ap (option_and_then (λ x. class_of world x.super_name)) e ∙ s.1,
+    )
 
 module _ (world : World) (linked : IsLinked world) where
   abbrev n : ℕ
@@ -89,7 +102,9 @@ module _ (world : World) (linked : IsLinked world) where
       same f = cc
   climbs (suc k) a b l e = go (super a) refl e (climbs k)
     where
-      go : (o : Option ℕ) → super_of world a ≡ o → option_and_then (climb (super_of world) k) o ≡ Some b → ((x y : ℕ) → x < length world → climb (super_of world) k x ≡ Some y → StartsWith (fields_of world y) (fields_of world x)) → StartsWith (fields_of world b) (fields_of world a)
+      go : (o : Option ℕ) → super_of world a ≡ o → option_and_then (climb (super_of world) k) o ≡ Some b
+          → ((x y : ℕ) → x < length world → climb (super_of world) k x ≡ Some y
+          → StartsWith (fields_of world y) (fields_of world x)) → StartsWith (fields_of world b) (fields_of world a)
       go None q f further = cc
       go (Some s) q f further =
           let r = further s b (super_of_world world a s q) f in
@@ -107,7 +122,8 @@ module _ (world : World) (linked : IsLinked world) where
       on s q (inl r) = inl (suc r.0, ap (option_and_then (climb super r.0)) q ∙ r.1)
       on s q (inr r) = inr (r.0, s ∷ r.1, (h.super_in a s q, r.2), omega (arith, r.3))
 
-      above : (c : ClassContent) → slice_get world a ≡ Some c → eqb a 0 ≡ false → ((x : ℕ) → x < length world → ToRoot k x) → ToRoot (suc k) a
+      above : (c : ClassContent) → slice_get world a ≡ Some c → eqb a 0 ≡ false → ((x : ℕ) → x < length world → ToRoot k x)
+          → ToRoot (suc k) a
       above c e z further =
           let s = super_there world linked a c e z in
           on s.0 s.1 (further s.0 (super_of_world world a s.0 s.1))
@@ -128,14 +144,16 @@ module _ (world : World) (linked : IsLinked world) where
     | inr r ↦ absurd (omega (arith, r.3, short (supers_of world) n h.closed h.acyclic a r.0 r.1 l r.2))
   ]
 
-  first : (a b : ℕ) → a < length world → is_class_below world a b ≡ true → is_interface_class world b ≡ false → StartsWith (fields_of world b) (fields_of world a)
+  first : (a b : ℕ) → a < length world → is_class_below world a b ≡ true → is_interface_class world b ≡ false
+      → StartsWith (fields_of world b) (fields_of world a)
   unfolding is_class_below is_above
   first a b l e o = go (below_cases n super (supers_of world) (is_interface_class world) h a b e)
     where
       at_root : b ≡ 0 → StartsWith (fields_of world b) (fields_of world a)
       at_root z = subst (λ (x : ℕ). StartsWith (fields_of world x) (fields_of world a)) (sym z) (over_all a l)
 
-      go : (b ≡ 0) ⊎ ((a ≡ b) ⊎ (leads_up (supers_of world) (length world) a b ≡ true)) → StartsWith (fields_of world b) (fields_of world a)
+      go : (b ≡ 0) ⊎ ((a ≡ b) ⊎ (leads_up (supers_of world) (length world) a b ≡ true))
+          → StartsWith (fields_of world b) (fields_of world a)
       go (inl z) = at_root z
       go (inr (inl s)) = itself a b s
       go (inr (inr t)) =
@@ -151,7 +169,8 @@ abbrev placed_at : ℕ → Option Slot → Option (ℕ × Slot)
 placed_at n o = option_map (λ s. (n, s)) o
 
 -- what an item of a list becomes stands behind what the items before it become
-kept_at : {A B : Type 0} (f : A → Option B) (xs : List A) (i : ℕ) (x : A) (y : B) → slice_get xs i ≡ Some x → f x ≡ Some y → slice_get (filter_map f xs) (length (filter_map f (take i xs))) ≡ Some y
+kept_at : {A B : Type 0} (f : A → Option B) (xs : List A) (i : ℕ) (x : A) (y : B) → slice_get xs i ≡ Some x → f x ≡ Some y
+    → slice_get (filter_map f xs) (length (filter_map f (take i xs))) ≡ Some y
 kept_at f [] i x y e q = cc
 kept_at {A} {B} f (z ∷ zs) zero x y e q = go (f z) (ap f (same e) ∙ q)
   where
@@ -163,20 +182,27 @@ kept_at {A} {B} f (z ∷ zs) zero x y e q = go (f z) (ap f (same e) ∙ q)
     go (Some w) r = r
 kept_at {A} {B} f (z ∷ zs) (suc i) x y e q = go (f z) (kept_at f zs i x y e q)
   where
-    go : (o : Option B) → slice_get (filter_map f zs) (length (filter_map f (take i zs))) ≡ Some y → slice_get (cons_option o (filter_map f zs)) (length (cons_option o (filter_map f (take i zs)))) ≡ Some y
+    go : (o : Option B) → slice_get (filter_map f zs) (length (filter_map f (take i zs))) ≡ Some y
+        → slice_get (cons_option o (filter_map f zs)) (length (cons_option o (filter_map f (take i zs)))) ≡ Some y
     go None r = r
     go (Some w) r = r
 
 -- a field stands at its place in the objects of its own class
-own_place : (world : World) (class index place : ℕ) (slot : Slot) → 0 < length world → field_place world class index ≡ Some (place, slot) → slice_get (fields_of world class) place ≡ Some slot
+own_place : (world : World) (class index place : ℕ) (slot : Slot) → 0 < length world
+    → field_place world class index ≡ Some (place, slot) → slice_get (fields_of world class) place ≡ Some slot
 unfolding field_place fields_of line_of slots_above
 own_place world class index place slot l e = at_class_of (slice_get world class) refl e
   where
-    at_slot : (c : ClassContent) → slice_get world class ≡ Some c → (f : FieldContent) → slice_get c.fields index ≡ Some f → (o : Option Slot) → field_slot world f ≡ o → placed_at (length (slots_above world class) + length (own_slots_before world class index)) o ≡ Some (place, slot) → slice_get (fields_of world class) place ≡ Some slot
+    at_slot : (c : ClassContent) → slice_get world class ≡ Some c → (f : FieldContent) → slice_get c.fields index ≡ Some f
+        → (o : Option Slot) → field_slot world f ≡ o
+        → placed_at (length (slots_above world class) + length (own_slots_before world class index)) o ≡ Some (place, slot)
+        → slice_get (fields_of world class) place ≡ Some slot
     at_slot c q f r None t g = cc
     at_slot c q f r (Some s) t g =
-        let whole : placed_at (length (slots_above world class) + length (own_slots_before world class index)) (Some s) ≡ Some (place, slot) = g in
-        let places : (length (slots_above world class) + length (own_slots_before world class index)) ≡ place = ap (λ o. option_map_or (λ y. y.0) o 0) whole in
+        let whole : placed_at (length (slots_above world class) + length (own_slots_before world class index)) (Some s) ≡ Some
+        (place, slot) = g in
+        let places : (length (slots_above world class) + length (own_slots_before world class index)) ≡ place = ap
+        (λ o. option_map_or (λ y. y.0) o 0) whole in
         let slots : s ≡ slot = ap (λ o. option_map_or (λ y. y.1) o s) whole in
         let own = own_slots world in
         let line = line_from (super_of world) (length world) class in
@@ -186,17 +212,23 @@ own_place world class index place slot l e = at_class_of (slice_get world class)
         ∙ ap (flat_map own) (reverse-append (class ∷ []) (drop 1 line))
         ∙ flat_map-append own (reverse (drop 1 line)) (class ∷ [])
         ∙ ap (λ xs. above ++ xs) (append-nil (own class)) in
-        let i : place ≡ length above + length (own_slots_before world class index) = omega (arith, places, length-flat_reverse own (drop 1 line)) in
+        let i : place ≡ length above + length (own_slots_before world class index) = omega
+        (arith, places, length-flat_reverse own (drop 1 line)) in
         ap₂ slice_get all i
         ∙ get_behind above (own class) (length (own_slots_before world class index))
         ∙ ap₂ slice_get (own_here world class c q) (ap length (before_here world class index c q))
         ∙ kept_at (field_slot world) c.fields index f s r t ∙ ap Some slots
 
-    at_field : (c : ClassContent) → slice_get world class ≡ Some c → (o : Option FieldContent) → slice_get c.fields index ≡ o → placed_at (length (slots_above world class) + length (own_slots_before world class index)) (option_and_then (field_slot world) o) ≡ Some (place, slot) → slice_get (fields_of world class) place ≡ Some slot
+    at_field : (c : ClassContent) → slice_get world class ≡ Some c → (o : Option FieldContent) → slice_get c.fields index ≡ o
+        → placed_at (length (slots_above world class) + length (own_slots_before world class index))
+        (option_and_then (field_slot world) o) ≡ Some (place, slot) → slice_get (fields_of world class) place ≡ Some slot
     at_field c q None r g = cc
     at_field c q (Some f) r g = at_slot c q f r (field_slot world f) refl g
 
-    at_class_of : (o : Option ClassContent) → slice_get world class ≡ o → placed_at (length (slots_above world class) + length (own_slots_before world class index)) (option_and_then (field_slot world) (option_and_then (λ c. slice_get c.fields index) o)) ≡ Some (place, slot) → slice_get (fields_of world class) place ≡ Some slot
+    at_class_of : (o : Option ClassContent) → slice_get world class ≡ o
+        → placed_at (length (slots_above world class) + length (own_slots_before world class index))
+        (option_and_then (field_slot world) (option_and_then (λ c. slice_get c.fields index) o)) ≡ Some (place, slot)
+        → slice_get (fields_of world class) place ≡ Some slot
     at_class_of None q g = cc
     at_class_of (Some c) q g = at_field c q (slice_get c.fields index) refl g
 
@@ -206,7 +238,9 @@ fields_in_order world e = record { first = first world linked; place = placed }
     linked : IsLinked world
     linked = linked_from world e
 
-    placed : (class above index i : ℕ) (slot : Slot) → class < length world → is_class_below world class above ≡ true → is_interface_class world above ≡ false → field_place world above index ≡ Some (i, slot) → slice_get (fields_of world class) i ≡ Some slot
+    placed : (class above index i : ℕ) (slot : Slot) → class < length world → is_class_below world class above ≡ true
+        → is_interface_class world above ≡ false → field_place world above index ≡ Some (i, slot)
+        → slice_get (fields_of world class) i ≡ Some slot
     placed class above index i slot l b o f =
         let r = first world linked class above l b o in
         ap (λ xs. slice_get xs i) r.1

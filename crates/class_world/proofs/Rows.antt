@@ -1,5 +1,6 @@
 -- The rows of marks are the test of what is above.
-use Rattle.std.proofs.Common.{◌≡◌, ◌||◌, ℕ, zero, suc, ◌<◌, ◌≤◌, Bool, false, eqb, List, [], ◌++◌, length, get_or, sym, refl, ap, ap₂, ◌∙◌, subst, inl, inr, arith}
+use Rattle.std.proofs.Common.{◌≡◌, ◌||◌, ℕ, zero, suc, ◌<◌, ◌≤◌, Bool, false, eqb, List, [], ◌++◌, length, get_or, sym, refl, ap}
+use Rattle.std.proofs.Common.{ap₂, ◌∙◌, subst, inl, inr, arith}
 use Rattle.std.specs.List.{list_any}
 use Rattle.std.proofs.lemmas.Bool.{cases_lt}
 use Rattle.std.proofs.lemmas.List.{get_or_past, same_lists, get_or_default}
@@ -17,7 +18,8 @@ use Rattle.class_world.proofs.Marking.{In-get}
 leads_cong : (f g : ℕ → List ℕ) → ((a : ℕ) → f a ≡ g a) → (k a b : ℕ) → leads_up f k a b ≡ leads_up g k a b
 leads_cong f g h zero a b = refl
 leads_cong f g h (suc k) a b =
-    any_cong (λ c. eqb b c || leads_up f k c b) (λ c. eqb b c || leads_up g k c b) (f a) (λ c. ap (λ x. eqb b c || x) (leads_cong f g h k c b))
+    any_cong (λ c. eqb b c || leads_up f k c b) (λ c. eqb b c || leads_up g k c b) (f a)
+    (λ c. ap (λ x. eqb b c || x) (leads_cong f g h k c b))
     ∙ ap (list_any (λ c. eqb b c || leads_up g k c b)) (h a)
 
 -- past the end no class extends anything
@@ -28,7 +30,8 @@ none_past world a l = ap₂ (λ o xs. listed o ++ xs) (no_super world a l) (no_i
 over_once : (world : World) (a x : ℕ) → IsIn x (supers_once world a) → IsIn x (supers_of world a)
 over_once world a x i = IsIn-from_any x (supers_of world a) (sym (any_supers world a (eqb x)) ∙ any-from_IsIn x (supers_once world a) i)
 
-pub listed_is : (world : World) (supers : List (List ℕ)) → supers ≡ values_to (supers_once world) (length world) → (a : ℕ) → listed_at supers a ≡ supers_once world a
+pub listed_is : (world : World) (supers : List (List ℕ)) → supers ≡ values_to (supers_once world) (length world) → (a : ℕ)
+    → listed_at supers a ≡ supers_once world a
 listed_is world supers e a = elim (cases_lt a (length world)) [
   | inl l ↦ ap (λ t. get_or t a []) e ∙ get_or-values (supers_once world) (length world) a [] l
   | inr l ↦
@@ -43,10 +46,13 @@ table_closed world supers e = record {
       let m : length supers ≡ length world = ap length e ∙ length-values (supers_once world) (length world) in
       let at = listed_is world supers e a in
       let i = In-get (supers_once world a) k (subst (λ (xs : List ℕ). k < length xs) at l) in
-      subst (λ (xs : List ℕ). get_or xs k 0 < length supers) (sym at) (omega (arith, m, supers_closed world a (get_or (supers_once world a) k 0) (over_once world a _ i)));
+      subst (λ (xs : List ℕ). get_or xs k 0 < length supers) (sym at)
+      (omega (arith, m, supers_closed world a (get_or (supers_once world a) k 0) (over_once world a _ i)));
 }
 
-pub row_is : (world : World) (supers : List (List ℕ)) (class : ℕ) (row : List Bool) → supers ≡ values_to (supers_once world) (length world) → IsRow supers class row → row ≡ values_to (is_above world class) (length world)
+pub row_is : (world : World) (supers : List (List ℕ)) (class : ℕ) (row : List Bool)
+    → supers ≡ values_to (supers_once world) (length world) → IsRow supers class row
+    → row ≡ values_to (is_above world class) (length world)
 unfolding is_above
 row_is world supers class row e r =
     let m : length supers ≡ length world = ap length e ∙ length-values (supers_once world) (length world) in

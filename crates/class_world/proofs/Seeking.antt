@@ -1,5 +1,7 @@
 -- Seeking in superinterfaces, each of them once, finds what stands first among all of them.
-use Rattle.std.proofs.Common.{◌≡◌, ℕ, zero, suc, ◌+◌, ◌<◌, ◌≤◌, Bool, true, false, cond, eqb, List, [], ◌∷◌, ◌++◌, length, get_or, set, Option, Some, None, sym, refl, ap, ap₂, ◌∙◌, subst, inl, inr, ◌⊎◌, arith, eq-eqb, append_assoc, length-append, zero-add}
+use Rattle.std.proofs.Common.{◌≡◌, ℕ, zero, suc, ◌+◌, ◌<◌, ◌≤◌, Bool, true, false, cond, eqb, List, [], ◌∷◌, ◌++◌, length, get_or}
+use Rattle.std.proofs.Common.{set, Option, Some, None, sym, refl, ap, ap₂, ◌∙◌, subst, inl, inr, ◌⊎◌, arith, eq-eqb, append_assoc}
+use Rattle.std.proofs.Common.{length-append, zero-add}
 use Rattle.std.specs.Prelude.{reverse}
 use Rattle.std.specs.List.{flat_map, IsDistinct, AllByRecursion, list_any}
 use Rattle.std.specs.Option.{option_map, option_or}
@@ -47,7 +49,8 @@ module _ (sup : ℕ → List ℕ) (n : ℕ) (closed : (a b : ℕ) → IsIn b (su
 
   pub short : (a b : ℕ) (p : List ℕ) → a < n → Walk sup a p b → length p < n
   short a b p l w =
-      let most : length (a ∷ p) ≤ n = length-le_from_distinct_below (a ∷ p) n (differ a b p w) (λ q e. below a b p l w q (IsIn-from_any q (a ∷ p) e)) in
+      let most : length (a ∷ p) ≤ n = length-le_from_distinct_below (a ∷ p) n (differ a b p w)
+      (λ q e. below a b p l w q (IsIn-from_any q (a ∷ p) e)) in
       omega (arith, most)
 
   module _ (up : ℕ → List ℕ) (included : (a b : ℕ) → IsIn b (up a) → IsIn b (sup a)) where
@@ -61,7 +64,9 @@ module _ (sup : ℕ → List ℕ) (n : ℕ) (closed : (a b : ℕ) → IsIn b (su
 
     stable : (k a : ℕ) → ((b : ℕ) (p : List ℕ) → Walk up a p b → length p < k) → with_interfaces up k a ≡ with_interfaces up (suc k) a
     stable zero a h = absurd (omega (arith, h a [] refl))
-    stable (suc k) a h = ap (λ xs. a ∷ xs) (flat_same (with_interfaces up k) (with_interfaces up (suc k)) (up a) (λ c i. stable k c (λ b p w. less (length p) k (h b (c ∷ p) (i, w)))))
+    stable (suc k) a h = ap (λ xs. a ∷ xs)
+        (flat_same (with_interfaces up k) (with_interfaces up (suc k)) (up a)
+        (λ c i. stable k c (λ b p w. less (length p) k (h b (c ∷ p) (i, w)))))
       where
         less : (x y : ℕ) → suc x < suc y → x < y
         less x y l = omega (arith, l)
@@ -72,11 +77,13 @@ module _ (sup : ℕ → List ℕ) (n : ℕ) (closed : (a b : ℕ) → IsIn b (su
 
 -- ---- going through a list of interfaces, and what they lead to
 
-pub found_append : (place : ℕ → Option ℕ) (xs ys : List ℕ) → first_found place (xs ++ ys) ≡ option_or (first_found place xs) (first_found place ys)
+pub found_append : (place : ℕ → Option ℕ) (xs ys : List ℕ)
+    → first_found place (xs ++ ys) ≡ option_or (first_found place xs) (first_found place ys)
 found_append place [] ys = refl
 found_append place (x ∷ xs) ys = go (option_map (λ i. (x, i)) (place x)) (found_append place xs ys)
   where
-    go : (o : Option (ℕ × ℕ)) → first_found place (xs ++ ys) ≡ option_or (first_found place xs) (first_found place ys) → option_or o (first_found place (xs ++ ys)) ≡ option_or (option_or o (first_found place xs)) (first_found place ys)
+    go : (o : Option (ℕ × ℕ)) → first_found place (xs ++ ys) ≡ option_or (first_found place xs) (first_found place ys)
+        → option_or o (first_found place (xs ++ ys)) ≡ option_or (option_or o (first_found place xs)) (first_found place ys)
     go None e = e
     go (Some r) e = refl
 
@@ -90,7 +97,8 @@ abbrev pub left_from : (ℕ → List ℕ) → ℕ → List Bool → ℕ
 left_from up k [] = 0
 left_from up k (m ∷ ms) = cond m 0 (length (up k)) + left_from up (suc k) ms
 
-pub left_less : (up : ℕ → List ℕ) (k : ℕ) (marks : List Bool) (i : ℕ) → i < length marks → get_or marks i false ≡ false → left_from up k (set marks i true) + length (up (k + i)) ≡ left_from up k marks
+pub left_less : (up : ℕ → List ℕ) (k : ℕ) (marks : List Bool) (i : ℕ) → i < length marks → get_or marks i false ≡ false
+    → left_from up k (set marks i true) + length (up (k + i)) ≡ left_from up k marks
 left_less up k [] i l e = absurd (omega (arith, l))
 left_less up k (m ∷ ms) zero l e =
     let z : length (up (k + 0)) ≡ length (up k) = ap (λ x. length (up x)) (omega arith) in
@@ -115,7 +123,8 @@ module _ (n : ℕ) (up : ℕ → List ℕ) (above : ℕ → ℕ → Bool) (place
     pub within : (y : ℕ) → IsIn y todo → y < n
     pub value : first_found place (trees todo) ≡ all
     pub led : (x : ℕ) → get_or marks x false ≡ true → (Misses (with_interfaces up n x) → ⊥)
-        → (front : List ℕ) × (rest : List ℕ) × (todo ≡ front ++ rest) × ((y : ℕ) → IsIn y front → above x y ≡ true) × (Misses (trees front) → ⊥)
+        → (front : List ℕ) × (rest : List ℕ) × (todo ≡ front ++ rest) × ((y : ℕ) → IsIn y front → above x y ≡ true)
+        × (Misses (trees front) → ⊥)
 
   pub record Ordered : Type 0 where
     pub tree : (x : ℕ) → x < n → with_interfaces up n x ≡ x ∷ trees (up x)
@@ -138,10 +147,12 @@ module _ (n : ℕ) (up : ℕ → List ℕ) (above : ℕ → ℕ → Bool) (place
 
   module _ (o : Ordered) (all : Option (ℕ × ℕ)) where
     -- nothing above a marked one that comes up again is sought
-    marked_misses : (marks : List Bool) (i : ℕ) (todo : List ℕ) → Seeking all marks (i ∷ todo) → get_or marks i false ≡ true → Misses (with_interfaces up n i)
+    marked_misses : (marks : List Bool) (i : ℕ) (todo : List ℕ) → Seeking all marks (i ∷ todo) → get_or marks i false ≡ true
+        → Misses (with_interfaces up n i)
     marked_misses marks i todo s m = go (first_found place (with_interfaces up n i)) refl
       where
-        by : (front rest : List ℕ) → i ∷ todo ≡ front ++ rest → ((y : ℕ) → IsIn y front → above i y ≡ true) → (Misses (trees front) → ⊥) → ⊥
+        by : (front rest : List ℕ) → i ∷ todo ≡ front ++ rest → ((y : ℕ) → IsIn y front → above i y ≡ true)
+            → (Misses (trees front) → ⊥) → ⊥
         by [] rest e h w = w refl
         by (y ∷ front) rest e h w =
             let same : i ≡ y = cc in
@@ -154,23 +165,33 @@ module _ (n : ℕ) (up : ℕ → List ℕ) (above : ℕ → ℕ → Bool) (place
             none_some : (r : ℕ × ℕ) → None ≡ Some r → ⊥
             none_some r e = cc
 
-    pub skipped : (marks : List Bool) (i : ℕ) (todo : List ℕ) → Seeking all marks (i ∷ todo) → get_or marks i false ≡ true → Seeking all marks todo
+    pub skipped : (marks : List Bool) (i : ℕ) (todo : List ℕ) → Seeking all marks (i ∷ todo) → get_or marks i false ≡ true
+        → Seeking all marks todo
     skipped marks i todo s m =
         let miss = marked_misses marks i todo s m in
         record {
           len = s.len;
           within = λ y h. s.within y (inr h);
-          value = sym (ap (λ r. option_or r (first_found place (trees todo))) miss) ∙ sym (found_append place (with_interfaces up n i) (trees todo)) ∙ s.value;
+          value = sym (ap (λ r. option_or r (first_found place (trees todo))) miss)
+              ∙ sym (found_append place (with_interfaces up n i) (trees todo)) ∙ s.value;
           led = λ x e w. let q = s.led x e w in by x miss q.0 q.1 q.2 q.3 q.4;
         }
       where
-        by : (x : ℕ) → Misses (with_interfaces up n i) → (front rest : List ℕ) → i ∷ todo ≡ front ++ rest → ((y : ℕ) → IsIn y front → above x y ≡ true) → (Misses (trees front) → ⊥)
-            → (front : List ℕ) × (rest : List ℕ) × (todo ≡ front ++ rest) × ((y : ℕ) → IsIn y front → above x y ≡ true) × (Misses (trees front) → ⊥)
+        by : (x : ℕ) → Misses (with_interfaces up n i) → (front rest : List ℕ) → i ∷ todo ≡ front ++ rest
+            → ((y : ℕ) → IsIn y front → above x y ≡ true) → (Misses (trees front) → ⊥)
+            → (front : List ℕ) × (rest : List ℕ) × (todo ≡ front ++ rest) × ((y : ℕ) → IsIn y front → above x y ≡ true)
+            × (Misses (trees front) → ⊥)
         by x miss [] rest e h w = absurd (w refl)
         by x miss (y ∷ front) rest e h w =
             let same : i ≡ y = cc in
-            let tail : todo ≡ front ++ rest = cc in
-            (front, rest, tail, (λ z q. h z (inr q)), (λ m. w (both_miss (with_interfaces up n y) (trees front) (subst (λ (k : ℕ). Misses (with_interfaces up n k)) same miss) m)))
+            let tail : todo ≡ front ++ rest = cc in (
+              front,
+              rest,
+              tail,
+              (λ z q. h z (inr q)),
+              (λ m. w (both_miss (with_interfaces up n y) (trees front)
+                  (subst (λ (k : ℕ). Misses (with_interfaces up n k)) same miss) m)),
+            )
 
     pub found_here : (marks : List Bool) (i p : ℕ) (todo : List ℕ) → Seeking all marks (i ∷ todo) → place i ≡ Some p → Some (i, p) ≡ all
     found_here marks i p todo s e =
@@ -178,7 +199,8 @@ module _ (n : ℕ) (up : ℕ → List ℕ) (above : ℕ → ℕ → Bool) (place
         sym (ap (λ r. option_or (option_map (λ k. (i, k)) r) (first_found place (trees (up i) ++ trees todo))) e)
         ∙ sym (ap (λ xs. first_found place (xs ++ trees todo)) tree) ∙ s.value
 
-    pub entered : (marks now : List Bool) (i : ℕ) (todo more : List ℕ) → Seeking all marks (i ∷ todo) → place i ≡ None → now ≡ set marks i true → more ≡ up i ++ todo → Seeking all now more
+    pub entered : (marks now : List Bool) (i : ℕ) (todo more : List ℕ) → Seeking all marks (i ∷ todo) → place i ≡ None
+        → now ≡ set marks i true → more ≡ up i ++ todo → Seeking all now more
     entered marks now i todo more s e m f =
         let inside = s.within i (inl refl) in
         let tree = o.tree i inside in
@@ -193,7 +215,8 @@ module _ (n : ℕ) (up : ℕ → List ℕ) (above : ℕ → ℕ → Bool) (place
         }))
       where
         Leads : ℕ → Type 0
-        Leads x = (front : List ℕ) × (rest : List ℕ) × (up i ++ todo ≡ front ++ rest) × ((y : ℕ) → IsIn y front → above x y ≡ true) × (Misses (trees front) → ⊥)
+        Leads x = (front : List ℕ) × (rest : List ℕ) × (up i ++ todo ≡ front ++ rest) × ((y : ℕ) → IsIn y front → above x y ≡ true)
+            × (Misses (trees front) → ⊥)
 
         which : (x : ℕ) → get_or (set marks i true) x false ≡ true → (x ≡ i) ⊎ (get_or marks x false ≡ true)
         which x k = go (eqb x i) refl
@@ -202,7 +225,8 @@ module _ (n : ℕ) (up : ℕ → List ℕ) (above : ℕ → ℕ → Bool) (place
             go true q = inl (eqb-true x i q)
             go false q = inr (sym (get_or-set_other marks i x true false (λ t. false≢true (sym q ∙ eq-eqb x i t))) ∙ k)
 
-        old : with_interfaces up n i ≡ i ∷ trees (up i) → (x : ℕ) (front rest : List ℕ) → i ∷ todo ≡ front ++ rest → ((y : ℕ) → IsIn y front → above x y ≡ true) → (Misses (trees front) → ⊥) → Leads x
+        old : with_interfaces up n i ≡ i ∷ trees (up i) → (x : ℕ) (front rest : List ℕ) → i ∷ todo ≡ front ++ rest
+            → ((y : ℕ) → IsIn y front → above x y ≡ true) → (Misses (trees front) → ⊥) → Leads x
         old tree x [] rest q h w = absurd (w refl)
         old tree x (y ∷ front) rest q h w =
             let same : i ≡ y = cc in
@@ -214,23 +238,28 @@ module _ (n : ℕ) (up : ℕ → List ℕ) (above : ℕ → ℕ → Bool) (place
               (λ z a. elim (In_append z (up i) front a) [ inl b ↦ o.further x i z over (o.direct i z b) | inr b ↦ h z (inr b) ]),
               (λ miss.
                   let p = parts_miss (trees (up i)) (trees front) (sym (ap (first_found place) (trees_append (up i) front)) ∙ miss) in
-                  w (both_miss (with_interfaces up n y) (trees front) (subst (λ (k : ℕ). Misses (with_interfaces up n k)) same (ap (first_found place) tree ∙ here_misses i (trees (up i)) e p.0)) p.1)),
+                  w (both_miss (with_interfaces up n y) (trees front)
+                  (subst (λ (k : ℕ). Misses (with_interfaces up n k)) same
+                  (ap (first_found place) tree ∙ here_misses i (trees (up i)) e p.0)) p.1)),
             )
 
-        at : with_interfaces up n i ≡ i ∷ trees (up i) → (x : ℕ) → (x ≡ i) ⊎ (get_or marks x false ≡ true) → (Misses (with_interfaces up n x) → ⊥) → Leads x
+        at : with_interfaces up n i ≡ i ∷ trees (up i) → (x : ℕ) → (x ≡ i) ⊎ (get_or marks x false ≡ true)
+            → (Misses (with_interfaces up n x) → ⊥) → Leads x
         at tree x (inl same) w = (
           up i,
           todo,
           refl,
           (λ y a. subst (λ (k : ℕ). above k y ≡ true) (sym same) (o.direct i y a)),
-          (λ miss. w (subst (λ (k : ℕ). Misses (with_interfaces up n k)) (sym same) (ap (first_found place) tree ∙ here_misses i (trees (up i)) e miss))),
+          (λ miss. w (subst (λ (k : ℕ). Misses (with_interfaces up n k)) (sym same)
+              (ap (first_found place) tree ∙ here_misses i (trees (up i)) e miss))),
         )
         at tree x (inr k) w = let q = s.led x k w in old tree x q.0 q.1 q.2 q.3 q.4
 
     pub none_left : (marks : List Bool) (todo : List ℕ) → Seeking all marks todo → todo ≡ [] → None ≡ all
     none_left marks todo s e = ap (λ xs. first_found place (trees xs)) (sym e) ∙ s.value
 
-    pub begun : (marks : List Bool) (todo start : List ℕ) → length marks ≡ n → ((x : ℕ) → get_or marks x false ≡ false) → todo ≡ start → ((y : ℕ) → IsIn y start → y < n) → first_found place (trees start) ≡ all → Seeking all marks todo
+    pub begun : (marks : List Bool) (todo start : List ℕ) → length marks ≡ n → ((x : ℕ) → get_or marks x false ≡ false)
+        → todo ≡ start → ((y : ℕ) → IsIn y start → y < n) → first_found place (trees start) ≡ all → Seeking all marks todo
     begun marks todo start l m e h v = subst (Seeking all marks) (sym e) (record {
       len = l;
       within = h;
@@ -246,9 +275,12 @@ last_first todo rest x e = ap reverse e ∙ reverse-append rest (x ∷ [])
 pub mark_at : (marks : List Bool) (i : ℕ) (d b v : Bool) → i < length marks → b ≡ get_or marks i d → b ≡ v → get_or marks i false ≡ v
 mark_at marks i d b v l e f = get_or_default marks i false d l ∙ sym e ∙ f
 
-pub goes_down : (up : ℕ → List ℕ) (marks : List Bool) (i : ℕ) (todo rest now : List ℕ) → i < length marks → get_or marks i false ≡ false → todo ≡ rest ++ i ∷ [] → reverse now ≡ up i ++ reverse rest → left_from up 0 (set marks i true) + length now < left_from up 0 marks + length todo
+pub goes_down : (up : ℕ → List ℕ) (marks : List Bool) (i : ℕ) (todo rest now : List ℕ) → i < length marks
+    → get_or marks i false ≡ false → todo ≡ rest ++ i ∷ [] → reverse now ≡ up i ++ reverse rest
+    → left_from up 0 (set marks i true) + length now < left_from up 0 marks + length todo
 goes_down up marks i todo rest now l e t r =
-    let less : left_from up 0 (set marks i true) + length (up i) ≡ left_from up 0 marks = ap (λ x. left_from up 0 (set marks i true) + length (up x)) (sym (zero-add i)) ∙ left_less up 0 marks i l e in
+    let less : left_from up 0 (set marks i true) + length (up i) ≡ left_from up 0 marks = ap
+    (λ x. left_from up 0 (set marks i true) + length (up x)) (sym (zero-add i)) ∙ left_less up 0 marks i l e in
     let size : length now ≡ length (up i) + length rest =
     sym (length-reverse now) ∙ ap length r ∙ length-append (up i) (reverse rest) ∙ ap (λ x. length (up i) + x) (length-reverse rest) in
     let was : length todo ≡ length rest + 1 = ap length t ∙ length-append rest (i ∷ []) in
@@ -268,8 +300,12 @@ interface_over world a b h = In_right b (listed (super_of world a)) (interfaces_
 
 -- ---- first along the superclass chain, then in the superinterfaces
 
-pub found_below : (place : ℕ → Option ℕ) (line over : List ℕ) (r found : Option (ℕ × ℕ)) (x : ℕ × ℕ) → r ≡ first_found place line → r ≡ Some x → found ≡ Some x → found ≡ first_found place (line ++ over)
-found_below place line over r found x e s f = f ∙ ap (λ o. option_or o (first_found place over)) (sym s ∙ e) ∙ sym (found_append place line over)
+pub found_below : (place : ℕ → Option ℕ) (line over : List ℕ) (r found : Option (ℕ × ℕ)) (x : ℕ × ℕ) → r ≡ first_found place line
+    → r ≡ Some x → found ≡ Some x → found ≡ first_found place (line ++ over)
+found_below place line over r found x e s f = f ∙ ap (λ o. option_or o (first_found place over)) (sym s ∙ e)
+    ∙ sym (found_append place line over)
 
-pub found_over : (place : ℕ → Option ℕ) (line over : List ℕ) (r found : Option (ℕ × ℕ)) → r ≡ first_found place line → r ≡ None → found ≡ first_found place over → found ≡ first_found place (line ++ over)
-found_over place line over r found e s f = f ∙ ap (λ o. option_or o (first_found place over)) (sym s ∙ e) ∙ sym (found_append place line over)
+pub found_over : (place : ℕ → Option ℕ) (line over : List ℕ) (r found : Option (ℕ × ℕ)) → r ≡ first_found place line → r ≡ None
+    → found ≡ first_found place over → found ≡ first_found place (line ++ over)
+found_over place line over r found e s f = f ∙ ap (λ o. option_or o (first_found place over)) (sym s ∙ e)
+    ∙ sym (found_append place line over)

@@ -20,14 +20,17 @@ use Rattle.class_world.proofs.Few.{all_append}
 abbrev is_short : CodeContent → Bool
 is_short code = nat_lt (length code.code) 65536
 
-short_attributes : (pool : List PoolEntry) (attributes : List AttrText) → AllByRecursion (IsMethodAttribute pool) attributes → option_map_or is_short (first_of (codes_in attributes)) true ≡ true
+short_attributes : (pool : List PoolEntry) (attributes : List AttrText) → AllByRecursion (IsMethodAttribute pool) attributes
+    → option_map_or is_short (first_of (codes_in attributes)) true ≡ true
 short_attributes pool [] h = refl
 short_attributes pool (Skipped name content ∷ rest) h = short_attributes pool rest h.1
 short_attributes pool (Code name max_stack max_locals code table attributes ∷ rest) h = lt-ltb (length code) 65536 h.0.most
 
-short_methods : (pool : List PoolEntry) (ms : List MemberText) → AllByRecursion (IsMethod pool) ms → list_all has_short_code (map (method_of pool) ms) ≡ true
+short_methods : (pool : List PoolEntry) (ms : List MemberText) → AllByRecursion (IsMethod pool) ms
+    → list_all has_short_code (map (method_of pool) ms) ≡ true
 short_methods pool [] h = refl
-short_methods pool (m ∷ ms) h = and_from (has_short_code (method_of pool m)) (list_all has_short_code (map (method_of pool) ms)) (short_attributes pool m.attributes h.0.attributes) (short_methods pool ms h.1)
+short_methods pool (m ∷ ms) h = and_from (has_short_code (method_of pool m)) (list_all has_short_code (map (method_of pool) ms))
+    (short_attributes pool m.attributes h.0.attributes) (short_methods pool ms h.1)
 
 short_read : (c : ClassContent) → CanBeRead c → has_short_codes c ≡ true
 short_read c r =
@@ -38,14 +41,18 @@ all_short_read : (cs : List ClassContent) → AllByRecursion CanBeRead cs → li
 all_short_read [] h = refl
 all_short_read (c ∷ cs) h = and_from (has_short_codes c) (list_all has_short_codes cs) (short_read c h.0) (all_short_read cs h.1)
 
-pub short_world : (given : List ClassContent) (world : World) → world ≡ world_of given → AllByRecursion CanBeRead given → list_all has_short_codes world ≡ true
+pub short_world : (given : List ClassContent) (world : World) → world ≡ world_of given → AllByRecursion CanBeRead given
+    → list_all has_short_codes world ≡ true
 unfolding built_in_names
-short_world given world e h = subst (λ (w : World). list_all has_short_codes w ≡ true) (sym e) (all_append has_short_codes built_ins given refl (all_short_read given h))
+short_world given world e h = subst (λ (w : World). list_all has_short_codes w ≡ true) (sym e)
+    (all_append has_short_codes built_ins given refl (all_short_read given h))
 
-pub short_at : (world : World) (ref : MethodRef) (m : MethodContent) → list_all has_short_codes world ≡ true → method_at world ref ≡ Some m → has_short_code m ≡ true
+pub short_at : (world : World) (ref : MethodRef) (m : MethodContent) → list_all has_short_codes world ≡ true
+    → method_at world ref ≡ Some m → has_short_code m ≡ true
 unfolding method_at
 short_at world ref m h e = by (slice_get world ref.class) refl e
   where
-    by : (o : Option ClassContent) → slice_get world ref.class ≡ o → option_and_then (λ c. slice_get c.methods ref.index) o ≡ Some m → has_short_code m ≡ true
+    by : (o : Option ClassContent) → slice_get world ref.class ≡ o → option_and_then (λ c. slice_get c.methods ref.index) o ≡ Some m
+        → has_short_code m ≡ true
     by None s k = cc
     by (Some c) s k = holds_at has_short_code c.methods ref.index m (holds_at has_short_codes world ref.class c h s) k

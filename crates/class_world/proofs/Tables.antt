@@ -1,5 +1,6 @@
 -- Reading tables by number.
-use Rattle.std.proofs.Common.{◌≡◌, ℕ, zero, suc, ◌+◌, ◌<◌, List, [], ◌∷◌, ◌++◌, length, get_or, Some, sym, refl, ap, ◌∙◌, inl, inr, arith, add-one, length-append}
+use Rattle.std.proofs.Common.{◌≡◌, ℕ, zero, suc, ◌+◌, ◌<◌, List, [], ◌∷◌, ◌++◌, length, get_or, Some, sym, refl, ap, ◌∙◌, inl, inr}
+use Rattle.std.proofs.Common.{arith, add-one, length-append}
 use Rattle.std.specs.Prelude.{slice_get, position, map, filter_map}
 use Rattle.std.specs.Borrow.{Bor}
 use Rattle.std.specs.Option.{option_map_or}
@@ -23,7 +24,8 @@ unfolding values_to
 length-values f zero = refl
 length-values f (suc n) = omega (arith, length-append (values_to f n) (f n ∷ []), length-values f n)
 
-pub values_of_world : (world : World) (name : List ℕ) (names : List (List ℕ)) → names ≡ names_of world → position (bytes_eq name) names ≡ class_of world name
+pub values_of_world : (world : World) (name : List ℕ) (names : List (List ℕ)) → names ≡ names_of world
+    → position (bytes_eq name) names ≡ class_of world name
 values_of_world world name names e = ap (position (bytes_eq name)) e ∙ position-map (bytes_eq name) (λ c. c.name) world
 
 pub get_or-values : {A : Type 0} (f : ℕ → A) (n a : ℕ) (d : A) → a < n → get_or (values_to f n) a d ≡ f a
@@ -38,10 +40,13 @@ get_or-values f (suc n) a d l = elim (cases_lt a n) [
 ]
 
 -- the class that indexing reads
-pub class_at : (world : World) (class : ℕ) (c : ClassContent) → class < length world → c ≡ get_or world class c → slice_get world class ≡ Some c
+pub class_at : (world : World) (class : ℕ) (c : ClassContent) → class < length world → c ≡ get_or world class c
+    → slice_get world class ≡ Some c
 class_at world class c l e = slice_get_read world (length world) class c refl l e
 
-pub interfaces_from : (world : World) (class : ℕ) (c : ClassContent) (names refs : List (Bor (List ℕ))) → class < length world → c ≡ get_or world class c → map (λ r. r.now) names ≡ c.interfaces → refs ≡ names → filter_map (λ r. class_of world r.now) refs ≡ interfaces_of world class
+pub interfaces_from : (world : World) (class : ℕ) (c : ClassContent) (names refs : List (Bor (List ℕ))) → class < length world
+    → c ≡ get_or world class c → map (λ r. r.now) names ≡ c.interfaces → refs ≡ names
+    → filter_map (λ r. class_of world r.now) refs ≡ interfaces_of world class
 interfaces_from world class c names refs l e p q =
     ap (filter_map (λ r. class_of world r.now)) q
     ∙ sym (filter_map_map (class_of world) (λ r. r.now) names)

@@ -77,7 +77,8 @@ pub record HasBuiltIns (world : World) : Type 0 where
 -- Below a class that is no interface, other than Object, stand no interfaces, since an interface extends Object and interfaces alone
 -- (JVM specification, section 5.3.5). So what is below Throwable, as the class of a handler is, stands for itself in assignments.
 pub record HasNoInterfacesBelow (world : World) : Type 0 where
-  pub no_interface : (class above : ℕ) → IsTrue (is_class_below world class above) → above ≢ object → is_interface_class world above ≡ false → is_interface_class world class ≡ false
+  pub no_interface : (class above : ℕ) → IsTrue (is_class_below world class above) → above ≢ object
+      → is_interface_class world above ≡ false → is_interface_class world class ≡ false
   pub throwable_class : (class : ℕ) → IsTrue (is_class_below world class throwable) → is_interface_class world class ≡ false
   pub throwable_type : (t : Ty) → IsTrue (is_sub world t (class_type throwable)) → IsErased (erase world) t
 
@@ -88,5 +89,8 @@ StartsWith front whole = (rest : List Slot) × (whole ≡ front ++ rest)
 -- The fields of a class come first among those of each class below it. So a field that a class declares has the same
 -- place, and holds the same, in the objects of all classes below that class.
 pub record HasFieldsInOrder (world : World) : Type 0 where
-  pub first : (class above : ℕ) → class < length world → IsTrue (is_class_below world class above) → is_interface_class world above ≡ false → StartsWith (fields_of world above) (fields_of world class)
-  pub place : (class above index place : ℕ) (slot : Slot) → class < length world → IsTrue (is_class_below world class above) → is_interface_class world above ≡ false → field_place world above index ≡ Some (place, slot) → slice_get (fields_of world class) place ≡ Some slot
+  pub first : (class above : ℕ) → class < length world → IsTrue (is_class_below world class above)
+      → is_interface_class world above ≡ false → StartsWith (fields_of world above) (fields_of world class)
+  pub place : (class above index place : ℕ) (slot : Slot) → class < length world → IsTrue (is_class_below world class above)
+      → is_interface_class world above ≡ false → field_place world above index ≡ Some (place, slot)
+      → slice_get (fields_of world class) place ≡ Some slot

@@ -1,5 +1,6 @@
 -- The order of the classes of a world without cycles, in which interfaces are under Object and interfaces alone.
-use Rattle.std.proofs.Common.{◌≡◌, ℕ, zero, suc, ◌<◌, Bool, true, false, ◌||◌, eqb, List, [], ◌∷◌, length, Option, Some, None, sym, refl, ap, ◌∙◌, subst, inl, inr, ◌⊎◌, eq-eqb}
+use Rattle.std.proofs.Common.{◌≡◌, ℕ, zero, suc, ◌<◌, Bool, true, false, ◌||◌, eqb, List, [], ◌∷◌, length, Option, Some, None, sym}
+use Rattle.std.proofs.Common.{refl, ap, ◌∙◌, subst, inl, inr, ◌⊎◌, eq-eqb}
 use Rattle.std.specs.Prelude.{option_and_then}
 use Rattle.std.proofs.lemmas.Bool.{false≢true, eqb-true, or_left, or_right}
 use Rattle.class_world.specs.World.{leads_up}
@@ -99,7 +100,8 @@ module _ (n : ℕ) (super : ℕ → Option ℕ) (up : ℕ → List ℕ) (interfa
       go true f (inr (inr t)) = let w = Walk-from_leads up n a b t in absurd (not_root (over_interface a b (w.0 ∷ w.1) f w.2 o))
 
   -- a way to a class goes by superclasses, or the class is Object
-  pub by_supers : (t c a : ℕ) (p : List ℕ) → Walk up t (c ∷ p) a → interface a ≡ false → (a ≡ 0) ⊎ (climb super (suc (length p)) t ≡ Some a)
+  pub by_supers : (t c a : ℕ) (p : List ℕ) → Walk up t (c ∷ p) a → interface a ≡ false
+      → (a ≡ 0) ⊎ (climb super (suc (length p)) t ≡ Some a)
   by_supers t c a [] w o = go (interface c) refl
     where
       go : (b : Bool) → interface c ≡ b → (a ≡ 0) ⊎ (climb super 1 t ≡ Some a)
@@ -107,7 +109,8 @@ module _ (n : ℕ) (super : ℕ → Option ℕ) (up : ℕ → List ℕ) (interfa
       go false e = inr (ap (option_and_then (climb super 0)) (h.lone t c w.0 e) ∙ ap Some w.1)
   by_supers t c a (d ∷ q) w o = go (interface c) refl (by_supers c d a q w.1 o)
     where
-      go : (b : Bool) → interface c ≡ b → (a ≡ 0) ⊎ (climb super (suc (length q)) c ≡ Some a) → (a ≡ 0) ⊎ (climb super (suc (suc (length q))) t ≡ Some a)
+      go : (b : Bool) → interface c ≡ b → (a ≡ 0) ⊎ (climb super (suc (length q)) c ≡ Some a)
+          → (a ≡ 0) ⊎ (climb super (suc (suc (length q))) t ≡ Some a)
       go true e further = inl (over_interface c a (d ∷ q) e w.1 o)
       go false e (inl z) = inl z
       go false e (inr r) = inr (ap (option_and_then (climb super (suc (length q)))) (h.lone t c w.0 e) ∙ r)
@@ -119,7 +122,8 @@ module _ (n : ℕ) (super : ℕ → Option ℕ) (up : ℕ → List ℕ) (interfa
       same f = cc
   climbed (suc k) a b e = go (super a) refl e (climbed k)
     where
-      go : (s : Option ℕ) → super a ≡ s → option_and_then (climb super k) s ≡ Some b → ((x y : ℕ) → climb super k x ≡ Some y → (x ≡ y) ⊎ (leads x y ≡ true)) → (a ≡ b) ⊎ (leads a b ≡ true)
+      go : (s : Option ℕ) → super a ≡ s → option_and_then (climb super k) s ≡ Some b
+          → ((x y : ℕ) → climb super k x ≡ Some y → (x ≡ y) ⊎ (leads x y ≡ true)) → (a ≡ b) ⊎ (leads a b ≡ true)
       go None e f further = cc
       go (Some c) e f further = elim (further c b f) [
         | inl s ↦ inr (leads-from_any_Walk up n h.closed a b c [] (h.super_in a c e, s))
@@ -148,12 +152,15 @@ module _ (n : ℕ) (super : ℕ → Option ℕ) (up : ℕ → List ℕ) (interfa
       from (inr l) q = below_up b a (subst (λ (x : ℕ). leads x a ≡ true) q l)
   along (suc i) (suc j) t a b e f = go (super t) e f (along i j)
     where
-      go : (s : Option ℕ) → option_and_then (climb super i) s ≡ Some a → option_and_then (climb super j) s ≡ Some b → ((x y z : ℕ) → climb super i x ≡ Some y → climb super j x ≡ Some z → (below y z ≡ true) ⊎ (below z y ≡ true)) → (below a b ≡ true) ⊎ (below b a ≡ true)
+      go : (s : Option ℕ) → option_and_then (climb super i) s ≡ Some a → option_and_then (climb super j) s ≡ Some b
+          → ((x y z : ℕ) → climb super i x ≡ Some y → climb super j x ≡ Some z → (below y z ≡ true) ⊎ (below z y ≡ true))
+          → (below a b ≡ true) ⊎ (below b a ≡ true)
       go None p q further = cc
       go (Some c) p q further = further c a b p q
 
   -- of two classes, and no interfaces, above one class or interface one is above the other
-  pub below_chain : (t a b : ℕ) → below t a ≡ true → below t b ≡ true → interface a ≡ false → interface b ≡ false → (below a b ≡ true) ⊎ (below b a ≡ true)
+  pub below_chain : (t a b : ℕ) → below t a ≡ true → below t b ≡ true → interface a ≡ false → interface b ≡ false
+      → (below a b ≡ true) ⊎ (below b a ≡ true)
   below_chain t a b e f i j = go (below_cases t a e) (below_cases t b f)
     where
       to_root_right : a ≡ 0 → (below a b ≡ true) ⊎ (below b a ≡ true)
@@ -162,7 +169,8 @@ module _ (n : ℕ) (super : ℕ → Option ℕ) (up : ℕ → List ℕ) (interfa
       to_root_left : b ≡ 0 → (below a b ≡ true) ⊎ (below b a ≡ true)
       to_root_left z = inl (subst (λ (x : ℕ). below a x ≡ true) (sym z) (below_root a))
 
-      both : (a ≡ 0) ⊎ ((k : ℕ) × (climb super k t ≡ Some a)) → (b ≡ 0) ⊎ ((k : ℕ) × (climb super k t ≡ Some b)) → (below a b ≡ true) ⊎ (below b a ≡ true)
+      both : (a ≡ 0) ⊎ ((k : ℕ) × (climb super k t ≡ Some a)) → (b ≡ 0) ⊎ ((k : ℕ) × (climb super k t ≡ Some b))
+          → (below a b ≡ true) ⊎ (below b a ≡ true)
       both (inl z) _ = to_root_right z
       both (inr r) (inl z) = to_root_left z
       both (inr r) (inr s) = along r.0 s.0 t a b r.1 s.1

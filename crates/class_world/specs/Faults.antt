@@ -4,7 +4,9 @@ use Rattle.list_views.specs.FaultWords.{joined, bytes_field}
 use Rattle.code_forms.specs.Faults.{pc_field, fault_name as code_fault_name, fault_fields as code_fault_fields}
 use Rattle.class_world.specs.declared.fault.MethodName.{MethodName}
 use Rattle.class_world.specs.declared.fault.LinkFault.{LinkFault}
-use Rattle.class_world.specs.declared.fault.LinkFault.TheVariants.{DuplicateClass, MissingClass, CyclicHierarchy, BadSuper, DefaultMethod, StaticInit, Native, Synchronized, UnsupportedType, Unresolved, PrivateVirtual, Code, TooManyStatics, Memory}
+use Rattle.class_world.specs.declared.fault.LinkFault.TheVariants.{DuplicateClass, MissingClass, CyclicHierarchy, BadSuper}
+use Rattle.class_world.specs.declared.fault.LinkFault.TheVariants.{DefaultMethod, StaticInit, Native, Synchronized, UnsupportedType}
+use Rattle.class_world.specs.declared.fault.LinkFault.TheVariants.{Unresolved, PrivateVirtual, Code, TooManyStatics, Memory}
 
 abbrev pub fault_name : LinkFault → List ℕ
 fault_name (DuplicateClass name) = codes "DuplicateClass"

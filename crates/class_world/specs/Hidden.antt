@@ -14,7 +14,8 @@ use Rattle.class_world.specs.Resolve.{declared_field}
 -- declares no field
 unfoldable pub has_field_above : World → List ℕ → List ℕ → ℕ → Bool
 has_field_above world name desc interface =
-    list_any (λ over. is_class_below world interface over && is_some (declared_field world over name desc)) (range_with_len 0 (length world))
+    list_any (λ over. is_class_below world interface over && is_some (declared_field world over name desc))
+    (range_with_len 0 (length world))
 
 -- some superinterface of a class, over any number of steps, declares such a field
 unfoldable pub implements_field : World → List ℕ → List ℕ → ℕ → Bool

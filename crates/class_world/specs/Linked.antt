@@ -1,5 +1,6 @@
 -- What linking gives: the hierarchy of a linked world, and the order of its classes.
-use Rattle.std.proofs.Common.{◌≡◌, ℕ, zero, suc, ◌+◌, ◌<◌, Bool, true, false, not, ◌||◌, ◌&&◌, cond, eqb, List, [], ◌∷◌, ◌++◌, length, Option, Some, None, sym, refl, ap, ◌∙◌, subst, inl, inr, ◌⊎◌, arith, zero-add}
+use Rattle.std.proofs.Common.{◌≡◌, ℕ, zero, suc, ◌+◌, ◌<◌, Bool, true, false, not, ◌||◌, ◌&&◌, cond, eqb, List, [], ◌∷◌, ◌++◌}
+use Rattle.std.proofs.Common.{length, Option, Some, None, sym, refl, ap, ◌∙◌, subst, inl, inr, ◌⊎◌, arith, zero-add}
 use Rattle.std.specs.Prelude.{option_and_then, slice_get, is_none, filter_map}
 use Rattle.std.specs.List.{list_any, cons_option}
 use Rattle.std.specs.Option.{option_map_or, option_or}
@@ -10,9 +11,11 @@ use Rattle.std.proofs.lemmas.Option.{slice_get_within}
 use Rattle.class_read.specs.Content.{ClassContent}
 use Rattle.class_world.specs.declared.fault.LinkFault.{LinkFault}
 use Rattle.class_world.specs.declared.fault.LinkFault.TheVariants.{CyclicHierarchy, BadSuper}
-use Rattle.class_world.specs.World.{World, built_in, class_of, super_of, interfaces_of, supers_of, listed, is_interface_class, is_above, is_interface, leads_up}
+use Rattle.class_world.specs.World.{World, built_in, class_of, super_of, interfaces_of, supers_of, listed, is_interface_class}
+use Rattle.class_world.specs.World.{is_above, is_interface, leads_up}
 use Rattle.class_world.specs.Types.{is_class_below}
-use Rattle.class_world.specs.Linking.{Rule, first_broken, duplicate_class, missing_super, cyclic_hierarchy, bad_super, is_bad_superclass, link_fault, later_fault, is_rooted, is_linked}
+use Rattle.class_world.specs.Linking.{Rule, first_broken, duplicate_class, missing_super, cyclic_hierarchy, bad_super}
+use Rattle.class_world.specs.Linking.{is_bad_superclass, link_fault, later_fault, is_rooted, is_linked}
 use Rattle.class_world.specs.Walks.{IsIn}
 use Rattle.class_world.specs.Classes.{IsHierarchy, below_root, below_same, below_trans, below_antisym, below_chain, root_below}
 use Rattle.class_world.specs.Subtypes.{IsClassOrder}
@@ -26,7 +29,8 @@ none_from None e = refl
 none_from (Some a) e = absurd (false≢true e)
 
 -- no class breaks a rule that none breaks
-pub kept : (rule : Rule) (m : ℕ) (cs : List ClassContent) → first_broken rule m cs ≡ None → (n : ℕ) (c : ClassContent) → slice_get cs n ≡ Some c → rule (m + n) c ≡ None
+pub kept : (rule : Rule) (m : ℕ) (cs : List ClassContent) → first_broken rule m cs ≡ None → (n : ℕ) (c : ClassContent)
+    → slice_get cs n ≡ Some c → rule (m + n) c ≡ None
 kept rule m [] e n c s = cc
 kept rule m (d ∷ cs) e zero c s =
     let r = (or_none (rule m d) (first_broken rule (suc m) cs) e).0 in
@@ -52,9 +56,11 @@ linked_from world e =
     let c = or_none (first_broken (cyclic_hierarchy world) 0 world) _ b.1 in
     let d = or_none (first_broken (bad_super world) 0 world) _ c.1 in
     record {
-      distinct = λ n x s. subst (λ (k : ℕ). duplicate_class world k x ≡ None) (zero-add n) (kept (duplicate_class world) 0 world a.0 n x s);
+      distinct = λ n x s. subst (λ (k : ℕ). duplicate_class world k x ≡ None) (zero-add n)
+          (kept (duplicate_class world) 0 world a.0 n x s);
       present = λ n x s. subst (λ (k : ℕ). missing_super world k x ≡ None) (zero-add n) (kept (missing_super world) 0 world b.0 n x s);
-      acyclic = λ n x s. subst (λ (k : ℕ). cyclic_hierarchy world k x ≡ None) (zero-add n) (kept (cyclic_hierarchy world) 0 world c.0 n x s);
+      acyclic = λ n x s. subst (λ (k : ℕ). cyclic_hierarchy world k x ≡ None) (zero-add n)
+          (kept (cyclic_hierarchy world) 0 world c.0 n x s);
       right = λ n x s. subst (λ (k : ℕ). bad_super world k x ≡ None) (zero-add n) (kept (bad_super world) 0 world d.0 n x s);
       rooted = p.1;
     }
@@ -78,7 +84,8 @@ filter_map-In : (f : List ℕ → Option ℕ) (names : List (List ℕ)) (x : ℕ
 filter_map-In f [] x h = absurd h
 filter_map-In f (name ∷ names) x h = go (f name) refl h (filter_map-In f names x)
   where
-    go : (o : Option ℕ) → f name ≡ o → IsIn x (cons_option o (filter_map f names)) → (IsIn x (filter_map f names) → (m : List ℕ) × (f m ≡ Some x)) → (m : List ℕ) × (f m ≡ Some x)
+    go : (o : Option ℕ) → f name ≡ o → IsIn x (cons_option o (filter_map f names))
+        → (IsIn x (filter_map f names) → (m : List ℕ) × (f m ≡ Some x)) → (m : List ℕ) × (f m ≡ Some x)
     go None e t rest = rest t
     go (Some y) e (inl same) rest = (name, e ∙ ap Some (sym same))
     go (Some y) e (inr there) rest = rest there
@@ -93,7 +100,8 @@ interface_of_world world a b h = go (slice_get world a) h
 pub super_of_world : (world : World) (a b : ℕ) → super_of world a ≡ Some b → b < length world
 super_of_world world a b e = go (eqb a 0) (slice_get world a) e
   where
-    go : (z : Bool) (o : Option ClassContent) → cond z None (option_and_then (λ c. class_of world c.super_name) o) ≡ Some b → b < length world
+    go : (z : Bool) (o : Option ClassContent) → cond z None (option_and_then (λ c. class_of world c.super_name) o) ≡ Some b
+        → b < length world
     go true o f = cc
     go false None f = cc
     go false (Some c) f = class_of_within world c.super_name b f
@@ -115,14 +123,17 @@ no_names : (xs : List (List ℕ)) → eqb (length xs) 0 ≡ true → xs ≡ []
 no_names [] e = refl
 no_names (x ∷ xs) e = absurd (omega (arith, eqb-true (length (x ∷ xs)) 0 e))
 
-root_facts : (world : World) → is_rooted world ≡ true → (c : ClassContent) × (slice_get world 0 ≡ Some c) × (is_interface c.flags ≡ false) × (c.interfaces ≡ [])
+root_facts : (world : World) → is_rooted world ≡ true → (c : ClassContent) × (slice_get world 0 ≡ Some c)
+    × (is_interface c.flags ≡ false) × (c.interfaces ≡ [])
 root_facts world e = go (slice_get world 0) refl e
   where
     not_true : (x : Bool) → not x ≡ true → x ≡ false
     not_true true f = absurd (false≢true f)
     not_true false f = refl
 
-    go : (o : Option ClassContent) → slice_get world 0 ≡ o → option_map_or (λ c. not (is_interface c.flags) && eqb (length c.interfaces) 0) o false ≡ true → (c : ClassContent) × (slice_get world 0 ≡ Some c) × (is_interface c.flags ≡ false) × (c.interfaces ≡ [])
+    go : (o : Option ClassContent) → slice_get world 0 ≡ o
+        → option_map_or (λ c. not (is_interface c.flags) && eqb (length c.interfaces) 0) o false ≡ true
+        → (c : ClassContent) × (slice_get world 0 ≡ Some c) × (is_interface c.flags ≡ false) × (c.interfaces ≡ [])
     go None s f = absurd (false≢true f)
     go (Some c) s f =
         let p = and_parts (not (is_interface c.flags)) (eqb (length c.interfaces) 0) f in
@@ -143,7 +154,8 @@ none_in_root world e b h = go (supers_cases world 0 b h)
 pub at_class : (world : World) (a : ℕ) → ((c : ClassContent) × (slice_get world a ≡ Some c)) ⊎ (slice_get world a ≡ None)
 at_class world a = go (slice_get world a) refl
   where
-    go : (o : Option ClassContent) → slice_get world a ≡ o → ((c : ClassContent) × (slice_get world a ≡ Some c)) ⊎ (slice_get world a ≡ None)
+    go : (o : Option ClassContent) → slice_get world a ≡ o → ((c : ClassContent) × (slice_get world a ≡ Some c))
+        ⊎ (slice_get world a ≡ None)
     go None e = inr e
     go (Some c) e = inl (c, e)
 
@@ -152,11 +164,15 @@ unfolding supers_of
 no_supers world a e = go (eqb a 0)
   where
     f : Option ClassContent → Bool → List ℕ
-    f o z = listed (cond z None (option_and_then (λ c. class_of world c.super_name) o)) ++ option_map_or (λ c. filter_map (class_of world) c.interfaces) o []
+    f o z = listed (cond z None (option_and_then (λ c. class_of world c.super_name) o)) ++ option_map_or
+        (λ c. filter_map (class_of world) c.interfaces) o []
 
-    go : (z : Bool) → listed (cond z None (option_and_then (λ c. class_of world c.super_name) (slice_get world a))) ++ option_map_or (λ c. filter_map (class_of world) c.interfaces) (slice_get world a) [] ≡ []
-    go true = subst (λ (o : Option ClassContent). listed (cond true None (option_and_then (λ c. class_of world c.super_name) o)) ++ option_map_or (λ c. filter_map (class_of world) c.interfaces) o [] ≡ []) (sym e) refl
-    go false = subst (λ (o : Option ClassContent). listed (cond false None (option_and_then (λ c. class_of world c.super_name) o)) ++ option_map_or (λ c. filter_map (class_of world) c.interfaces) o [] ≡ []) (sym e) refl
+    go : (z : Bool) → listed (cond z None (option_and_then (λ c. class_of world c.super_name) (slice_get world a))) ++ option_map_or
+        (λ c. filter_map (class_of world) c.interfaces) (slice_get world a) [] ≡ []
+    go true = subst (λ (o : Option ClassContent). listed (cond true None (option_and_then (λ c. class_of world c.super_name) o))
+        ++ option_map_or (λ c. filter_map (class_of world) c.interfaces) o [] ≡ []) (sym e) refl
+    go false = subst (λ (o : Option ClassContent). listed (cond false None (option_and_then (λ c. class_of world c.super_name) o))
+        ++ option_map_or (λ c. filter_map (class_of world) c.interfaces) o [] ≡ []) (sym e) refl
 
 never_up : (up : ℕ → List ℕ) (k a b : ℕ) → up a ≡ [] → leads_up up k a b ≡ false
 never_up up zero a b e = refl
@@ -179,12 +195,16 @@ none_passes p (y ∷ ys) e x (inl same) = subst (λ (z : ℕ). p z ≡ false) (s
 none_passes p (y ∷ ys) e x (inr there) = none_passes p ys (or_parts (p y) (list_any p ys) e).1 x there
 
 -- what the rule on superclasses and interfaces says of a class that is there
-right_facts : (world : World) → IsLinked world → (a : ℕ) (c : ClassContent) → slice_get world a ≡ Some c → ((b : ℕ) → super_of world a ≡ Some b → is_bad_superclass world c.flags b ≡ false) × ((b : ℕ) → IsIn b (interfaces_of world a) → is_interface_class world b ≡ true)
+right_facts : (world : World) → IsLinked world → (a : ℕ) (c : ClassContent) → slice_get world a ≡ Some c
+    → ((b : ℕ) → super_of world a ≡ Some b → is_bad_superclass world c.flags b ≡ false)
+    × ((b : ℕ) → IsIn b (interfaces_of world a) → is_interface_class world b ≡ true)
 unfolding bad_super
 right_facts world h a c s =
-    let both = or_parts (option_map_or (is_bad_superclass world c.flags) (super_of world a) false) (list_any (λ i. not (is_interface_class world i)) (interfaces_of world a)) (if_none _ (BadSuper c.name) (h.right a c s)) in (
+    let both = or_parts (option_map_or (is_bad_superclass world c.flags) (super_of world a) false)
+    (list_any (λ i. not (is_interface_class world i)) (interfaces_of world a)) (if_none _ (BadSuper c.name) (h.right a c s)) in (
       λ b e. subst (λ (o : Option ℕ). option_map_or (is_bad_superclass world c.flags) o false ≡ false) e both.0,
-      λ b q. not-false (is_interface_class world b) (none_passes (λ i. not (is_interface_class world i)) (interfaces_of world a) both.1 b q),
+      λ b q. not-false (is_interface_class world b)
+          (none_passes (λ i. not (is_interface_class world i)) (interfaces_of world a) both.1 b q),
     )
 
 class_flags : (world : World) (a : ℕ) (c : ClassContent) → slice_get world a ≡ Some c → is_interface_class world a ≡ is_interface c.flags
@@ -227,7 +247,8 @@ hierarchy world h =
     under a b f i o = elim (at_class world a) [
       | inl r ↦ elim (supers_cases world a b i) [
         | inl e ↦
-            let bad = or_parts (is_interface_class world b) (is_interface r.0.flags && not (eqb b 0)) ((right_facts world h a r.0 r.1).0 b e) in
+            let bad = or_parts (is_interface_class world b) (is_interface r.0.flags && not (eqb b 0))
+            ((right_facts world h a r.0 r.1).0 b e) in
             elim (and_cases (is_interface r.0.flags) (not (eqb b 0)) bad.1) [
               | inl x ↦ absurd (clash a f (class_flags world a r.0 r.1 ∙ x))
               | inr y ↦ eqb-true b 0 (not-false (eqb b 0) y)

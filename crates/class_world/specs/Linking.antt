@@ -1,17 +1,20 @@
 -- When classes make a world, and else the first rule that they break: rule by rule, and of a rule the first class by
 -- its number (JVM specification, sections 5.3 and 5.3.5).
-use Rattle.std.specs.Prelude.{◌≡◌, ℕ, suc, ◌==◌, ◌||◌, ◌&&◌, not, Bool, true, false, if◌then◌else◌, List, [], ◌∷◌, length, slice_get, Option, Some, None, is_none, nat_lt, Result, option_and_then, codes}
+use Rattle.std.specs.Prelude.{◌≡◌, ℕ, suc, ◌==◌, ◌||◌, ◌&&◌, not, Bool, true, false, if◌then◌else◌, List, [], ◌∷◌, length}
+use Rattle.std.specs.Prelude.{slice_get, Option, Some, None, is_none, nat_lt, Result, option_and_then, codes}
 use Rattle.std.specs.List.{list_any, list_all}
 use Rattle.std.specs.Option.{option_map_or, option_or}
 use Rattle.std.specs.Str.{bytes_eq}
 use Rattle.list_views.specs.Results as results
 use Rattle.class_world.specs.declared.fault.LinkFault.{LinkFault}
-use Rattle.class_world.specs.declared.fault.LinkFault.TheVariants.{DuplicateClass, MissingClass, CyclicHierarchy, BadSuper, DefaultMethod, Memory}
+use Rattle.class_world.specs.declared.fault.LinkFault.TheVariants.{DuplicateClass, MissingClass, CyclicHierarchy, BadSuper}
+use Rattle.class_world.specs.declared.fault.LinkFault.TheVariants.{DefaultMethod, Memory}
 use Rattle.class_world.specs.declared.linking.LinkRule.{LinkRule}
 use Rattle.class_world.specs.declared.linking.LinkRule.TheVariants as rules
 use Rattle.class_read.specs.Rules.{Spells}
 use Rattle.class_read.specs.Content.{ClassContent, MethodContent}
-use Rattle.class_world.specs.World.{World, class_of, super_of, interfaces_of, is_interface_class, is_above, is_interface, is_abstract, is_static}
+use Rattle.class_world.specs.World.{World, class_of, super_of, interfaces_of, is_interface_class, is_above, is_interface}
+use Rattle.class_world.specs.World.{is_abstract, is_static}
 
 -- what a rule says of a class and its number
 abbrev pub Rule : Type 0

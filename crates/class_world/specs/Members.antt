@@ -21,4 +21,5 @@ initialiser_name = codes "<clinit>"
 unfoldable pub find_method : World → List ℕ → List ℕ → List ℕ → Option MethodRef
 find_method world class name desc =
     if bytes_eq name initialiser_name then None
-    else option_and_then (λ n. option_map (λ i. record { class = n; index = i }) (declared_method world n name desc)) (class_of world class)
+    else option_and_then (λ n. option_map (λ i. record { class = n; index = i }) (declared_method world n name desc))
+    (class_of world class)

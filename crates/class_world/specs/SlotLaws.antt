@@ -1,5 +1,6 @@
 -- What fields hold is of the world.
-use Rattle.std.proofs.Common.{◌≡◌, ◌++◌, ℕ, zero, suc, ◌≤◌, Bool, true, false, cond, ltb, List, [], ◌∷◌, length, drop, Option, Some, None, sym, refl, ap, subst, arith}
+use Rattle.std.proofs.Common.{◌≡◌, ◌++◌, ℕ, zero, suc, ◌≤◌, Bool, true, false, cond, ltb, List, [], ◌∷◌, length, drop, Option, Some}
+use Rattle.std.proofs.Common.{None, sym, refl, ap, subst, arith}
 use Rattle.std.specs.Prelude.{option_and_then, slice_get, All}
 use Rattle.std.specs.List.{filter_map, flat_map, cons_option, AllByRecursion}
 use Rattle.std.specs.Option.{option_map_or}
@@ -24,7 +25,8 @@ pub every_append : {A : Type 0} (P : A → Type 0) (xs ys : List A) → AllByRec
 every_append P [] ys h k = k
 every_append P (x ∷ xs) ys h k = (h.0, every_append P xs ys h.1 k)
 
-pub every_filter : {A B : Type 0} (P : B → Type 0) (f : A → Option B) (xs : List A) → ((x : A) (y : B) → f x ≡ Some y → P y) → AllByRecursion P (filter_map f xs)
+pub every_filter : {A B : Type 0} (P : B → Type 0) (f : A → Option B) (xs : List A) → ((x : A) (y : B) → f x ≡ Some y → P y)
+    → AllByRecursion P (filter_map f xs)
 every_filter P f [] h = tt
 every_filter {B = B} P f (x ∷ xs) h = go (f x) refl (every_filter P f xs h)
   where
@@ -32,7 +34,8 @@ every_filter {B = B} P f (x ∷ xs) h = go (f x) refl (every_filter P f xs h)
     go None e rest = rest
     go (Some y) e rest = (h x y e, rest)
 
-every_flat : {A B : Type 0} (P : B → Type 0) (f : A → List B) (xs : List A) → ((x : A) → AllByRecursion P (f x)) → AllByRecursion P (flat_map f xs)
+every_flat : {A B : Type 0} (P : B → Type 0) (f : A → List B) (xs : List A) → ((x : A) → AllByRecursion P (f x))
+    → AllByRecursion P (flat_map f xs)
 every_flat P f [] h = tt
 every_flat P f (x ∷ xs) h = every_append P (f x) (flat_map f xs) (h x) (every_flat P f xs h)
 
@@ -45,7 +48,9 @@ pub type_dims : (bytes rest : List ℕ) (t : FieldType) → type_at bytes ≡ So
 unfolding type_at
 type_dims bytes rest t e = go (ltb 255 (array_depth bytes)) refl (element_at (drop (array_depth bytes) bytes)) e
   where
-    go : (b : Bool) → ltb 255 (array_depth bytes) ≡ b → (o : Option (Element × List ℕ)) → cond {A = Option (FieldType × List ℕ)} b None (option_and_then (λ x. Some (record { dims = array_depth bytes; element = x.0 }, x.1)) o) ≡ Some (t, rest) → t.dims ≤ 255
+    go : (b : Bool) → ltb 255 (array_depth bytes) ≡ b → (o : Option (Element × List ℕ))
+        → cond {A = Option (FieldType × List ℕ)} b None
+        (option_and_then (λ x. Some (record { dims = array_depth bytes; element = x.0 }, x.1)) o) ≡ Some (t, rest) → t.dims ≤ 255
     go true d o f = cc
     go false d None f = cc
     go false d (Some x) f =
@@ -55,9 +60,12 @@ type_dims bytes rest t e = go (ltb 255 (array_depth bytes)) refl (element_at (dr
 
 number_is : (n dims : ℕ) (kind : Kind) → dims ≤ 255 → IsSlot n (number_slot dims kind)
 number_is n zero kind l = tt
-number_is n (suc d) kind l = subst (λ (b : Bool). IsSlot n (cond b (Num kind) (Ref (record { dims = suc d; base = bases.Num kind })))) (sym (ne_eqb (suc d) 0 (λ e. omega (arith, e)))) (l, omega arith)
+number_is n (suc d) kind l = subst
+    (λ (b : Bool). IsSlot n (cond b (Num kind) (Ref (record { dims = suc d; base = bases.Num kind }))))
+    (sym (ne_eqb (suc d) 0 (λ e. omega (arith, e)))) (l, omega arith)
 
-pub meaning_is : (world : World) (t : FieldType) (slot : Slot) → t.dims ≤ 255 → known_slot (meaning_of world t) ≡ Some slot → IsSlot (length world) slot
+pub meaning_is : (world : World) (t : FieldType) (slot : Slot) → t.dims ≤ 255 → known_slot (meaning_of world t) ≡ Some slot
+    → IsSlot (length world) slot
 meaning_is world t slot l e = by t.element e
   where
     by : (x : Element) → known_slot (meaning_of world (record { dims = t.dims; element = x })) ≡ Some slot → IsSlot (length world) slot
@@ -65,7 +73,8 @@ meaning_is world t slot l e = by t.element e
       where
         go : (k : Option Kind) → known_slot (primitive_meaning t.dims k) ≡ Some slot → IsSlot (length world) slot
         go None g = cc
-        go (Some k) g = let same : number_slot t.dims k ≡ slot = cc in subst (λ (s : Slot). IsSlot (length world) s) same (number_is (length world) t.dims k l)
+        go (Some k) g = let same : number_slot t.dims k ≡ slot = cc in subst (λ (s : Slot). IsSlot (length world) s) same
+            (number_is (length world) t.dims k l)
     by (Object name) f = go (class_of world name) refl f
       where
         go : (o : Option ℕ) → class_of world name ≡ o → known_slot (object_meaning t.dims name o) ≡ Some slot → IsSlot (length world) slot
@@ -78,7 +87,8 @@ pub slot_is : (world : World) (desc : List ℕ) (slot : Slot) → slot_of world 
 unfolding slot_of
 slot_is world desc slot e = go (type_at desc) refl e
   where
-    go : (o : Option (FieldType × List ℕ)) → type_at desc ≡ o → option_and_then (λ x. known_slot (meaning_of world x.0)) o ≡ Some slot → IsSlot (length world) slot
+    go : (o : Option (FieldType × List ℕ)) → type_at desc ≡ o
+        → option_and_then (λ x. known_slot (meaning_of world x.0)) o ≡ Some slot → IsSlot (length world) slot
     go None t f = cc
     go (Some x) t f = meaning_is world x.0 slot (type_dims desc x.1 x.0 t) f
 
@@ -93,10 +103,12 @@ own_are : (world : World) (class : ℕ) → AllByRecursion (IsSlot (length world
 unfolding own_slots
 own_are world class = go (slice_get world class)
   where
-    go : (o : Option ClassContent) → AllByRecursion (IsSlot (length world)) (option_map_or (λ c. filter_map (field_slot world) c.fields) o [])
+    go : (o : Option ClassContent)
+        → AllByRecursion (IsSlot (length world)) (option_map_or (λ c. filter_map (field_slot world) c.fields) o [])
     go None = tt
     go (Some c) = every_filter (IsSlot (length world)) (field_slot world) c.fields (field_is world)
 
 pub fields_are : (world : World) (class : ℕ) → All (IsSlot (length world)) (fields_of world class)
 unfolding fields_of
-fields_are world class = every_all (IsSlot (length world)) (fields_of world class) (every_flat (IsSlot (length world)) (own_slots world) _ (own_are world))
+fields_are world class = every_all (IsSlot (length world)) (fields_of world class)
+    (every_flat (IsSlot (length world)) (own_slots world) _ (own_are world))

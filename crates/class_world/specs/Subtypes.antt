@@ -1,5 +1,6 @@
 -- The laws of subtypes and erasure, from those of the order of classes.
-use Rattle.std.proofs.Common.{◌≡◌, ℕ, zero, suc, ◌+◌, ◌<◌, Bool, true, false, ◌&&◌, cond, eqb, ltb, leb, List, sym, refl, ap, ◌∙◌, subst, inl, inr, ◌⊎◌, arith, eq-eqb}
+use Rattle.std.proofs.Common.{◌≡◌, ℕ, zero, suc, ◌+◌, ◌<◌, Bool, true, false, ◌&&◌, cond, eqb, ltb, leb, List, sym, refl, ap, ◌∙◌}
+use Rattle.std.proofs.Common.{subst, inl, inr, ◌⊎◌, arith, eq-eqb}
 use Rattle.std.specs.Prelude.{All}
 use Rattle.std.proofs.lemmas.Bool.{false≢true, eqb-true, ltb-true, leb-true, lt-ltb, le-leb, and_parts, and_from, ne_eqb, cases_lt}
 use Rattle.jvm_values.specs.declared.types.Ty.{Ty}
@@ -8,9 +9,11 @@ use Rattle.jvm_values.specs.declared.types.Kind.TheVariants.{Boolean, Char, Byte
 use Rattle.jvm_values.specs.declared.types.Base.{Base}
 use Rattle.jvm_values.specs.declared.types.Base.TheVariants.{Class, Num}
 use Rattle.jvm_values.specs.declared.types.Slot.{Slot}
-use Rattle.jvm_values.specs.Subtyping.{class_type, object_type, array_of, array_of_numbers, IsReference, IsReferenceBase, IsSlot, IsArrayAbove, SubtypeLaws}
+use Rattle.jvm_values.specs.Subtyping.{class_type, object_type, array_of, array_of_numbers, IsReference, IsReferenceBase, IsSlot}
+use Rattle.jvm_values.specs.Subtyping.{IsArrayAbove, SubtypeLaws}
 use Rattle.jvm_values.proofs.Joining.{same_type}
-use Rattle.class_world.specs.Types.{is_reference, is_reference_base, is_same_kind, is_base_below, is_object, is_sub_by, erased_base, erase_by}
+use Rattle.class_world.specs.Types.{is_reference, is_reference_base, is_same_kind, is_base_below, is_object, is_sub_by, erased_base}
+use Rattle.class_world.specs.Types.{erase_by}
 
 pub record IsClassOrder (n : ℕ) (below : ℕ → ℕ → Bool) (interface : ℕ → Bool) : Type 0 where
   pub some : 0 < n
@@ -19,7 +22,8 @@ pub record IsClassOrder (n : ℕ) (below : ℕ → ℕ → Bool) (interface : �
   pub antisymmetric : (a b : ℕ) → below a b ≡ true → below b a ≡ true → a ≡ b
   pub top : (a : ℕ) → below a 0 ≡ true
   pub root : (a : ℕ) → below 0 a ≡ true → a ≡ 0
-  pub chain : (t a b : ℕ) → below t a ≡ true → below t b ≡ true → interface a ≡ false → interface b ≡ false → (below a b ≡ true) ⊎ (below b a ≡ true)
+  pub chain : (t a b : ℕ) → below t a ≡ true → below t b ≡ true → interface a ≡ false → interface b ≡ false
+      → (below a b ≡ true) ⊎ (below b a ≡ true)
   pub class_root : interface 0 ≡ false
   pub interface_in : (a : ℕ) → interface a ≡ true → a < n
 
@@ -52,7 +56,8 @@ reference_from n t e =
     (leb-true t.dims 255 p.0, reference_base_from n t.dims t.base p.1)
 
 pub reference_to : (n : ℕ) (t : Ty) → IsReference n t → is_reference n t ≡ true
-reference_to n t h = and_from (leb t.dims 255) (is_reference_base n t.dims t.base) (le-leb t.dims 255 h.0) (reference_base_to n t.dims t.base h.1)
+reference_to n t h = and_from (leb t.dims 255) (is_reference_base n t.dims t.base) (le-leb t.dims 255 h.0)
+    (reference_base_to n t.dims t.base h.1)
 
 is_object_from : (x : Base) → is_object x ≡ true → x ≡ Class 0
 is_object_from (Class c) e = ap Class (eqb-true c 0 e)
@@ -91,7 +96,8 @@ module _ (n : ℕ) (below : ℕ → ℕ → Bool) (interface : ℕ → Bool) (h 
 
   -- what stands in the relation, in words
   abbrev Stands : Ty → Ty → Type 0
-  Stands a b = IsReference n a × IsReference n b × (((a.dims ≡ b.dims) × BaseBelow a.base b.base) ⊎ ((b.dims < a.dims) × (b.base ≡ Class 0)))
+  Stands a b = IsReference n a × IsReference n b
+      × (((a.dims ≡ b.dims) × BaseBelow a.base b.base) ⊎ ((b.dims < a.dims) × (b.base ≡ Class 0)))
 
   pub stands_from : (a b : Ty) → sub a b ≡ true → Stands a b
   unfolding is_sub_by
@@ -100,23 +106,32 @@ module _ (n : ℕ) (below : ℕ → ℕ → Bool) (interface : ℕ → Bool) (h 
       let q = and_parts (is_reference n a) (is_reference n b) p.0 in
       (reference_from n a q.0, reference_from n b q.1, go (eqb a.dims b.dims) refl p.1)
     where
-      go : (r : Bool) → eqb a.dims b.dims ≡ r → cond r (is_base_below below a.base b.base) (ltb b.dims a.dims && is_object b.base) ≡ true → ((a.dims ≡ b.dims) × BaseBelow a.base b.base) ⊎ ((b.dims < a.dims) × (b.base ≡ Class 0))
+      go : (r : Bool) → eqb a.dims b.dims ≡ r → cond r (is_base_below below a.base b.base) (ltb b.dims a.dims && is_object b.base)
+          ≡ true → ((a.dims ≡ b.dims) × BaseBelow a.base b.base) ⊎ ((b.dims < a.dims) × (b.base ≡ Class 0))
       go true d f = inl (eqb-true a.dims b.dims d, f)
-      go false d f = let r = and_parts (ltb b.dims a.dims) (is_object b.base) f in inr (ltb-true b.dims a.dims r.0, is_object_from b.base r.1)
+      go false d f = let r = and_parts (ltb b.dims a.dims) (is_object b.base) f in inr
+          (ltb-true b.dims a.dims r.0, is_object_from b.base r.1)
 
   pub stands_to : (a b : Ty) → Stands a b → sub a b ≡ true
   unfolding is_sub_by
   stands_to a b s =
-      and_from (is_reference n a && is_reference n b) _ (and_from (is_reference n a) (is_reference n b) (reference_to n a s.0) (reference_to n b s.1)) (go s.2)
+      and_from (is_reference n a && is_reference n b) _
+      (and_from (is_reference n a) (is_reference n b) (reference_to n a s.0) (reference_to n b s.1)) (go s.2)
     where
-      go : ((a.dims ≡ b.dims) × BaseBelow a.base b.base) ⊎ ((b.dims < a.dims) × (b.base ≡ Class 0)) → cond (eqb a.dims b.dims) (is_base_below below a.base b.base) (ltb b.dims a.dims && is_object b.base) ≡ true
-      go (inl r) = subst (λ (x : Bool). cond x (is_base_below below a.base b.base) (ltb b.dims a.dims && is_object b.base) ≡ true) (sym (eq-eqb a.dims b.dims r.0)) r.1
-      go (inr r) = subst (λ (x : Bool). cond x (is_base_below below a.base b.base) (ltb b.dims a.dims && is_object b.base) ≡ true) (sym (ne_eqb a.dims b.dims (omega (arith, r.0)))) (and_from (ltb b.dims a.dims) (is_object b.base) (lt-ltb b.dims a.dims r.0) (is_object_to b.base r.1))
+      go : ((a.dims ≡ b.dims) × BaseBelow a.base b.base) ⊎ ((b.dims < a.dims) × (b.base ≡ Class 0))
+          → cond (eqb a.dims b.dims) (is_base_below below a.base b.base) (ltb b.dims a.dims && is_object b.base) ≡ true
+      go (inl r) = subst (λ (x : Bool). cond x (is_base_below below a.base b.base) (ltb b.dims a.dims && is_object b.base) ≡ true)
+          (sym (eq-eqb a.dims b.dims r.0)) r.1
+      go (inr r) = subst (λ (x : Bool). cond x (is_base_below below a.base b.base) (ltb b.dims a.dims && is_object b.base) ≡ true)
+          (sym (ne_eqb a.dims b.dims (omega (arith, r.0))))
+          (and_from (ltb b.dims a.dims) (is_object b.base) (lt-ltb b.dims a.dims r.0) (is_object_to b.base r.1))
 
   follows_stands : (a b c : Ty) → Stands a b → Stands b c → Stands a c
   follows_stands a b c s t = (s.0, t.1, go s.2 t.2)
     where
-      go : ((a.dims ≡ b.dims) × BaseBelow a.base b.base) ⊎ ((b.dims < a.dims) × (b.base ≡ Class 0)) → ((b.dims ≡ c.dims) × BaseBelow b.base c.base) ⊎ ((c.dims < b.dims) × (c.base ≡ Class 0)) → ((a.dims ≡ c.dims) × BaseBelow a.base c.base) ⊎ ((c.dims < a.dims) × (c.base ≡ Class 0))
+      go : ((a.dims ≡ b.dims) × BaseBelow a.base b.base) ⊎ ((b.dims < a.dims) × (b.base ≡ Class 0))
+          → ((b.dims ≡ c.dims) × BaseBelow b.base c.base) ⊎ ((c.dims < b.dims) × (c.base ≡ Class 0))
+          → ((a.dims ≡ c.dims) × BaseBelow a.base c.base) ⊎ ((c.dims < a.dims) × (c.base ≡ Class 0))
       go (inl p) (inl q) = inl (p.0 ∙ q.0, base_follows a.base b.base c.base p.1 q.1)
       go (inl p) (inr q) = inr (omega (arith, p.0, q.0), q.1)
       go (inr p) (inl q) = inr (omega (arith, p.0, q.0), base_over_root c.base (subst (λ (x : Base). BaseBelow x c.base) p.1 q.1))
@@ -125,7 +140,8 @@ module _ (n : ℕ) (below : ℕ → ℕ → Bool) (interface : ℕ → Bool) (h 
   antisym_stands : (a b : Ty) → Stands a b → Stands b a → a ≡ b
   antisym_stands a b s t = go s.2 t.2
     where
-      go : ((a.dims ≡ b.dims) × BaseBelow a.base b.base) ⊎ ((b.dims < a.dims) × (b.base ≡ Class 0)) → ((b.dims ≡ a.dims) × BaseBelow b.base a.base) ⊎ ((a.dims < b.dims) × (a.base ≡ Class 0)) → a ≡ b
+      go : ((a.dims ≡ b.dims) × BaseBelow a.base b.base) ⊎ ((b.dims < a.dims) × (b.base ≡ Class 0))
+          → ((b.dims ≡ a.dims) × BaseBelow b.base a.base) ⊎ ((a.dims < b.dims) × (a.base ≡ Class 0)) → a ≡ b
       go (inl p) (inl q) = same_type a b p.0 (base_antisym a.base b.base p.1 q.1)
       go (inl p) (inr q) = absurd (omega (arith, p.0, q.0))
       go (inr p) (inl q) = absurd (omega (arith, p.0, q.0))
@@ -139,12 +155,14 @@ module _ (n : ℕ) (below : ℕ → ℕ → Bool) (interface : ℕ → Bool) (h 
   top_stands zero (Num k) r = absurd (omega (arith, r.1))
   top_stands (suc d) x r = (r, object_reference, inr (omega arith, refl))
 
-  erase_up_stands : (dims : ℕ) (x : Base) → let t : Ty = record { dims = dims; base = x } in IsReference n t → Stands t (erase_by interface t)
+  erase_up_stands : (dims : ℕ) (x : Base) → let t : Ty = record { dims = dims; base = x } in IsReference n t
+      → Stands t (erase_by interface t)
   unfolding erase_by
   erase_up_stands dims (Num k) r = (r, r, inl (refl, kind_same k))
   erase_up_stands dims (Class c) r = go (interface c)
     where
-      go : (i : Bool) → let t : Ty = record { dims = dims; base = Class c } in let u : Ty = record { dims = dims; base = cond i (Class 0) (Class c) } in Stands t u
+      go : (i : Bool) → let t : Ty = record { dims = dims; base = Class c } in let u : Ty = record
+          { dims = dims; base = cond i (Class 0) (Class c) } in Stands t u
       go true = (r, (r.0, h.some), inl (refl, h.top c))
       go false = (r, r, inl (refl, h.same c))
 
@@ -187,7 +205,8 @@ module _ (n : ℕ) (below : ℕ → ℕ → Bool) (interface : ℕ → Bool) (h 
           let fits : IsReference n item = (omega (arith, s.1.0, e), h.some) in
           inr (item, fits, stands_to a item (r, fits, inr (omega (arith, e, l), refl)), same_type b (array_of item) (omega (arith, e)) f)
 
-      go : ((a.dims + 1 ≡ b.dims) × BaseBelow a.base b.base) ⊎ ((b.dims < a.dims + 1) × (b.base ≡ Class 0)) → (b ≡ object_type) ⊎ IsArrayAbove sub n a b
+      go : ((a.dims + 1 ≡ b.dims) × BaseBelow a.base b.base) ⊎ ((b.dims < a.dims + 1) × (b.base ≡ Class 0))
+          → (b ≡ object_type) ⊎ IsArrayAbove sub n a b
       go (inr p) = of_root b.dims refl p.0 p.1
       go (inl p) =
           let item : Ty = record { dims = a.dims; base = b.base } in
@@ -197,7 +216,8 @@ module _ (n : ℕ) (below : ℕ → ℕ → Bool) (interface : ℕ → Bool) (h 
   below_array_stands : (a b : Ty) → IsReference n (array_of a) → IsReference n (array_of b) → Stands a b → Stands (array_of a) (array_of b)
   below_array_stands a b r q s = (r, q, go s.2)
     where
-      go : ((a.dims ≡ b.dims) × BaseBelow a.base b.base) ⊎ ((b.dims < a.dims) × (b.base ≡ Class 0)) → ((a.dims + 1 ≡ b.dims + 1) × BaseBelow a.base b.base) ⊎ ((b.dims + 1 < a.dims + 1) × (b.base ≡ Class 0))
+      go : ((a.dims ≡ b.dims) × BaseBelow a.base b.base) ⊎ ((b.dims < a.dims) × (b.base ≡ Class 0))
+          → ((a.dims + 1 ≡ b.dims + 1) × BaseBelow a.base b.base) ⊎ ((b.dims + 1 < a.dims + 1) × (b.base ≡ Class 0))
       go (inl p) = inl (ap (λ d. d + 1) p.0, p.1)
       go (inr p) = inr (omega (arith, p.0), p.1)
 
@@ -219,14 +239,16 @@ module _ (n : ℕ) (below : ℕ → ℕ → Bool) (interface : ℕ → Bool) (h 
       go (inl p) = sym p.0
       go (inr p) = absurd (omega (arith, p.0))
 
-  base_chain : (t x y : Base) → BaseBelow t x → BaseBelow t y → erased_base interface x ≡ x → erased_base interface y ≡ y → BaseBelow x y ⊎ BaseBelow y x
+  base_chain : (t x y : Base) → BaseBelow t x → BaseBelow t y → erased_base interface x ≡ x → erased_base interface y ≡ y
+      → BaseBelow x y ⊎ BaseBelow y x
   base_chain (Class c) (Class a) (Class b) e f i j = h.chain c a b e f (erased_class (Class a) a refl i) (erased_class (Class b) b refl j)
   base_chain (Class c) (Class a) (Num k) e f i j = absurd (false≢true f)
   base_chain (Class c) (Num k) y e f i j = absurd (false≢true e)
   base_chain (Num k) (Class a) y e f i j = absurd (false≢true e)
   base_chain (Num k) (Num l) y e f i j = inl (subst (λ (m : Kind). BaseBelow (Num m) y) (same_kind k l e) f)
 
-  chain_stands : (t a b : Ty) → Stands t a → Stands t b → erased_base interface a.base ≡ a.base → erased_base interface b.base ≡ b.base → Stands a b ⊎ Stands b a
+  chain_stands : (t a b : Ty) → Stands t a → Stands t b → erased_base interface a.base ≡ a.base
+      → erased_base interface b.base ≡ b.base → Stands a b ⊎ Stands b a
   chain_stands t a b s q i j = go s.2 q.2
     where
       by_dims : a.base ≡ Class 0 → b.base ≡ Class 0 → Stands a b ⊎ Stands b a
@@ -238,7 +260,8 @@ module _ (n : ℕ) (below : ℕ → ℕ → Bool) (interface : ℕ → Bool) (h 
         ]
       ]
 
-      go : ((t.dims ≡ a.dims) × BaseBelow t.base a.base) ⊎ ((a.dims < t.dims) × (a.base ≡ Class 0)) → ((t.dims ≡ b.dims) × BaseBelow t.base b.base) ⊎ ((b.dims < t.dims) × (b.base ≡ Class 0)) → Stands a b ⊎ Stands b a
+      go : ((t.dims ≡ a.dims) × BaseBelow t.base a.base) ⊎ ((a.dims < t.dims) × (a.base ≡ Class 0))
+          → ((t.dims ≡ b.dims) × BaseBelow t.base b.base) ⊎ ((b.dims < t.dims) × (b.base ≡ Class 0)) → Stands a b ⊎ Stands b a
       go (inl p) (inl r) = elim (base_chain t.base a.base b.base p.1 r.1 i j) [
         | inl x ↦ inl (s.1, q.1, inl (sym p.0 ∙ r.0, x))
         | inr x ↦ inr (q.1, s.1, inl (sym r.0 ∙ p.0, x))
@@ -266,10 +289,12 @@ module _ (n : ℕ) (below : ℕ → ℕ → Bool) (interface : ℕ → Bool) (h 
     below_array = λ a b r q e. stands_to (array_of a) (array_of b) (below_array_stands a b r q (stands_from a b e));
     numbers_below = λ k b e. numbers_stand k b (stands_from (array_of_numbers k) b e);
     class_below = λ c b e. class_stands c b (stands_from (class_type c) b e);
-    chain = λ t a b e f i j. elim (chain_stands t a b (stands_from t a e) (stands_from t b f) (ap (λ (x : Ty). x.base) i) (ap (λ (x : Ty). x.base) j)) [
-      | inl s ↦ inl (stands_to a b s)
-      | inr s ↦ inr (stands_to b a s)
-    ];
+    chain = λ t a b e f i j. elim (chain_stands t a b (stands_from t a e) (stands_from t b f) (ap (λ (x : Ty). x.base) i)
+        (ap (λ (x : Ty). x.base) j)) [
+          | inl s ↦ inl (stands_to a b s)
+          | inr s ↦ inr (stands_to b a s)
+        ];
     slots_of_world = slots;
-    made_is_erased = λ class l m. let at : Bool → Ty = λ b. record { dims = 0; base = cond b (Class 0) (Class class) } in ap at (no_interface class l m);
+    made_is_erased = λ class l m. let at : Bool
+        → Ty = λ b. record { dims = 0; base = cond b (Class 0) (Class class) } in ap at (no_interface class l m);
   }

@@ -22,7 +22,8 @@ pub data Sub (world : World) : Ty → Ty → Type 0 where
   same : (t : Ty) → IsReference (length world) t → Sub world t t
   follows : (a b c : Ty) → Sub world a b → Sub world b c → Sub world a c
   up : (a b : ℕ) → a < length world → Extends world a b → Sub world (class_type a) (class_type b)
-  items : (a b : Ty) → IsReference (length world) (array_of a) → IsReference (length world) (array_of b) → Sub world a b → Sub world (array_of a) (array_of b)
+  items : (a b : Ty) → IsReference (length world) (array_of a) → IsReference (length world) (array_of b) → Sub world a b
+      → Sub world (array_of a) (array_of b)
   top : (t : Ty) → IsReference (length world) t → Sub world t object_type
 
 -- ---- the test

@@ -1,5 +1,6 @@
 -- Ways up a hierarchy: a way of any length, the test of `leads_up`, and that without cycles the test finds every way.
-use Rattle.std.proofs.Common.{◌≡◌, ℕ, zero, suc, ◌<◌, ◌≤◌, Bool, true, false, ◌||◌, eqb, List, [], ◌∷◌, ◌++◌, length, sym, refl, ◌∙◌, subst, inl, inr, ◌⊎◌, arith, eq-eqb}
+use Rattle.std.proofs.Common.{◌≡◌, ℕ, zero, suc, ◌<◌, ◌≤◌, Bool, true, false, ◌||◌, eqb, List, [], ◌∷◌, ◌++◌, length, sym, refl}
+use Rattle.std.proofs.Common.{◌∙◌, subst, inl, inr, ◌⊎◌, arith, eq-eqb}
 use Rattle.std.specs.List.{list_any, IsDistinct, AllByRecursion}
 use Rattle.std.proofs.lemmas.Map.Steps.{length-le_from_distinct_below}
 use Rattle.std.proofs.lemmas.Bool.{false≢true, eqb-true, or_parts, or_right, or_left, or_cases}
@@ -87,7 +88,8 @@ module _ (up : ℕ → List ℕ) where
   shorten a c b [] w = (c, [], w, (tt, tt))
   shorten a c b (d ∷ p) w = go (shorten c d b p w.1)
     where
-      go : (f : ℕ) × (q : List ℕ) × Walk c (f ∷ q) b × IsDistinct eqb (f ∷ q) → (d : ℕ) × (q : List ℕ) × Walk a (d ∷ q) b × IsDistinct eqb (d ∷ q)
+      go : (f : ℕ) × (q : List ℕ) × Walk c (f ∷ q) b × IsDistinct eqb (f ∷ q) → (d : ℕ) × (q : List ℕ) × Walk a (d ∷ q) b
+          × IsDistinct eqb (d ∷ q)
       go r = by (list_any (eqb c) (r.0 ∷ r.1)) refl
         where
           by : (x : Bool) → list_any (eqb c) (r.0 ∷ r.1) ≡ x → (d : ℕ) × (q : List ℕ) × Walk a (d ∷ q) b × IsDistinct eqb (d ∷ q)
@@ -104,7 +106,8 @@ module _ (up : ℕ → List ℕ) where
     pub leads-from_any_Walk : (a b c : ℕ) (p : List ℕ) → Walk a (c ∷ p) b → leads_up up n a b ≡ true
     leads-from_any_Walk a b c p w =
         let r = shorten a c b p w in
-        let short : length (r.0 ∷ r.1) ≤ n = length-le_from_distinct_below (r.0 ∷ r.1) n r.3 (λ q e. all_below a b (r.0 ∷ r.1) r.2 q (IsIn-from_any q (r.0 ∷ r.1) e)) in
+        let short : length (r.0 ∷ r.1) ≤ n = length-le_from_distinct_below (r.0 ∷ r.1) n r.3
+        (λ q e. all_below a b (r.0 ∷ r.1) r.2 q (IsIn-from_any q (r.0 ∷ r.1) e)) in
         leads-from_Walk n a b r.0 r.1 r.2 (omega (arith, short))
 
     pub leads_trans : (a b c : ℕ) → leads_up up n a b ≡ true → leads_up up n b c ≡ true → leads_up up n a c ≡ true

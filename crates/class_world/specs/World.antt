@@ -3,7 +3,8 @@
 -- The built-in classes have the numbers 0 to 14. They are the classes of `java.lang` that instructions throw, with
 -- those above them (Java SE 8). Given classes are numbered from 15 on, in their order. A world is the list of its
 -- classes; nothing here knows of an index of names.
-use Rattle.std.specs.Prelude.{ℕ, zero, suc, ◌==◌, ◌||◌, Bool, false, if◌then◌else◌, List, [], ◌∷◌, ◌++◌, length, slice_get, position, map, Option, Some, None, option_and_then, codes, filter_map}
+use Rattle.std.specs.Prelude.{ℕ, zero, suc, ◌==◌, ◌||◌, Bool, false, if◌then◌else◌, List, [], ◌∷◌, ◌++◌, length, slice_get}
+use Rattle.std.specs.Prelude.{position, map, Option, Some, None, option_and_then, codes, filter_map}
 use Rattle.std.specs.List.{list_any}
 use Rattle.std.specs.Option.{option_map_or}
 use Rattle.std.specs.Str.{bytes_eq}

@@ -22,11 +22,13 @@ made_no_interface world class e = go (slice_get world class) e
     no true f = absurd (false≢true f)
     no false f = refl
 
-    go : (o : Option ClassContent) → option_map_or (λ c. not (is_abstract c.flags) && not (is_interface c.flags)) o false ≡ true → option_map_or (λ c. is_interface c.flags) o false ≡ false
+    go : (o : Option ClassContent) → option_map_or (λ c. not (is_abstract c.flags) && not (is_interface c.flags)) o false ≡ true
+        → option_map_or (λ c. is_interface c.flags) o false ≡ false
     go None f = absurd (false≢true f)
     go (Some c) f = no (is_interface c.flags) (and_parts (not (is_abstract c.flags)) (not (is_interface c.flags)) f).1
 
-pub world_laws : (world : World) → is_linked world ≡ true → SubtypeLaws (is_sub world) (erase world) (length world) (fields_of world) (can_be_made world)
+pub world_laws : (world : World) → is_linked world ≡ true
+    → SubtypeLaws (is_sub world) (erase world) (length world) (fields_of world) (can_be_made world)
 world_laws world linked =
     laws_of (length world) (is_class_below world) (is_interface_class world) (class_order world linked)
     (fields_of world) (λ class l. fields_are world class)

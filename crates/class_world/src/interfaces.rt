@@ -105,7 +105,8 @@ impl<'a> World<'a> {
         name: &[u8],
         desc: &[u8],
     ) -> Option<(u32, u32)>
-        ensures { result ≡ first_found (place_in self.now.roster.classes Method name.now desc.now) (superinterfaces_of self.now.roster.classes class) }
+        ensures { result ≡ first_found (place_in self.now.roster.classes Method name.now desc.now)
+            (superinterfaces_of self.now.roster.classes class) }
     {
         self.first_in(self.sought_in(class), name, desc)
     }

@@ -22,7 +22,8 @@ pub fn built_ins_are_known()
 
 /// No class of a world has the name of an interface that arrays implement in a JVM. So nothing is below one.
 pub fn no_class_is_of_arrays()
-    ensures { (world : List ClassContent) → IsWorld world → (name : List ℕ) → IsTrue (is_array_interface name) → class_of world name ≡ None }
+    ensures { (world : List ClassContent) → IsWorld world → (name : List ℕ) → IsTrue (is_array_interface name)
+        → class_of world name ≡ None }
 {}
 
 /// Below a class that is no interface, other than `java/lang/Object`, there are no interfaces. So each type below

@@ -3,7 +3,9 @@ ghost use Rattle.std.specs.Prelude.{◌≡◌, ◌<◌, false, not, length, map}
 ghost use Rattle.std.specs.Option.{option_map_or};
 ghost use Rattle.std.specs.List.{list_any};
 ghost use Rattle.class_world.specs.World.{is_above, is_interface_class, super_of, interfaces_of};
-ghost use Rattle.class_world.specs.Linking.{Refuses, first_broken, first_missing, missing_interface, missing_name, rule_at, missing_super, cyclic_hierarchy, bad_super, default_method, is_default, is_bad_superclass, rule_of};
+ghost use Rattle.class_world.specs.Linking.{Refuses, first_broken, first_missing, missing_interface, missing_name, rule_at};
+ghost use Rattle.class_world.specs.Linking.{missing_super, cyclic_hierarchy, bad_super, default_method, is_default};
+ghost use Rattle.class_world.specs.Linking.{is_bad_superclass, rule_of};
 ghost use Rattle.class_read.specs.View.{method_content};
 ghost use Rattle.class_world.specs.Tables.{above_table};
 
@@ -126,7 +128,8 @@ impl<'w, 'a> Hierarchy<'w, 'a> {
 
     /// Some superinterface of the class is no interface.
     fn has_bad_interface(&self, class: usize) -> bool
-        ensures { result ≡ list_any (λ k. not (is_interface_class self.now.roster.now.classes k)) (interfaces_of self.now.roster.now.classes class) }
+        ensures { result ≡ list_any (λ k. not (is_interface_class self.now.roster.now.classes k))
+            (interfaces_of self.now.roster.now.classes class) }
     {
         self.has_other_kind(self.roster.interfaces_once(class))
     }

@@ -25,7 +25,8 @@ pub(crate) fn is_array_interface(name: &[u8]) -> bool
 /// Puts the name of a class behind those of the earlier ones, or answers false where one of these has it, or no class may have it.
 fn put_name<'a>(names: &mut NameSet<'a>, name: &'a [u8]) -> Result<bool, AllocError>
     ensures names { IfOk result (λ added. names.new ≡ (if added then names.old ++ name.now ∷ [] else names.old)) }
-    ensures taken { IfOk result (λ added. (is_array_interface name.now || list_any (bytes_eq name.now) names.old) ≡ (if added then false else true)) }
+    ensures taken { IfOk result (λ added. (is_array_interface name.now || list_any (bytes_eq name.now) names.old)
+        ≡ (if added then false else true)) }
 {
     if is_array_interface(name) {
         return Ok(false);

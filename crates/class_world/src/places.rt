@@ -23,7 +23,8 @@ impl<'a> World<'a> {
     fn fields_before(&self, class: u32, index: u32) -> u32
         requires class { class < length self.now.roster.classes }
         requires index { IfSome (slice_get self.now.roster.classes class) (λ c. index < length c.fields) }
-        ensures { result ≡ length (slots_above self.now.roster.classes class) + length (own_slots_before self.now.roster.classes class index) }
+        ensures { result ≡ length (slots_above self.now.roster.classes class) + length
+            (own_slots_before self.now.roster.classes class index) }
     {
         let kept = self.index.kept.at(class as usize);
         let all = self.slots.at(class as usize).len();

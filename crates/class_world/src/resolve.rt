@@ -4,7 +4,8 @@ ghost use Rattle.std.specs.List.{find};
 ghost use Rattle.std.specs.Option.{is_some, option_map, option_map_or};
 ghost use Rattle.class_read.specs.View.{method_content};
 ghost use Rattle.class_world.specs.World.{line_of};
-ghost use Rattle.class_world.specs.Resolve.{first_found, declared_field, is_static_field, found_field, resolve_field, field_at, method_ref, resolve_method, method_at, is_initialised, first_static_init};
+ghost use Rattle.class_world.specs.Resolve.{first_found, declared_field, is_static_field, found_field, resolve_field, field_at};
+ghost use Rattle.class_world.specs.Resolve.{method_ref, resolve_method, method_at, is_initialised, first_static_init};
 ghost use Rattle.class_world.specs.Select.{is_selectable, selectable_method};
 ghost use Rattle.class_world.specs.Seeking.{place_in};
 
@@ -133,7 +134,8 @@ impl<'a> World<'a> {
         name: &[u8],
         desc: &[u8],
     ) -> Option<(u32, u32)>
-        ensures { result ≡ first_found (place_in self.now.roster.classes wanted name.now desc.now) (line_of self.now.roster.classes class) }
+        ensures { result ≡ first_found (place_in self.now.roster.classes wanted name.now desc.now)
+            (line_of self.now.roster.classes class) }
     {
         let mut next = Some(class);
         for _ in 0..self.roster.classes.len() {

@@ -1,5 +1,6 @@
 -- What was written is read again.
-use Rattle.std.proofs.Common.{◌≡◌, ℕ, suc, ◌+◌, ◌-◌, ◌^◌, ◌<◌, ◌≤◌, Bool, true, false, cond, ltb, List, [], ◌∷◌, ◌++◌, length, Some, None, Result, Ok, Err, refl, ap, ◌∙◌, append_assoc, arith, ℤ, pos, ◌+ℤ◌, ◌-ℤ◌}
+use Rattle.std.proofs.Common.{◌≡◌, ℕ, suc, ◌+◌, ◌-◌, ◌^◌, ◌<◌, ◌≤◌, Bool, true, false, cond, ltb, List, [], ◌∷◌, ◌++◌, length, Some}
+use Rattle.std.proofs.Common.{None, Result, Ok, Err, refl, ap, ◌∙◌, append_assoc, arith, ℤ, pos, ◌+ℤ◌, ◌-ℤ◌}
 use Rattle.std.specs.Int.{w8, w16, w32, to_be_bytes, cast_unsigned}
 use Rattle.std.specs.Int.RustNames.{FitsSigned, int_lt, unsigned_abs}
 use Rattle.std.specs.List.{flat_map, AllByRecursion}
@@ -11,12 +12,28 @@ use Rattle.code_forms.specs.declared.fault.CodeFault.{CodeFault}
 use Rattle.code_forms.specs.declared.fault.CodeFault.TheVariants.{BadSwitch}
 use Rattle.code_forms.specs.declared.insn.Case.{Case}
 use Rattle.code_forms.specs.declared.insn.Insn.{Insn}
-use Rattle.code_forms.specs.declared.insn.Insn.TheVariants.{Aaload, Aastore, AconstNull, Aload, Aload0, Aload1, Aload2, Aload3, Anewarray, Areturn, Arraylength, Astore, Astore0, Astore1, Astore2, Astore3, Athrow, Baload, Bastore, Bipush, Caload, Castore, Checkcast, Dup, Dup2, Dup2X1, Dup2X2, DupX1, DupX2, Getfield, Getstatic, Goto, GotoW, I2b, I2c, I2s, Iadd, Iaload, Iand, Iastore, Iconst0, Iconst1, Iconst2, Iconst3, Iconst4, Iconst5, IconstM1, Idiv, IfAcmpeq, IfAcmpne, IfIcmpeq, IfIcmpge, IfIcmpgt, IfIcmple, IfIcmplt, IfIcmpne, Ifeq, Ifge, Ifgt, Ifle, Iflt, Ifne, Ifnonnull, Ifnull, Iinc, Iload, Iload0, Iload1, Iload2, Iload3, Imul, Ineg, Instanceof, Invokeinterface, Invokespecial, Invokestatic, Invokevirtual, Ior, Irem, Ireturn, Ishl, Ishr, Istore, Istore0, Istore1, Istore2, Istore3, Isub, Iushr, Ixor, Ldc, LdcW, Lookupswitch, New, Newarray, Nop, Pop, Pop2, Putfield, Putstatic, Return, Saload, Sastore, Sipush, Swap, Tableswitch, WideAload, WideAstore, WideIinc, WideIload, WideIstore}
+use Rattle.code_forms.specs.declared.insn.Insn.TheVariants.{Aaload, Aastore, AconstNull, Aload, Aload0, Aload1, Aload2, Aload3}
+use Rattle.code_forms.specs.declared.insn.Insn.TheVariants.{Anewarray, Areturn, Arraylength, Astore, Astore0, Astore1, Astore2}
+use Rattle.code_forms.specs.declared.insn.Insn.TheVariants.{Astore3, Athrow, Baload, Bastore, Bipush, Caload, Castore, Checkcast}
+use Rattle.code_forms.specs.declared.insn.Insn.TheVariants.{Dup, Dup2, Dup2X1, Dup2X2, DupX1, DupX2, Getfield, Getstatic, Goto}
+use Rattle.code_forms.specs.declared.insn.Insn.TheVariants.{GotoW, I2b, I2c, I2s, Iadd, Iaload, Iand, Iastore, Iconst0, Iconst1}
+use Rattle.code_forms.specs.declared.insn.Insn.TheVariants.{Iconst2, Iconst3, Iconst4, Iconst5, IconstM1, Idiv, IfAcmpeq, IfAcmpne}
+use Rattle.code_forms.specs.declared.insn.Insn.TheVariants.{IfIcmpeq, IfIcmpge, IfIcmpgt, IfIcmple, IfIcmplt, IfIcmpne, Ifeq, Ifge}
+use Rattle.code_forms.specs.declared.insn.Insn.TheVariants.{Ifgt, Ifle, Iflt, Ifne, Ifnonnull, Ifnull, Iinc, Iload, Iload0, Iload1}
+use Rattle.code_forms.specs.declared.insn.Insn.TheVariants.{Iload2, Iload3, Imul, Ineg, Instanceof, Invokeinterface, Invokespecial}
+use Rattle.code_forms.specs.declared.insn.Insn.TheVariants.{Invokestatic, Invokevirtual, Ior, Irem, Ireturn, Ishl, Ishr, Istore}
+use Rattle.code_forms.specs.declared.insn.Insn.TheVariants.{Istore0, Istore1, Istore2, Istore3, Isub, Iushr, Ixor, Ldc, LdcW}
+use Rattle.code_forms.specs.declared.insn.Insn.TheVariants.{Lookupswitch, New, Newarray, Nop, Pop, Pop2, Putfield, Putstatic}
+use Rattle.code_forms.specs.declared.insn.Insn.TheVariants.{Return, Saload, Sastore, Sipush, Swap, Tableswitch, WideAload}
+use Rattle.code_forms.specs.declared.insn.Insn.TheVariants.{WideAstore, WideIinc, WideIload, WideIstore}
 use Rattle.code_forms.specs.Spellings as spellings
 use Rattle.code_forms.specs.Spellings.{Spelling, spelling}
 use Rattle.code_decode.specs.Texts.{signed, distance, padding_of, case_text, spelling_text, Reaches, IsTable, IsLookup, FitsSpelling}
 use Rattle.code_forms.specs.Opcodes.{opcode_of, find_by, wide_local}
-use Rattle.code_decode.specs.Reading.{target_at, skip_at, repeat_at, case_at, table_targets_at, table_at, counted_cases_at, lookup_at, interface_at, array_at, wide_increment_at, wide_operand_at, wide_at, increment_at, signed_byte_at, sipush_at, far_jump_at, byte_operand_at, pair_operand_at, jump_operand_at, insn_at}
+use Rattle.code_decode.specs.Reading.{target_at, skip_at, repeat_at, case_at, table_targets_at, table_at, counted_cases_at}
+use Rattle.code_decode.specs.Reading.{lookup_at, interface_at, array_at, wide_increment_at, wide_operand_at, wide_at, increment_at}
+use Rattle.code_decode.specs.Reading.{signed_byte_at, sipush_at, far_jump_at, byte_operand_at, pair_operand_at, jump_operand_at}
+use Rattle.code_decode.specs.Reading.{insn_at}
 use Rattle.code_decode.proofs.Fields.{wide16, wide32, number_again, signed_again, target_again}
 
 -- the first byte of a spelling, which is the opcode where it isn't a wide one, and the others
@@ -35,8 +52,11 @@ other_bytes pc padding (spellings.Jump op target) = signed w16 (distance pc targ
 other_bytes pc padding (spellings.FarJump op target) = signed w32 (distance pc target)
 other_bytes pc padding (spellings.Increment op n v) = n ∷ cast_unsigned w8 v ∷ []
 other_bytes pc padding (spellings.Table op default low targets) =
-    padding ++ (signed w32 (distance pc default) ++ (signed w32 low ++ (signed w32 (low +ℤ pos (length targets - 1)) ++ flat_map (λ target. signed w32 (distance pc target)) targets)))
-other_bytes pc padding (spellings.Lookup op default cases) = padding ++ (signed w32 (distance pc default) ++ (to_be_bytes w32 (length cases) ++ flat_map (case_text pc) cases))
+    padding ++ (signed w32 (distance pc default)
+    ++ (signed w32 low ++ (signed w32 (low +ℤ pos (length targets - 1)) ++ flat_map
+    (λ target. signed w32 (distance pc target)) targets)))
+other_bytes pc padding (spellings.Lookup op default cases) = padding
+    ++ (signed w32 (distance pc default) ++ (to_be_bytes w32 (length cases) ++ flat_map (case_text pc) cases))
 other_bytes pc padding (spellings.Interface op n count) = to_be_bytes w16 n ++ count ∷ 0 ∷ []
 other_bytes pc padding (spellings.Array op code) = code ∷ []
 other_bytes pc padding (spellings.WideLocal op n) = op ∷ to_be_bytes w16 n
@@ -62,19 +82,23 @@ byte_again : (pc : ℕ) (make : ℕ → Insn) (n : ℕ) (rest : List ℕ) → by
 unfolding byte_operand_at
 byte_again pc make n rest = refl
 
-pair_again : (pc : ℕ) (make : ℕ → Insn) (n : ℕ) (rest : List ℕ) → n < 2 ^ 16 → pair_operand_at pc make (to_be_bytes w16 n ++ rest) ≡ Ok (make n, rest)
+pair_again : (pc : ℕ) (make : ℕ → Insn) (n : ℕ) (rest : List ℕ) → n < 2 ^ 16
+    → pair_operand_at pc make (to_be_bytes w16 n ++ rest) ≡ Ok (make n, rest)
 unfolding pair_operand_at
 pair_again pc make n rest lt = rw (number_again w16 (2 ^ 16) wide16 pc n rest lt) refl
 
-jump_again : (pc : ℕ) (make : ℕ → Insn) (target : ℕ) (rest : List ℕ) → Reaches w16 pc target → jump_operand_at pc make (signed w16 (distance pc target) ++ rest) ≡ Ok (make target, rest)
+jump_again : (pc : ℕ) (make : ℕ → Insn) (target : ℕ) (rest : List ℕ) → Reaches w16 pc target
+    → jump_operand_at pc make (signed w16 (distance pc target) ++ rest) ≡ Ok (make target, rest)
 unfolding jump_operand_at
 jump_again pc make target rest r = rw (target_again w16 (2 ^ 16) wide16 pc target rest r) refl
 
-far_jump_again : (pc target : ℕ) (rest : List ℕ) → Reaches w32 pc target → far_jump_at pc (signed w32 (distance pc target) ++ rest) ≡ Ok (GotoW target, rest)
+far_jump_again : (pc target : ℕ) (rest : List ℕ) → Reaches w32 pc target
+    → far_jump_at pc (signed w32 (distance pc target) ++ rest) ≡ Ok (GotoW target, rest)
 unfolding far_jump_at
 far_jump_again pc target rest r = rw (target_again w32 (2 ^ 32) wide32 pc target rest r) refl
 
-signed_byte_again : (pc : ℕ) (v : ℤ) (rest : List ℕ) → FitsSigned w8 v → signed_byte_at pc (cast_unsigned w8 v ∷ rest) ≡ Ok (Bipush v, rest)
+signed_byte_again : (pc : ℕ) (v : ℤ) (rest : List ℕ) → FitsSigned w8 v
+    → signed_byte_at pc (cast_unsigned w8 v ∷ rest) ≡ Ok (Bipush v, rest)
 unfolding signed_byte_at
 signed_byte_again pc v rest f = rw (to_z-of_z w8 v f) refl
 
@@ -82,7 +106,8 @@ sipush_again : (pc : ℕ) (v : ℤ) (rest : List ℕ) → FitsSigned w16 v → s
 unfolding sipush_at
 sipush_again pc v rest f = rw (signed_again w16 (2 ^ 16) wide16 pc v rest f) refl
 
-increment_again : (pc n : ℕ) (v : ℤ) (rest : List ℕ) → FitsSigned w8 v → increment_at pc (n ∷ cast_unsigned w8 v ∷ rest) ≡ Ok (Iinc n v, rest)
+increment_again : (pc n : ℕ) (v : ℤ) (rest : List ℕ) → FitsSigned w8 v
+    → increment_at pc (n ∷ cast_unsigned w8 v ∷ rest) ≡ Ok (Iinc n v, rest)
 unfolding increment_at
 increment_again pc n v rest f = rw (to_z-of_z w8 v f) refl
 
@@ -93,36 +118,50 @@ array_again pc code rest low high =
     let b : ltb code 12 ≡ true = lt-ltb code 12 (omega arith) in
     rw (a, b) refl
 
-interface_again : (pc n count : ℕ) (rest : List ℕ) → n < 2 ^ 16 → interface_at pc ((to_be_bytes w16 n ++ count ∷ 0 ∷ []) ++ rest) ≡ Ok (Invokeinterface n count, rest)
+interface_again : (pc n count : ℕ) (rest : List ℕ) → n < 2 ^ 16
+    → interface_at pc ((to_be_bytes w16 n ++ count ∷ 0 ∷ []) ++ rest) ≡ Ok (Invokeinterface n count, rest)
 unfolding interface_at
 interface_again pc n count rest lt =
-    let grouped : (to_be_bytes w16 n ++ count ∷ 0 ∷ []) ++ rest ≡ to_be_bytes w16 n ++ (count ∷ 0 ∷ rest) = append_assoc (to_be_bytes w16 n) (count ∷ 0 ∷ []) rest in
+    let grouped : (to_be_bytes w16 n ++ count ∷ 0 ∷ []) ++ rest ≡ to_be_bytes w16 n ++ (count ∷ 0 ∷ rest) = append_assoc
+    (to_be_bytes w16 n) (count ∷ 0 ∷ []) rest in
     ap (interface_at pc) grouped ∙ rw (number_again w16 (2 ^ 16) wide16 pc n (count ∷ 0 ∷ rest) lt) refl
 
-wide_local_again : (pc op : ℕ) (make : ℕ → Insn) (n : ℕ) (rest : List ℕ) → n < 2 ^ 16 → wide_operand_at pc op (Some make) (to_be_bytes w16 n ++ rest) ≡ Ok (make n, rest)
+wide_local_again : (pc op : ℕ) (make : ℕ → Insn) (n : ℕ) (rest : List ℕ) → n < 2 ^ 16
+    → wide_operand_at pc op (Some make) (to_be_bytes w16 n ++ rest) ≡ Ok (make n, rest)
 unfolding wide_operand_at
 wide_local_again pc op make n rest lt = rw (number_again w16 (2 ^ 16) wide16 pc n rest lt) refl
 
-wide_increment_again : (pc n : ℕ) (v : ℤ) (rest : List ℕ) → n < 2 ^ 16 → FitsSigned w16 v → wide_operand_at pc 132 None ((to_be_bytes w16 n ++ signed w16 v) ++ rest) ≡ Ok (WideIinc n v, rest)
+wide_increment_again : (pc n : ℕ) (v : ℤ) (rest : List ℕ) → n < 2 ^ 16 → FitsSigned w16 v
+    → wide_operand_at pc 132 None ((to_be_bytes w16 n ++ signed w16 v) ++ rest) ≡ Ok (WideIinc n v, rest)
 unfolding wide_operand_at wide_increment_at
 wide_increment_again pc n v rest lt f =
-    let grouped : (to_be_bytes w16 n ++ signed w16 v) ++ rest ≡ to_be_bytes w16 n ++ (signed w16 v ++ rest) = append_assoc (to_be_bytes w16 n) (signed w16 v) rest in
-    ap (wide_increment_at pc) grouped ∙ rw (number_again w16 (2 ^ 16) wide16 pc n (signed w16 v ++ rest) lt, signed_again w16 (2 ^ 16) wide16 pc v rest f) refl
+    let grouped : (to_be_bytes w16 n ++ signed w16 v) ++ rest ≡ to_be_bytes w16 n ++ (signed w16 v ++ rest) = append_assoc
+    (to_be_bytes w16 n) (signed w16 v) rest in
+    ap (wide_increment_at pc) grouped
+    ∙ rw (number_again w16 (2 ^ 16) wide16 pc n (signed w16 v ++ rest) lt, signed_again w16 (2 ^ 16) wide16 pc v rest f) refl
 
 -- ---- switches
 
-repeat_again : {A : Type 0} (enc : A → List ℕ) (Q : A → Type 0) (read : List ℕ → Result (A × List ℕ) CodeFault) → ((x : A) (rest : List ℕ) → Q x → read (enc x ++ rest) ≡ Ok (x, rest))
+repeat_again : {A : Type 0} (enc : A → List ℕ) (Q : A → Type 0) (read : List ℕ → Result (A × List ℕ) CodeFault)
+    → ((x : A) (rest : List ℕ) → Q x → read (enc x ++ rest) ≡ Ok (x, rest))
     → (xs : List A) (rest : List ℕ) → AllByRecursion Q xs → repeat_at read (length xs) (flat_map enc xs ++ rest) ≡ Ok (xs, rest)
 unfolding repeat_at
 repeat_again enc Q read one [] rest h = refl
 repeat_again {A} enc Q read one (x ∷ xs) rest h =
-    let grouped : flat_map enc (x ∷ xs) ++ rest ≡ enc x ++ (flat_map enc xs ++ rest) = ap (λ (t : List ℕ). t ++ rest) (flat_map-cons enc x xs) ∙ append_assoc (enc x) (flat_map enc xs) rest in
+    let grouped : flat_map enc (x ∷ xs) ++ rest ≡ enc x ++ (flat_map enc xs ++ rest) = ap (λ (t : List ℕ). t ++ rest)
+    (flat_map-cons enc x xs) ∙ append_assoc (enc x) (flat_map enc xs) rest in
     ap (repeat_at read (suc (length xs))) grouped ∙ rw (one x (flat_map enc xs ++ rest) h.0, repeat_again enc Q read one xs rest h.1) refl
 
-case_again : (pc : ℕ) (c : Case) (rest : List ℕ) → FitsSigned w32 c.key × Reaches w32 pc c.target → case_at pc (case_text pc c ++ rest) ≡ Ok (c, rest)
+case_again : (pc : ℕ) (c : Case) (rest : List ℕ) → FitsSigned w32 c.key × Reaches w32 pc c.target
+    → case_at pc (case_text pc c ++ rest) ≡ Ok (c, rest)
 unfolding case_at
 case_again pc c rest h =
-    ap (case_at pc) (append_assoc (signed w32 c.key) (signed w32 (distance pc c.target)) rest) ∙ rw (signed_again w32 (2 ^ 32) wide32 pc c.key (signed w32 (distance pc c.target) ++ rest) h.0, target_again w32 (2 ^ 32) wide32 pc c.target rest h.1) refl
+    ap (case_at pc) (append_assoc (signed w32 c.key) (signed w32 (distance pc c.target)) rest)
+    ∙ rw (
+      signed_again w32 (2 ^ 32) wide32 pc c.key (signed w32 (distance pc c.target) ++ rest) h.0,
+      target_again w32 (2 ^ 32)
+          wide32 pc c.target rest h.1,
+    ) refl
 
 skip_again : (n pc : ℕ) (padding rest : List ℕ) → length padding ≡ n → skip_at n pc (padding ++ rest) ≡ Ok rest
 unfolding skip_at
@@ -137,17 +176,26 @@ span : (low : ℤ) (k : ℕ) → unsigned_abs ((low +ℤ pos k) -ℤ low) ≡ k
 span low k = let e : (low +ℤ pos k) -ℤ low ≡ pos k = omega (arith, ints) in ap unsigned_abs e
 
 table_targets_again : (pc : ℕ) (low : ℤ) (targets rest : List ℕ) → 0 < length targets → AllByRecursion (Reaches w32 pc) targets
-    → table_targets_at pc low (low +ℤ pos (length targets - 1)) (flat_map (λ target. signed w32 (distance pc target)) targets ++ rest) ≡ Ok (targets, rest)
+    → table_targets_at pc low (low +ℤ pos (length targets - 1))
+    (flat_map (λ target. signed w32 (distance pc target)) targets ++ rest) ≡ Ok (targets, rest)
 unfolding table_targets_at
 table_targets_again pc low targets rest some h =
     let bytes = flat_map (λ target. signed w32 (distance pc target)) targets ++ rest in
-    let count : unsigned_abs ((low +ℤ pos (length targets - 1)) -ℤ low) + 1 ≡ length targets = omega (arith, span low (length targets - 1)) in
-    ap (λ (b : Bool). cond b (Err (BadSwitch pc)) (repeat_at (target_at w32 pc) (unsigned_abs ((low +ℤ pos (length targets - 1)) -ℤ low) + 1) bytes)) (not_below low (length targets - 1))
+    let count : unsigned_abs ((low +ℤ pos (length targets - 1)) -ℤ low) + 1 ≡ length targets = omega
+    (arith, span low (length targets - 1)) in
+    ap (λ (b : Bool). cond b (Err (BadSwitch pc))
+    (repeat_at (target_at w32 pc) (unsigned_abs ((low +ℤ pos (length targets - 1)) -ℤ low) + 1) bytes))
+    (not_below low (length targets - 1))
     ∙ ap (λ (k : ℕ). repeat_at (target_at w32 pc) k bytes) count
-    ∙ repeat_again (λ target. signed w32 (distance pc target)) (Reaches w32 pc) (target_at w32 pc) (target_again w32 (2 ^ 32) wide32 pc) targets rest h
+    ∙ repeat_again (λ target. signed w32 (distance pc target)) (Reaches w32 pc) (target_at w32 pc)
+    (target_again w32 (2 ^ 32) wide32 pc) targets rest h
 
-table_again : (pc : ℕ) (padding : List ℕ) (default : ℕ) (low : ℤ) (targets rest : List ℕ) → length padding ≡ padding_of pc → IsTable pc default low targets
-    → table_at pc ((padding ++ (signed w32 (distance pc default) ++ (signed w32 low ++ (signed w32 (low +ℤ pos (length targets - 1)) ++ flat_map (λ target. signed w32 (distance pc target)) targets)))) ++ rest) ≡ Ok (Tableswitch default low targets, rest)
+table_again : (pc : ℕ) (padding : List ℕ) (default : ℕ) (low : ℤ) (targets rest : List ℕ) → length padding ≡ padding_of pc
+    → IsTable pc default low targets
+    → table_at pc ((padding
+    ++ (signed w32 (distance pc default)
+    ++ (signed w32 low ++ (signed w32 (low +ℤ pos (length targets - 1)) ++ flat_map
+    (λ target. signed w32 (distance pc target)) targets)))) ++ rest) ≡ Ok (Tableswitch default low targets, rest)
 unfolding table_at
 table_again pc padding default low targets rest len h =
     let t = flat_map (λ target. signed w32 (distance pc target)) targets in
@@ -168,19 +216,25 @@ table_again pc padding default low targets rest len h =
       table_targets_again pc low targets rest h.some h.each,
     ) refl
 
-counted_again : (pc : ℕ) (cases : List Case) (rest : List ℕ) → length cases < 2 ^ 31 → AllByRecursion (λ c. FitsSigned w32 c.key × Reaches w32 pc c.target) cases → counted_cases_at (length cases) pc (flat_map (case_text pc) cases ++ rest) ≡ Ok (cases, rest)
+counted_again : (pc : ℕ) (cases : List Case) (rest : List ℕ) → length cases < 2 ^ 31
+    → AllByRecursion (λ c. FitsSigned w32 c.key × Reaches w32 pc c.target) cases
+    → counted_cases_at (length cases) pc (flat_map (case_text pc) cases ++ rest) ≡ Ok (cases, rest)
 unfolding counted_cases_at
 counted_again pc cases rest few h =
     let small : ltb (length cases) 2147483648 ≡ true = lt-ltb _ _ (omega arith) in
     rw small (repeat_again (case_text pc) (λ c. FitsSigned w32 c.key × Reaches w32 pc c.target) (case_at pc) (case_again pc) cases rest h)
 
-lookup_again : (pc : ℕ) (padding : List ℕ) (default : ℕ) (cases : List Case) (rest : List ℕ) → length padding ≡ padding_of pc → IsLookup pc default cases
-    → lookup_at pc ((padding ++ (signed w32 (distance pc default) ++ (to_be_bytes w32 (length cases) ++ flat_map (case_text pc) cases))) ++ rest) ≡ Ok (Lookupswitch default cases, rest)
+lookup_again : (pc : ℕ) (padding : List ℕ) (default : ℕ) (cases : List Case) (rest : List ℕ) → length padding ≡ padding_of pc
+    → IsLookup pc default cases
+    → lookup_at pc ((padding
+    ++ (signed w32 (distance pc default) ++ (to_be_bytes w32 (length cases) ++ flat_map (case_text pc) cases))) ++ rest)
+    ≡ Ok (Lookupswitch default cases, rest)
 unfolding lookup_at
 lookup_again pc padding default cases rest len h =
     let t = flat_map (case_text pc) cases in
     let s2 = signed w32 (distance pc default) ++ (to_be_bytes w32 (length cases) ++ t) in
-    let grouped : (padding ++ s2) ++ rest ≡ padding ++ (signed w32 (distance pc default) ++ (to_be_bytes w32 (length cases) ++ (t ++ rest))) =
+    let grouped : (padding ++ s2) ++ rest ≡ padding
+    ++ (signed w32 (distance pc default) ++ (to_be_bytes w32 (length cases) ++ (t ++ rest))) =
     append_assoc padding s2 rest
     ∙ ap (λ (u : List ℕ). padding ++ u) (append_assoc (signed w32 (distance pc default)) (to_be_bytes w32 (length cases) ++ t) rest
     ∙ ap (λ (u : List ℕ). signed w32 (distance pc default) ++ u) (append_assoc (to_be_bytes w32 (length cases)) t rest)) in
@@ -194,13 +248,15 @@ lookup_again pc padding default cases rest len h =
       h.rising,
     ) refl
 
-wide_again : (pc op : ℕ) (bytes : List ℕ) (r : Result (Insn × List ℕ) CodeFault) → wide_operand_at pc op (find_by wide_local op) bytes ≡ r → wide_at pc (op ∷ bytes) ≡ r
+wide_again : (pc op : ℕ) (bytes : List ℕ) (r : Result (Insn × List ℕ) CodeFault)
+    → wide_operand_at pc op (find_by wide_local op) bytes ≡ r → wide_at pc (op ∷ bytes) ≡ r
 unfolding wide_at
 wide_again pc op bytes r e = e
 
 -- ---- each instruction
 
-pub insn_again : (pc : ℕ) (padding rest : List ℕ) (i : Insn) → length padding ≡ padding_of pc → FitsSpelling pc (spelling i) → insn_at pc (first_byte (spelling i)) (other_bytes pc padding (spelling i) ++ rest) ≡ Ok (i, rest)
+pub insn_again : (pc : ℕ) (padding rest : List ℕ) (i : Insn) → length padding ≡ padding_of pc → FitsSpelling pc (spelling i)
+    → insn_at pc (first_byte (spelling i)) (other_bytes pc padding (spelling i) ++ rest) ≡ Ok (i, rest)
 unfolding insn_at
 insn_again pc padding rest Nop len fits = refl
 insn_again pc padding rest AconstNull len fits = refl

@@ -1,5 +1,6 @@
 -- A field that is read is the field that was written, and what was written is read again.
-use Rattle.std.proofs.Common.{◌≡◌, ℕ, ◌^◌, ◌<◌, ◌≤◌, false, ltb, List, [], ◌∷◌, ◌++◌, length, take, drop, Ok, refl, sym, ap, subst, ◌∙◌, append_assoc, arith, inl, inr, ℤ, pos, negsuc, ◌+ℤ◌, ◌-ℤ◌}
+use Rattle.std.proofs.Common.{◌≡◌, ℕ, ◌^◌, ◌<◌, ◌≤◌, false, ltb, List, [], ◌∷◌, ◌++◌, length, take, drop, Ok, refl, sym, ap, subst}
+use Rattle.std.proofs.Common.{◌∙◌, append_assoc, arith, inl, inr, ℤ, pos, negsuc, ◌+ℤ◌, ◌-ℤ◌}
 use Rattle.std.specs.Int.{Width, w16, w32, byte_len, from_be_bytes, to_be_bytes, cast_signed, cast_unsigned}
 use Rattle.std.specs.Int.RustNames.{FitsSigned}
 use Rattle.std.proofs.lemmas.Bool.{cases_lt, ltb-false, le-ltb}
@@ -19,14 +20,20 @@ pub record Takes (bytes text rest : List ℕ) : Type 0 where
   pub rest_fits : IsBytes rest
 
 pub Takes-then : (a x b y c : List ℕ) → Takes a x b → Takes b y c → Takes a (x ++ y) c
-Takes-then a x b y c p q = record { parts = p.parts ∙ ap (λ (t : List ℕ). x ++ t) q.parts ∙ sym (append_assoc x y c); rest_fits = q.rest_fits }
+Takes-then a x b y c p q = record {
+  parts = p.parts ∙ ap (λ (t : List ℕ). x ++ t) q.parts
+      ∙ sym (append_assoc x y c);
+  rest_fits = q.rest_fits;
+}
 
 -- ---- unsigned numbers
 
-pub byte_takes : (pc : ℕ) (bytes : List ℕ) (x : ℕ × List ℕ) → IsBytes bytes → byte_at pc bytes ≡ Ok x → Takes bytes (x.0 ∷ []) x.1 × (x.0 < 2 ^ 8)
+pub byte_takes : (pc : ℕ) (bytes : List ℕ) (x : ℕ × List ℕ) → IsBytes bytes → byte_at pc bytes ≡ Ok x
+    → Takes bytes (x.0 ∷ []) x.1 × (x.0 < 2 ^ 8)
 byte_takes pc [] x fits e = absurd cc
 byte_takes pc (b ∷ rest) x fits e =
-    subst (λ (y : ℕ × List ℕ). Takes (b ∷ rest) (y.0 ∷ []) y.1 × (y.0 < 2 ^ 8)) (ok_is (b, rest) x e) (record { parts = refl; rest_fits = IsBytes-rest b rest fits }, omega (arith, fits 0))
+    subst (λ (y : ℕ × List ℕ). Takes (b ∷ rest) (y.0 ∷ []) y.1 × (y.0 < 2 ^ 8)) (ok_is (b, rest) x e)
+    (record { parts = refl; rest_fits = IsBytes-rest b rest fits }, omega (arith, fits 0))
 
 pub record IsWide (w : Width) (limit : ℕ) : Type 0 where
   pub len : (n : ℕ) → length (to_be_bytes w n) ≡ byte_len w
@@ -62,23 +69,31 @@ wide32 = record {
   small = λ v f. omega (arith, ints);
 }
 
-pub number_takes : (w : Width) (limit : ℕ) (wide : IsWide w limit) (pc : ℕ) (bytes : List ℕ) (x : ℕ × List ℕ) → IsBytes bytes → number_at w pc bytes ≡ Ok x → Takes bytes (to_be_bytes w x.0) x.1 × (x.0 < limit)
+pub number_takes : (w : Width) (limit : ℕ) (wide : IsWide w limit) (pc : ℕ) (bytes : List ℕ) (x : ℕ × List ℕ) → IsBytes bytes
+    → number_at w pc bytes ≡ Ok x → Takes bytes (to_be_bytes w x.0) x.1 × (x.0 < limit)
 number_takes w limit wide pc bytes x fits e =
-    let g = guard_ok (ltb (length bytes) (byte_len w)) (Truncated pc) (from_be_bytes w (take (byte_len w) bytes), drop (byte_len w) bytes) x e in
+    let g = guard_ok (ltb (length bytes) (byte_len w)) (Truncated pc)
+    (from_be_bytes w (take (byte_len w) bytes), drop (byte_len w) bytes) x e in
     let long : byte_len w ≤ length bytes = ltb-false _ _ g.0 in
-    let front : to_be_bytes w (from_be_bytes w (take (byte_len w) bytes)) ≡ take (byte_len w) bytes = wide.back (take (byte_len w) bytes) (omega (arith, length-take (byte_len w) bytes)) (IsBytes-take (byte_len w) bytes fits) in
-    subst (λ (y : ℕ × List ℕ). Takes bytes (to_be_bytes w y.0) y.1 × (y.0 < limit)) g.1
-    (record { parts = rw front (sym (take-append-drop (byte_len w) bytes)); rest_fits = IsBytes-drop (byte_len w) bytes fits }, wide.below (take (byte_len w) bytes) (IsBytes-take (byte_len w) bytes fits))
+    let front : to_be_bytes w (from_be_bytes w (take (byte_len w) bytes)) ≡ take (byte_len w) bytes = wide.back
+    (take (byte_len w) bytes) (omega (arith, length-take (byte_len w) bytes)) (IsBytes-take (byte_len w) bytes fits) in
+    subst (λ (y : ℕ × List ℕ). Takes bytes (to_be_bytes w y.0) y.1 × (y.0 < limit)) g.1 (
+      record { parts = rw front (sym (take-append-drop (byte_len w) bytes)); rest_fits = IsBytes-drop (byte_len w) bytes fits },
+      wide.below (take (byte_len w) bytes) (IsBytes-take (byte_len w) bytes fits),
+    )
 
-pub number_again : (w : Width) (limit : ℕ) (wide : IsWide w limit) (pc n : ℕ) (rest : List ℕ) → n < limit → number_at w pc (to_be_bytes w n ++ rest) ≡ Ok (n, rest)
+pub number_again : (w : Width) (limit : ℕ) (wide : IsWide w limit) (pc n : ℕ) (rest : List ℕ) → n < limit
+    → number_at w pc (to_be_bytes w n ++ rest) ≡ Ok (n, rest)
 number_again w limit wide pc n rest lt =
     let len = wide.len n in
-    let long : ltb (length (to_be_bytes w n ++ rest)) (byte_len w) ≡ false = le-ltb _ _ (omega (arith, length-append (to_be_bytes w n) rest)) in
+    let long : ltb (length (to_be_bytes w n ++ rest)) (byte_len w) ≡ false = le-ltb _ _
+    (omega (arith, length-append (to_be_bytes w n) rest)) in
     rw (long, take_at (to_be_bytes w n) rest (byte_len w) len, drop_at (to_be_bytes w n) rest (byte_len w) len, wide.again n lt) refl
 
 -- ---- signed numbers
 
-pub signed_takes : (w : Width) (limit : ℕ) (wide : IsWide w limit) (pc : ℕ) (bytes : List ℕ) (x : ℤ × List ℕ) → IsBytes bytes → signed_at w pc bytes ≡ Ok x → Takes bytes (signed w x.0) x.1 × FitsSigned w x.0
+pub signed_takes : (w : Width) (limit : ℕ) (wide : IsWide w limit) (pc : ℕ) (bytes : List ℕ) (x : ℤ × List ℕ) → IsBytes bytes
+    → signed_at w pc bytes ≡ Ok x → Takes bytes (signed w x.0) x.1 × FitsSigned w x.0
 unfolding signed_at
 signed_takes w limit wide pc bytes x fits e =
     let b = bind_ok (number_at w pc bytes) (λ n. Ok (cast_signed w n.0, n.1)) x e in
@@ -87,7 +102,8 @@ signed_takes w limit wide pc bytes x fits e =
     subst (λ (y : ℤ × List ℕ). Takes bytes (signed w y.0) y.1 × FitsSigned w y.0) (ok_is (cast_signed w b.0.0, b.0.1) x b.2)
     (subst (λ (k : ℕ). Takes bytes (to_be_bytes w k) b.0.1) (sym back) t.0, wide.fits b.0.0 t.1)
 
-pub signed_again : (w : Width) (limit : ℕ) (wide : IsWide w limit) (pc : ℕ) (v : ℤ) (rest : List ℕ) → FitsSigned w v → signed_at w pc (signed w v ++ rest) ≡ Ok (v, rest)
+pub signed_again : (w : Width) (limit : ℕ) (wide : IsWide w limit) (pc : ℕ) (v : ℤ) (rest : List ℕ) → FitsSigned w v
+    → signed_at w pc (signed w v ++ rest) ≡ Ok (v, rest)
 unfolding signed_at
 signed_again w limit wide pc v rest f =
     rw (number_again w limit wide pc (cast_unsigned w v) rest (wide.small v f), wide.signed v f) refl
@@ -127,7 +143,8 @@ pub record TakesTarget (w : Width) (pc : ℕ) (bytes : List ℕ) (target : ℕ) 
   pub taken : Takes bytes text rest
   pub same : target < 65535 → (text ≡ signed w (distance pc target)) × Reaches w pc target
 
-pub target_takes : (w : Width) (limit : ℕ) (wide : IsWide w limit) (pc : ℕ) (bytes : List ℕ) (x : ℕ × List ℕ) → IsBytes bytes → target_at w pc bytes ≡ Ok x → TakesTarget w pc bytes x.0 x.1
+pub target_takes : (w : Width) (limit : ℕ) (wide : IsWide w limit) (pc : ℕ) (bytes : List ℕ) (x : ℕ × List ℕ) → IsBytes bytes
+    → target_at w pc bytes ≡ Ok x → TakesTarget w pc bytes x.0 x.1
 unfolding target_at
 target_takes w limit wide pc bytes x fits e =
     let b = bind_ok (signed_at w pc bytes) (λ d. Ok (place_of pc d.0, d.1)) x e in
@@ -136,10 +153,12 @@ target_takes w limit wide pc bytes x fits e =
     (record {
       text = signed w b.0.0;
       taken = t.0;
-      same = λ h. let d = distance_is pc b.0.0 h in (ap (signed w) (sym d), record { place = place_small (pos pc +ℤ b.0.0); fits = subst (λ (v : ℤ). FitsSigned w v) (sym d) t.1 });
+      same = λ h. let d = distance_is pc b.0.0 h in
+          (ap (signed w) (sym d), record { place = place_small (pos pc +ℤ b.0.0); fits = subst (λ (v : ℤ). FitsSigned w v) (sym d) t.1 });
     })
 
-pub target_again : (w : Width) (limit : ℕ) (wide : IsWide w limit) (pc target : ℕ) (rest : List ℕ) → Reaches w pc target → target_at w pc (signed w (distance pc target) ++ rest) ≡ Ok (target, rest)
+pub target_again : (w : Width) (limit : ℕ) (wide : IsWide w limit) (pc target : ℕ) (rest : List ℕ) → Reaches w pc target
+    → target_at w pc (signed w (distance pc target) ++ rest) ≡ Ok (target, rest)
 unfolding target_at
 target_again w limit wide pc target rest r =
     rw (signed_again w limit wide pc (distance pc target) rest r.fits, place_is pc target r.place) refl

@@ -1,5 +1,6 @@
 -- A code is read exactly where it is the instructions' own.
-use Rattle.std.proofs.Common.{◌≡◌, ℕ, zero, suc, ◌-◌, ◌+◌, ◌≤◌, ◌<◌, ◌^◌, Bool, true, false, cond, eqb, List, [], ◌∷◌, ◌++◌, length, Option, Some, None, Result, Ok, Err, refl, sym, ap, subst, ◌∙◌, arith}
+use Rattle.std.proofs.Common.{◌≡◌, ℕ, zero, suc, ◌-◌, ◌+◌, ◌≤◌, ◌<◌, ◌^◌, Bool, true, false, cond, eqb, List, [], ◌∷◌, ◌++◌, length}
+use Rattle.std.proofs.Common.{Option, Some, None, Result, Ok, Err, refl, sym, ap, subst, ◌∙◌, arith}
 use Rattle.std.specs.Prelude.{◌&&◌, ◌||◌, IfOk}
 use Rattle.std.specs.Global.{Vec}
 use Rattle.std.specs.List.{list_all, AllByRecursion}
@@ -21,14 +22,17 @@ use Rattle.code_decode.proofs.Loop.{Insns, passes}
 
 -- ---- where instructions begin
 
-starts_below : (bytes : List ℕ) (passed pc : ℕ) (xs : Insns) → insns_from passed pc bytes ≡ Ok xs → AllByRecursion (λ x. x.0 < pc + length bytes) xs
+starts_below : (bytes : List ℕ) (passed pc : ℕ) (xs : Insns) → insns_from passed pc bytes ≡ Ok xs
+    → AllByRecursion (λ x. x.0 < pc + length bytes) xs
 unfolding insns_from
 starts_below [] passed pc xs e = subst (λ (ys : Insns). AllByRecursion (λ x. x.0 < pc + 0) ys) (ok_is [] xs e) tt
 starts_below (b ∷ bytes) zero pc xs e =
-    let a = bind_ok (insn_at pc b bytes) (λ x. insns_from (length bytes - length x.1) (pc + 1) bytes >>= λ rest. Ok ((pc, x.0) ∷ rest)) xs e in
+    let a = bind_ok (insn_at pc b bytes)
+    (λ x. insns_from (length bytes - length x.1) (pc + 1) bytes >>= λ rest. Ok ((pc, x.0) ∷ rest)) xs e in
     let r = bind_ok (insns_from (length bytes - length a.0.1) (pc + 1) bytes) (λ rest. Ok ((pc, a.0.0) ∷ rest)) xs a.2 in
     let more : pc + 1 + length bytes ≡ pc + suc (length bytes) = omega arith in
-    let below = subst (λ (k : ℕ). AllByRecursion (λ x. x.0 < k) r.0) more (starts_below bytes (length bytes - length a.0.1) (pc + 1) r.0 r.1) in
+    let below = subst (λ (k : ℕ). AllByRecursion (λ x. x.0 < k) r.0) more
+    (starts_below bytes (length bytes - length a.0.1) (pc + 1) r.0 r.1) in
     let first : pc < pc + suc (length bytes) = omega arith in
     subst (λ (ys : Insns). AllByRecursion (λ x. x.0 < pc + suc (length bytes)) ys) (ok_is ((pc, a.0.0) ∷ r.0) xs r.2) (first, below)
 starts_below (b ∷ bytes) (suc passed) pc xs e =
@@ -54,7 +58,8 @@ no_stray : (b : Bool) (rest : Option ℕ) (pc : ℕ) → cond b rest (Some pc) �
 no_stray true rest pc e = (refl, e)
 no_stray false rest pc e = absurd cc
 
-near_targets : (xs ys : Insns) → AllByRecursion (λ x. x.0 < 65535) xs → first_stray (stands (starts xs)) ys ≡ None → AllByRecursion (λ x. AreNear (targets x.1)) ys
+near_targets : (xs ys : Insns) → AllByRecursion (λ x. x.0 < 65535) xs → first_stray (stands (starts xs)) ys ≡ None
+    → AllByRecursion (λ x. AreNear (targets x.1)) ys
 near_targets xs [] small h = tt
 near_targets xs (y ∷ ys) small h =
     let p = no_stray (list_all (stands (starts xs)) (targets y.1)) (first_stray (stands (starts xs)) ys) y.0 h in
@@ -66,18 +71,22 @@ small_all limit (x ∷ xs) le h = (let lt = h.0 in omega arith, small_all limit 
 
 -- ---- what is read is spelled so
 
-spelled : (most : ℕ) (pc : ℕ) (bytes : List ℕ) (xs : Insns) → length bytes ≤ most → IsBytes bytes → insns_from 0 pc bytes ≡ Ok xs → AllByRecursion (λ x. AreNear (targets x.1)) xs → Spells pc xs bytes
+spelled : (most : ℕ) (pc : ℕ) (bytes : List ℕ) (xs : Insns) → length bytes ≤ most → IsBytes bytes → insns_from 0 pc bytes ≡ Ok xs
+    → AllByRecursion (λ x. AreNear (targets x.1)) xs → Spells pc xs bytes
 unfolding insns_from
-spelled most pc [] xs le fits e = subst (λ (ys : Insns). AllByRecursion (λ x. AreNear (targets x.1)) ys → Spells pc ys []) (ok_is [] xs e) (λ _. refl)
+spelled most pc [] xs le fits e = subst (λ (ys : Insns). AllByRecursion (λ x. AreNear (targets x.1)) ys → Spells pc ys [])
+    (ok_is [] xs e) (λ _. refl)
 spelled zero pc (op ∷ bytes) xs le fits e = absurd (omega arith)
 spelled (suc most) pc (op ∷ bytes) xs le fits e =
-    let a = bind_ok (insn_at pc op bytes) (λ x. insns_from (length bytes - length x.1) (pc + 1) bytes >>= λ rest. Ok ((pc, x.0) ∷ rest)) xs e in
+    let a = bind_ok (insn_at pc op bytes)
+    (λ x. insns_from (length bytes - length x.1) (pc + 1) bytes >>= λ rest. Ok ((pc, x.0) ∷ rest)) xs e in
     let r = bind_ok (insns_from (length bytes - length a.0.1) (pc + 1) bytes) (λ rest. Ok ((pc, a.0.0) ∷ rest)) xs a.2 in
     let t = insn_takes pc op bytes a.0 (IsBytes-rest op bytes fits) a.1 in
     let len = ap length t.taken.parts ∙ length-append t.text a.0.1 in
     let long : length bytes - length a.0.1 ≡ length t.text = omega (arith, len) in
     let next : insns_from 0 (pc + 1 + length t.text) a.0.1 ≡ Ok r.0 =
-    sym (passes t.text a.0.1 (pc + 1)) ∙ ap (insns_from (length t.text) (pc + 1)) (sym t.taken.parts) ∙ ap (λ (k : ℕ). insns_from k (pc + 1) bytes) (sym long) ∙ r.1 in
+    sym (passes t.text a.0.1 (pc + 1)) ∙ ap (insns_from (length t.text) (pc + 1)) (sym t.taken.parts)
+    ∙ ap (λ (k : ℕ). insns_from k (pc + 1) bytes) (sym long) ∙ r.1 in
     let place : pc + 1 + length t.text ≡ pc + suc (length t.text) = omega arith in
     let small : length a.0.1 ≤ most = omega (arith, len) in
     subst (λ (ys : Insns). AllByRecursion (λ x. AreNear (targets x.1)) ys → Spells pc ys (op ∷ bytes)) (ok_is ((pc, a.0.0) ∷ r.0) xs r.2)
@@ -99,9 +108,11 @@ reads code ys fits short e =
     let below = starts_below code 0 0 a.0 a.1 in
     let small = small_all (0 + length code) a.0 (omega arith) below in
     let near = near_targets a.0 a.0 small s.0 in
-    subst (λ (zs : Insns). IsReading code zs) s.1 (record { spelled = spelled (length code) 0 code a.0 (omega arith) fits a.1 near; targets = s.0 })
+    subst (λ (zs : Insns). IsReading code zs) s.1
+    (record { spelled = spelled (length code) 0 code a.0 (omega arith) fits a.1 near; targets = s.0 })
 
-pub is_found : (code : List ℕ) (r : Result (Vec (ℕ × Insn)) CodeFault) → IsBytes code → length code < 2 ^ 16 → Gives (λ v. v.items) r (decode_of code) → IfOk r (λ v. IsReading code v.items)
+pub is_found : (code : List ℕ) (r : Result (Vec (ℕ × Insn)) CodeFault) → IsBytes code → length code < 2 ^ 16
+    → Gives (λ v. v.items) r (decode_of code) → IfOk r (λ v. IsReading code v.items)
 is_found code (Ok v) fits short given = reads code v.items fits short given
 is_found code (Err e) fits short given = tt
 
@@ -121,7 +132,8 @@ spelled_again pc (x ∷ xs) bytes h =
     let long : length (others ++ rest) - length rest ≡ length others = omega (arith, length-append others rest) in
     let place : pc + length (text pc padding x.1) ≡ pc + 1 + length others = ap (λ (t : List ℕ). pc + length t) is ∙ omega arith in
     let next : insns_from (length (others ++ rest) - length rest) (pc + 1) (others ++ rest) ≡ Ok xs =
-    ap (λ (k : ℕ). insns_from k (pc + 1) (others ++ rest)) long ∙ passes others rest (pc + 1) ∙ ap (λ (k : ℕ). insns_from 0 k rest) (sym place) ∙ spelled_again (pc + length (text pc padding x.1)) xs rest h.6 in
+    ap (λ (k : ℕ). insns_from k (pc + 1) (others ++ rest)) long ∙ passes others rest (pc + 1)
+    ∙ ap (λ (k : ℕ). insns_from 0 k rest) (sym place) ∙ spelled_again (pc + length (text pc padding x.1)) xs rest h.6 in
     let one : insns_from 0 pc (first ∷ (others ++ rest)) ≡ Ok ((pc, x.1) ∷ xs) = rw (read, next) refl in
     ap (insns_from 0 pc) whole ∙ one ∙ ap (λ (k : ℕ). Ok ((k, x.1) ∷ xs)) (sym h.2)
 
@@ -146,10 +158,13 @@ all_same p q (t ∷ ts) h = ap (λ (b : Bool). b && list_all p ts) (h t) ∙ ap 
 pub stray_same : (p q : ℕ → Bool) (xs : Insns) → ((k : ℕ) → p k ≡ q k) → first_stray p xs ≡ first_stray q xs
 stray_same p q [] h = refl
 stray_same p q (x ∷ xs) h =
-    ap (λ (b : Bool). cond b (first_stray p xs) (Some x.0)) (all_same p q (targets x.1) h) ∙ ap (λ (o : Option ℕ). cond (list_all q (targets x.1)) o (Some x.0)) (stray_same p q xs h)
+    ap (λ (b : Bool). cond b (first_stray p xs) (Some x.0)) (all_same p q (targets x.1) h)
+    ∙ ap (λ (o : Option ℕ). cond (list_all q (targets x.1)) o (Some x.0)) (stray_same p q xs h)
 
-pub decided : (code : List ℕ) (xs ys zs : Insns) (p : ℕ → Bool) (o : Option ℕ) → insns_from 0 0 code ≡ Ok xs → ys ≡ xs → zs ≡ xs → ((k : ℕ) → p k ≡ stands (starts ys) k) → o ≡ first_stray p zs → decode_of code ≡ with_targets xs o
+pub decided : (code : List ℕ) (xs ys zs : Insns) (p : ℕ → Bool) (o : Option ℕ) → insns_from 0 0 code ≡ Ok xs → ys ≡ xs → zs ≡ xs
+    → ((k : ℕ) → p k ≡ stands (starts ys) k) → o ≡ first_stray p zs → decode_of code ≡ with_targets xs o
 unfolding decode_of
 decided code xs ys zs p o e ey ez h s =
-    let same : first_stray (stands (starts xs)) xs ≡ o = ap (λ (l : Insns). first_stray (stands (starts l)) xs) (sym ey) ∙ ap (first_stray (stands (starts ys))) (sym ez) ∙ sym (stray_same p (stands (starts ys)) zs h) ∙ sym s in
+    let same : first_stray (stands (starts xs)) xs ≡ o = ap (λ (l : Insns). first_stray (stands (starts l)) xs) (sym ey)
+    ∙ ap (first_stray (stands (starts ys))) (sym ez) ∙ sym (stray_same p (stands (starts ys)) zs h) ∙ sym s in
     rw (e, same) refl

@@ -15,15 +15,18 @@ each_same f k h (x ∷ xs) =
     let e = ap length (flat_map-cons f x xs) ∙ length-append (f x) (flat_map f xs) in
     omega (arith, e, h x, each_same f k h xs)
 
-pub table_len : (pc default : ℕ) (low : ℤ) (targets : List ℕ) → length (table_text pc (zeros (padding_of pc)) default low targets) ≡ padding_of pc + 12 + 4 * length targets
+pub table_len : (pc default : ℕ) (low : ℤ) (targets : List ℕ)
+    → length (table_text pc (zeros (padding_of pc)) default low targets) ≡ padding_of pc + 12 + 4 * length targets
 table_len pc default low targets =
     let t = flat_map (λ target. signed w32 (distance pc target)) targets in
-    let e = length-append (zeros (padding_of pc)) (signed w32 (distance pc default) ++ (signed w32 low ++ (signed w32 (low +ℤ pos (length targets - 1)) ++ t))) in
+    let e = length-append (zeros (padding_of pc))
+    (signed w32 (distance pc default) ++ (signed w32 low ++ (signed w32 (low +ℤ pos (length targets - 1)) ++ t))) in
     let z = length-zeros (padding_of pc) in
     let s = each_same (λ (target : ℕ). signed w32 (distance pc target)) 4 (λ target. refl) targets in
     e ∙ omega (arith, z, s)
 
-pub lookup_len : (pc default : ℕ) (cases : List Case) → length (lookup_text pc (zeros (padding_of pc)) default cases) ≡ padding_of pc + 8 + 8 * length cases
+pub lookup_len : (pc default : ℕ) (cases : List Case)
+    → length (lookup_text pc (zeros (padding_of pc)) default cases) ≡ padding_of pc + 8 + 8 * length cases
 lookup_len pc default cases =
     let t = flat_map (case_text pc) cases in
     let e = length-append (zeros (padding_of pc)) (signed w32 (distance pc default) ++ (to_be_bytes w32 (length cases) ++ t)) in

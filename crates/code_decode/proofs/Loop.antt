@@ -1,5 +1,6 @@
 -- Reading the instructions of a code, as a loop does.
-use Rattle.std.proofs.Common.{◌≡◌, ℕ, suc, ◌-◌, ◌+◌, ◌≤◌, ◌<◌, List, [], ◌∷◌, ◌++◌, length, Result, Ok, Err, refl, sym, ap, ◌∙◌, subst, append_assoc, arith}
+use Rattle.std.proofs.Common.{◌≡◌, ℕ, suc, ◌-◌, ◌+◌, ◌≤◌, ◌<◌, List, [], ◌∷◌, ◌++◌, length, Result, Ok, Err, refl, sym, ap, ◌∙◌}
+use Rattle.std.proofs.Common.{subst, append_assoc, arith}
 use Rattle.std.proofs.lemmas.List.{append-nil, length-append, nil_from_length}
 use Rattle.code_forms.specs.declared.fault.CodeFault.{CodeFault}
 use Rattle.code_forms.specs.declared.insn.Insn.{Insn}
@@ -17,7 +18,8 @@ Insns = List (ℕ × Insn)
 abbrev pub behind : Insns → Result Insns CodeFault → Result Insns CodeFault
 behind front read = read >>= λ xs. Ok (front ++ xs)
 
-regroup : (front : Insns) (x : ℕ × Insn) (read : Result Insns CodeFault) → behind front (read >>= λ xs. Ok (x ∷ xs)) ≡ behind (front ++ x ∷ []) read
+regroup : (front : Insns) (x : ℕ × Insn) (read : Result Insns CodeFault)
+    → behind front (read >>= λ xs. Ok (x ∷ xs)) ≡ behind (front ++ x ∷ []) read
 regroup front x (Ok xs) = ap (λ (ns : Insns). Ok ns) (simp append_assoc)
 regroup front x (Err f) = refl
 
@@ -45,28 +47,34 @@ begins code fits =
     record { short = omega arith; fits = fits; whole = rw e (nothing_before (insns_from 0 0 code)) }
 
 -- what comes next is shorter
-pub shrinks : (pc op : ℕ) (bytes : List ℕ) (insn : Insn) (after : List ℕ) → IsBytes bytes → insn_at pc op bytes ≡ Ok (insn, after) → length after ≤ length bytes
+pub shrinks : (pc op : ℕ) (bytes : List ℕ) (insn : Insn) (after : List ℕ) → IsBytes bytes → insn_at pc op bytes ≡ Ok (insn, after)
+    → length after ≤ length bytes
 shrinks pc op bytes insn after fits e =
     let t = insn_takes pc op bytes (insn, after) fits e in
     omega (arith, ap length t.taken.parts, length-append t.text after)
 
-one_more : (pc op : ℕ) (bytes : List ℕ) (insn : Insn) (after : List ℕ) (front : Insns) → IsBytes bytes → insn_at pc op bytes ≡ Ok (insn, after)
-    → behind front (insns_from 0 pc (op ∷ bytes)) ≡ behind (front ++ (pc, insn) ∷ []) (insns_from 0 (pc + 1 + (length bytes - length after)) after)
+one_more : (pc op : ℕ) (bytes : List ℕ) (insn : Insn) (after : List ℕ) (front : Insns) → IsBytes bytes
+    → insn_at pc op bytes ≡ Ok (insn, after)
+    → behind front (insns_from 0 pc (op ∷ bytes)) ≡ behind (front ++ (pc, insn) ∷ [])
+    (insns_from 0 (pc + 1 + (length bytes - length after)) after)
 unfolding insns_from
 one_more pc op bytes insn after front fits e =
     let t = insn_takes pc op bytes (insn, after) fits e in
     let long : length bytes - length after ≡ length t.text = omega (arith, ap length t.taken.parts, length-append t.text after) in
     let next : insns_from (length bytes - length after) (pc + 1) bytes ≡ insns_from 0 (pc + 1 + (length bytes - length after)) after =
-    ap (λ (k : ℕ). insns_from k (pc + 1) bytes) long ∙ ap (insns_from (length t.text) (pc + 1)) t.taken.parts ∙ passes t.text after (pc + 1) ∙ ap (λ (k : ℕ). insns_from 0 (pc + 1 + k) after) (sym long) in
+    ap (λ (k : ℕ). insns_from k (pc + 1) bytes) long ∙ ap (insns_from (length t.text) (pc + 1)) t.taken.parts
+    ∙ passes t.text after (pc + 1) ∙ ap (λ (k : ℕ). insns_from 0 (pc + 1 + k) after) (sym long) in
     rw (e, next) (regroup front (pc, insn) (insns_from 0 (pc + 1 + (length bytes - length after)) after))
 
-pub goes_on : (code : List ℕ) (front : Insns) (op : ℕ) (bytes : List ℕ) (insn : Insn) (after : List ℕ) → Goes code front (op ∷ bytes) → insn_at (length code - suc (length bytes)) op bytes ≡ Ok (insn, after)
+pub goes_on : (code : List ℕ) (front : Insns) (op : ℕ) (bytes : List ℕ) (insn : Insn) (after : List ℕ)
+    → Goes code front (op ∷ bytes) → insn_at (length code - suc (length bytes)) op bytes ≡ Ok (insn, after)
     → Goes code (front ++ (length code - suc (length bytes), insn) ∷ []) after
 goes_on code front op bytes insn after g e =
     let fits = IsBytes-rest op bytes g.fits in
     let t = insn_takes (length code - suc (length bytes)) op bytes (insn, after) fits e in
     let small = shrinks (length code - suc (length bytes)) op bytes insn after fits e in
-    let place : length code - suc (length bytes) + 1 + (length bytes - length after) ≡ length code - length after = omega (arith, g.short) in
+    let place : length code - suc (length bytes) + 1 + (length bytes - length after) ≡ length code - length after = omega
+    (arith, g.short) in
     record {
       short = omega (arith, g.short);
       fits = t.taken.rest_fits;
@@ -75,11 +83,13 @@ goes_on code front op bytes insn after g e =
           ∙ g.whole;
     }
 
-fault : (code : List ℕ) (front : Insns) (op : ℕ) (bytes : List ℕ) (f : CodeFault) → Goes code front (op ∷ bytes) → insn_at (length code - suc (length bytes)) op bytes ≡ Err f → insns_from 0 0 code ≡ Err f
+fault : (code : List ℕ) (front : Insns) (op : ℕ) (bytes : List ℕ) (f : CodeFault) → Goes code front (op ∷ bytes)
+    → insn_at (length code - suc (length bytes)) op bytes ≡ Err f → insns_from 0 0 code ≡ Err f
 unfolding insns_from
 fault code front op bytes f g e = sym g.whole ∙ rw e refl
 
-pub ends : (code : List ℕ) (front : Insns) (op : ℕ) (bytes : List ℕ) (f : CodeFault) → Goes code front (op ∷ bytes) → Fails f (insn_at (length code - suc (length bytes)) op bytes) → Fails f (insns_from 0 0 code)
+pub ends : (code : List ℕ) (front : Insns) (op : ℕ) (bytes : List ℕ) (f : CodeFault) → Goes code front (op ∷ bytes)
+    → Fails f (insn_at (length code - suc (length bytes)) op bytes) → Fails f (insns_from 0 0 code)
 ends code front op bytes f g h =
     handed_on is_memory f (insn_at (length code - suc (length bytes)) op bytes) (insns_from 0 0 code) (fault code front op bytes f g) h
 
@@ -92,22 +102,28 @@ is_done code front g = sym g.whole ∙ ap (λ (ns : Insns). Ok ns) (append-nil f
 pub loop_begins : (code : List ℕ) (front : Insns) → front ≡ [] → IsBytes code → Goes code front code
 loop_begins code front e fits = subst (λ (f : Insns). Goes code f code) (sym e) (begins code fits)
 
-pub loop_goes_on : (code : List ℕ) (front after_front : Insns) (rest : List ℕ) (op : ℕ) (bytes : List ℕ) (insn : Insn) (after : List ℕ) → rest ≡ op ∷ bytes → Goes code front rest → insn_at (length code - length rest) op bytes ≡ Ok (insn, after)
+pub loop_goes_on : (code : List ℕ) (front after_front : Insns) (rest : List ℕ) (op : ℕ) (bytes : List ℕ) (insn : Insn)
+    (after : List ℕ) → rest ≡ op ∷ bytes → Goes code front rest → insn_at (length code - length rest) op bytes ≡ Ok (insn, after)
     → after_front ≡ front ++ (length code - length rest, insn) ∷ [] → Goes code after_front after
 loop_goes_on code front after_front rest op bytes insn after r g e a =
     subst (λ (f : Insns). Goes code f after) (sym a)
     (subst (λ (k : ℕ). Goes code (front ++ (length code - k, insn) ∷ []) after) (sym (ap length r))
-    (goes_on code front op bytes insn after (subst (λ (s : List ℕ). Goes code front s) r g) (subst (λ (k : ℕ). insn_at (length code - k) op bytes ≡ Ok (insn, after)) (ap length r) e)))
+    (goes_on code front op bytes insn after (subst (λ (s : List ℕ). Goes code front s) r g)
+    (subst (λ (k : ℕ). insn_at (length code - k) op bytes ≡ Ok (insn, after)) (ap length r) e)))
 
-pub loop_shrinks : (code : List ℕ) (front : Insns) (rest : List ℕ) (op : ℕ) (bytes : List ℕ) (pc : ℕ) (insn : Insn) (after : List ℕ) → rest ≡ op ∷ bytes → Goes code front rest → insn_at pc op bytes ≡ Ok (insn, after) → length after < length rest
+pub loop_shrinks : (code : List ℕ) (front : Insns) (rest : List ℕ) (op : ℕ) (bytes : List ℕ) (pc : ℕ) (insn : Insn) (after : List ℕ)
+    → rest ≡ op ∷ bytes → Goes code front rest → insn_at pc op bytes ≡ Ok (insn, after) → length after < length rest
 loop_shrinks code front rest op bytes pc insn after r g e =
     let f = IsBytes-rest op bytes (subst (λ (s : List ℕ). IsBytes s) r g.fits) in
     let s = shrinks pc op bytes insn after f e in
     omega (arith, ap length r)
 
-pub loop_ends : (code : List ℕ) (front : Insns) (rest : List ℕ) (op : ℕ) (bytes : List ℕ) (f : CodeFault) → rest ≡ op ∷ bytes → Goes code front rest → Fails f (insn_at (length code - length rest) op bytes) → Fails f (insns_from 0 0 code)
+pub loop_ends : (code : List ℕ) (front : Insns) (rest : List ℕ) (op : ℕ) (bytes : List ℕ) (f : CodeFault) → rest ≡ op ∷ bytes
+    → Goes code front rest → Fails f (insn_at (length code - length rest) op bytes) → Fails f (insns_from 0 0 code)
 loop_ends code front rest op bytes f r g h =
-    ends code front op bytes f (subst (λ (s : List ℕ). Goes code front s) r g) (subst (λ (k : ℕ). Fails f (insn_at (length code - k) op bytes)) (ap length r) h)
+    ends code front op bytes f (subst (λ (s : List ℕ). Goes code front s) r g)
+    (subst (λ (k : ℕ). Fails f (insn_at (length code - k) op bytes)) (ap length r) h)
 
-pub loop_is_done : (code : List ℕ) (front : Insns) (rest : List ℕ) → length rest ≡ 0 → Goes code front rest → insns_from 0 0 code ≡ Ok front
+pub loop_is_done : (code : List ℕ) (front : Insns) (rest : List ℕ) → length rest ≡ 0 → Goes code front rest
+    → insns_from 0 0 code ≡ Ok front
 loop_is_done code front rest e g = is_done code front (subst (λ (s : List ℕ). Goes code front s) (nil_from_length rest e) g)

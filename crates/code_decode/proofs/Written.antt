@@ -1,5 +1,6 @@
 -- What is written is a code that reads as the instructions.
-use Rattle.std.proofs.Common.{◌≡◌, ℕ, zero, suc, ◌+◌, List, [], ◌∷◌, ◌++◌, length, All, Result, Ok, refl, ap, subst, ◌∙◌, append_assoc, arith}
+use Rattle.std.proofs.Common.{◌≡◌, ℕ, zero, suc, ◌+◌, List, [], ◌∷◌, ◌++◌, length, All, Result, Ok, refl, ap, subst, ◌∙◌}
+use Rattle.std.proofs.Common.{append_assoc, arith}
 use Rattle.std.specs.Prelude.{Err, ℤ, IfOk}
 use Rattle.std.specs.Global.{Vec}
 use Rattle.std.specs.declared.alloc.AllocError.{AllocError}
@@ -48,6 +49,7 @@ adds_then a b c x y e f = f ∙ ap (λ (t : List ℕ). t ++ y) e ∙ append_asso
 pub kept : (r x : ℤ) → r ≡ x → FitsSigned w32 x → cast_signed w32 (cast_unsigned w32 r) ≡ x
 kept r x e f = ap (λ (v : ℤ). cast_signed w32 (cast_unsigned w32 v)) e ∙ to_z-of_z w32 x f
 
-pub law_from_bytes : (r : Result (Vec ℕ) AllocError) (xs : List (ℕ × Insn)) → IsCode xs → IfOk r (λ v. v.items ≡ code_of xs) → IfOk r (λ v. decode_of v.items ≡ Ok xs)
+pub law_from_bytes : (r : Result (Vec ℕ) AllocError) (xs : List (ℕ × Insn)) → IsCode xs → IfOk r (λ v. v.items ≡ code_of xs)
+    → IfOk r (λ v. decode_of v.items ≡ Ok xs)
 law_from_bytes (Ok v) xs h e = ap decode_of e ∙ decodes xs h
 law_from_bytes (Err e) xs h g = tt

@@ -1,11 +1,13 @@
 -- A code and its instructions.
 -- JVM specification, section 4.7.3 (the code array) and section 4.9.1 (targets stand at instructions).
-use Rattle.std.specs.Prelude.{ℕ, zero, suc, ◌+◌, ◌-◌, ◌≡◌, List, [], ◌∷◌, ◌++◌, length, map, Option, Some, None, Result, Ok, Err, Bool, if◌then◌else◌}
+use Rattle.std.specs.Prelude.{ℕ, zero, suc, ◌+◌, ◌-◌, ◌≡◌, List, [], ◌∷◌, ◌++◌, length, map, Option, Some, None, Result, Ok, Err}
+use Rattle.std.specs.Prelude.{Bool, if◌then◌else◌}
 use Rattle.std.specs.List.{list_all}
 use Rattle.code_forms.specs.declared.fault.CodeFault.{CodeFault}
 use Rattle.code_forms.specs.declared.fault.CodeFault.TheVariants.{BadTarget}
 use Rattle.code_forms.specs.declared.insn.Insn.{Insn}
-use Rattle.code_forms.specs.Spellings.{Spelling, Plain, Byte, Pair, SignedByte, SignedPair, Jump, FarJump, Increment, Table, Lookup, Interface, Array, WideLocal, WideIncrement, spelling}
+use Rattle.code_forms.specs.Spellings.{Spelling, Plain, Byte, Pair, SignedByte, SignedPair, Jump, FarJump, Increment, Table, Lookup}
+use Rattle.code_forms.specs.Spellings.{Interface, Array, WideLocal, WideIncrement, spelling}
 use Rattle.code_forms.specs.Marks.{starts, stands}
 use Rattle.code_decode.specs.Texts.{padding_of, text, Fits}
 use Rattle.code_decode.specs.Reading.{◌>>=◌, insn_at}
@@ -42,7 +44,8 @@ first_stray is_good (x ∷ xs) = if list_all is_good (targets x.1) then first_st
 abbrev pub Spells : ℕ → List (ℕ × Insn) → List ℕ → Type 0
 Spells pc [] bytes = bytes ≡ []
 Spells pc (x ∷ xs) bytes =
-    (padding : List ℕ) × (rest : List ℕ) × (x.0 ≡ pc) × (length padding ≡ padding_of pc) × Fits pc x.1 × (bytes ≡ text pc padding x.1 ++ rest) × Spells (pc + length (text pc padding x.1)) xs rest
+    (padding : List ℕ) × (rest : List ℕ) × (x.0 ≡ pc) × (length padding ≡ padding_of pc) × Fits pc x.1
+    × (bytes ≡ text pc padding x.1 ++ rest) × Spells (pc + length (text pc padding x.1)) xs rest
 
 -- These are the code's instructions: its bytes are theirs, and each target is the place of one of them.
 pub record IsReading (code : List ℕ) (insns : List (ℕ × Insn)) : Type 0 where

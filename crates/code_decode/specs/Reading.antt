@@ -1,5 +1,6 @@
 -- Reading instructions (JVM specification, chapter 6) from left to right, with the first fault that is met.
-use Rattle.std.specs.Prelude.{ℕ, zero, suc, ◌+◌, ℤ, pos, negsuc, ◌+ℤ◌, List, [], ◌∷◌, length, take, drop, Option, Some, None, option_map, Result, Ok, Err, nat_lt, ◌==◌, ◌&&◌, if◌then◌else◌}
+use Rattle.std.specs.Prelude.{ℕ, zero, suc, ◌+◌, ℤ, pos, negsuc, ◌+ℤ◌, List, [], ◌∷◌, length, take, drop, Option, Some, None}
+use Rattle.std.specs.Prelude.{option_map, Result, Ok, Err, nat_lt, ◌==◌, ◌&&◌, if◌then◌else◌}
 use Rattle.std.specs.Int.{Width, w8, w16, w32, byte_len, from_be_bytes, cast_signed}
 use Rattle.std.specs.Int.RustNames.{int_lt, unsigned_abs}
 use Rattle.std.proofs.Common.{◌-ℤ◌}
@@ -8,7 +9,8 @@ use Rattle.code_forms.specs.declared.fault.CodeFault.{CodeFault}
 use Rattle.code_forms.specs.declared.fault.CodeFault.TheVariants.{Truncated, UnsupportedOpcode, UnknownOpcode, BadSwitch, BadOperand}
 use Rattle.code_forms.specs.declared.insn.Case.{Case}
 use Rattle.code_forms.specs.declared.insn.Insn.{Insn}
-use Rattle.code_forms.specs.declared.insn.Insn.TheVariants.{Bipush, GotoW, Iinc, Invokeinterface, Lookupswitch, Newarray, Sipush, Tableswitch, WideIinc}
+use Rattle.code_forms.specs.declared.insn.Insn.TheVariants.{Bipush, GotoW, Iinc, Invokeinterface, Lookupswitch, Newarray, Sipush}
+use Rattle.code_forms.specs.declared.insn.Insn.TheVariants.{Tableswitch, WideIinc}
 use Rattle.code_forms.specs.Opcodes.{find_by, with_byte, with_pair, with_jump, wide_local, first_of, plain}
 use Rattle.code_forms.specs.Cases.{is_rising}
 use Rattle.code_decode.specs.Texts.{padding_of}
@@ -20,7 +22,8 @@ byte_at pc [] = Err (Truncated pc)
 byte_at pc (b ∷ rest) = Ok (b, rest)
 
 abbrev pub number_at : Width → ℕ → List ℕ → Result (ℕ × List ℕ) CodeFault
-number_at w pc bytes = if nat_lt (length bytes) (byte_len w) then Err (Truncated pc) else Ok (from_be_bytes w (take (byte_len w) bytes), drop (byte_len w) bytes)
+number_at w pc bytes = if nat_lt (length bytes) (byte_len w) then Err (Truncated pc) else Ok
+    (from_be_bytes w (take (byte_len w) bytes), drop (byte_len w) bytes)
 
 unfoldable pub signed_at : Width → ℕ → List ℕ → Result (ℤ × List ℕ) CodeFault
 signed_at w pc bytes = do
@@ -101,7 +104,8 @@ case_at pc bytes = do
 
 -- the targets of a table; where low is above high, no number of targets follows
 unfoldable pub table_targets_at : ℕ → ℤ → ℤ → List ℕ → Result (List ℕ × List ℕ) CodeFault
-table_targets_at pc low high bytes = if int_lt high low then Err (BadSwitch pc) else repeat_at (target_at w32 pc) (unsigned_abs (high -ℤ low) + 1) bytes
+table_targets_at pc low high bytes = if int_lt high low then Err (BadSwitch pc) else repeat_at (target_at w32 pc)
+    (unsigned_abs (high -ℤ low) + 1) bytes
 
 unfoldable pub table_at : ℕ → List ℕ → Result (Insn × List ℕ) CodeFault
 table_at pc bytes = do

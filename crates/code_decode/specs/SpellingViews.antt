@@ -1,7 +1,8 @@
 -- The program's opcode and operands as the table has them.
 use Rattle.code_decode.specs.declared.spelling.SpellingView.{SpellingView}
 use Rattle.code_decode.specs.declared.spelling.SpellingView.TheVariants as views
-use Rattle.code_forms.specs.Spellings.{Spelling, Plain, Byte, Pair, SignedByte, SignedPair, Jump, FarJump, Increment, Table, Lookup, Interface, Array, WideLocal, WideIncrement}
+use Rattle.code_forms.specs.Spellings.{Spelling, Plain, Byte, Pair, SignedByte, SignedPair, Jump, FarJump, Increment, Table, Lookup}
+use Rattle.code_forms.specs.Spellings.{Interface, Array, WideLocal, WideIncrement}
 
 abbrev pub shown : SpellingView → Spelling
 shown (views.Plain op) = Plain op

@@ -8,7 +8,8 @@ use Rattle.std.proofs.Common.{◌-ℤ◌}
 use Rattle.code_forms.specs.declared.insn.Case.{Case}
 use Rattle.code_forms.specs.declared.insn.Insn.{Insn}
 use Rattle.code_forms.specs.Cases.{is_rising}
-use Rattle.code_forms.specs.Spellings.{Spelling, Plain, Byte, Pair, SignedByte, SignedPair, Jump, FarJump, Increment, Table, Lookup, Interface, Array, WideLocal, WideIncrement, spelling}
+use Rattle.code_forms.specs.Spellings.{Spelling, Plain, Byte, Pair, SignedByte, SignedPair, Jump, FarJump, Increment, Table, Lookup}
+use Rattle.code_forms.specs.Spellings.{Interface, Array, WideLocal, WideIncrement, spelling}
 
 -- the bytes of a signed number, in two's complement and big-endian
 abbrev pub signed : Width → ℤ → List ℕ
@@ -28,7 +29,9 @@ case_text pc c = signed w32 c.key ++ signed w32 (distance pc c.target)
 -- padding, default, low, high and the targets of the keys from low to high
 abbrev pub table_text : ℕ → List ℕ → ℕ → ℤ → List ℕ → List ℕ
 table_text pc padding default low targets =
-    padding ++ (signed w32 (distance pc default) ++ (signed w32 low ++ (signed w32 (low +ℤ pos (length targets - 1)) ++ flat_map (λ target. signed w32 (distance pc target)) targets)))
+    padding ++ (signed w32 (distance pc default)
+    ++ (signed w32 low ++ (signed w32 (low +ℤ pos (length targets - 1)) ++ flat_map
+    (λ target. signed w32 (distance pc target)) targets)))
 
 -- padding, default, count and the cases
 abbrev pub lookup_text : ℕ → List ℕ → ℕ → List Case → List ℕ

@@ -4,7 +4,8 @@ ghost use Rattle.code_decode.specs.Codes.{spelling_targets, targets};
 ghost use Rattle.code_decode.specs.Encoding.{plain_text};
 ghost use Rattle.code_decode.specs.Flow.{falls_through};
 ghost use Rattle.code_decode.specs.SpellingViews.{shown};
-ghost use Rattle.code_decode.specs.Texts.{padding_of, zeros, table_text, lookup_text, spelling_text, IsTable, IsLookup, FitsSpelling, Fits};
+ghost use Rattle.code_decode.specs.Texts.{padding_of, zeros, table_text, lookup_text, spelling_text, IsTable, IsLookup};
+ghost use Rattle.code_decode.specs.Texts.{FitsSpelling, Fits};
 
 use crate::spelling::{SpellingView, padding_of, spelling_of};
 use code_forms::{Case, Insn};

@@ -7,7 +7,8 @@ ghost use Rattle.code_decode.specs.Codes.{decode_of, IsReading};
 /// For codes of at most 65,535 bytes the reading from left to right answers a list exactly where these are the code's
 /// instructions.
 pub fn read_is_spelled()
-    ensures found { (code : List ℕ) (insns : List (ℕ × Insn)) → IsBytes code → length code < 2 ^ 16 → decode_of code ≡ Ok insns → IsReading code insns }
+    ensures found { (code : List ℕ) (insns : List (ℕ × Insn)) → IsBytes code → length code < 2 ^ 16 → decode_of code ≡ Ok insns
+        → IsReading code insns }
     ensures only { (code : List ℕ) (insns : List (ℕ × Insn)) → IsReading code insns → decode_of code ≡ Ok insns }
 {}
 

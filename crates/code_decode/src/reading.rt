@@ -3,7 +3,11 @@ ghost use Rattle.std.specs.Prelude.{◌≡◌, IsTrue, is_some, option_map};
 ghost use Rattle.std.specs.Int.{w16, w32, cast_signed};
 ghost use Rattle.code_forms.specs.Faults.{Gives};
 ghost use Rattle.code_forms.specs.Opcodes.{find_by, with_byte, with_pair, with_jump, wide_local};
-ghost use Rattle.code_decode.specs.Reading.{Byte, Pair, Jump, byte_at, number_at, signed_at, place_of, target_at, skip_at, operands_at, repeat_at, case_at, table_at, lookup_at, interface_at, array_at, wide_at, increment_at, signed_byte_at, sipush_at, far_jump_at, table_targets_at, counted_cases_at, wide_increment_at, wide_operand_at, single_layout, operand_layout, insn_at};
+ghost use Rattle.code_decode.specs.Reading.{Byte, Pair, Jump, byte_at, number_at, signed_at, place_of, target_at, skip_at};
+ghost use Rattle.code_decode.specs.Reading.{operands_at, repeat_at, case_at, table_at, lookup_at, interface_at, array_at, wide_at};
+ghost use Rattle.code_decode.specs.Reading.{increment_at, signed_byte_at, sipush_at, far_jump_at, table_targets_at};
+ghost use Rattle.code_decode.specs.Reading.{counted_cases_at, wide_increment_at, wide_operand_at, single_layout, operand_layout};
+ghost use Rattle.code_decode.specs.Reading.{insn_at};
 ghost use Rattle.code_decode.specs.Texts.{padding_of};
 
 use crate::spelling::padding_of;

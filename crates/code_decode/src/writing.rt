@@ -6,7 +6,8 @@ ghost use Rattle.std.specs.List.{flat_map};
 ghost use Rattle.code_decode.specs.Codes.{decode_of};
 ghost use Rattle.code_decode.specs.Encoding.{plain_text, code_of, IsCode};
 ghost use Rattle.code_decode.specs.SpellingViews.{shown};
-ghost use Rattle.code_decode.specs.Texts.{signed, distance, padding_of, zeros, case_text, table_text, lookup_text, spelling_text, Reaches, IsTable, IsLookup, FitsSpelling, Fits};
+ghost use Rattle.code_decode.specs.Texts.{signed, distance, padding_of, zeros, case_text, table_text, lookup_text, spelling_text};
+ghost use Rattle.code_decode.specs.Texts.{Reaches, IsTable, IsLookup, FitsSpelling, Fits};
 
 use crate::spelling::{SpellingView, padding_of, spelling_of};
 use code_forms::{Case, Insn};

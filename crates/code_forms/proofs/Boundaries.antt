@@ -23,7 +23,8 @@ neither : (a b : Option ℕ) → earlier a b ≡ None → (a ≡ None) × (b ≡
 neither None b e = (refl, e)
 neither (Some place) b e = absurd cc
 
-good_table : (begins : ℕ → Bool) (length : ℕ) (hs : List Handler) → first_bad_boundary begins length hs ≡ None → AllByRecursion (IsEntry begins length) hs
+good_table : (begins : ℕ → Bool) (length : ℕ) (hs : List Handler) → first_bad_boundary begins length hs ≡ None
+    → AllByRecursion (IsEntry begins length) hs
 good_table begins length [] e = tt
 good_table begins length (h ∷ hs) e =
     let p = neither (bad_boundary begins length h) (first_bad_boundary begins length hs) e in
@@ -32,7 +33,8 @@ good_table begins length (h ∷ hs) e =
 entry_passes : (begins : ℕ → Bool) (length : ℕ) (h : Handler) → IsEntry begins length h → bad_boundary begins length h ≡ None
 entry_passes begins length h g = rw (g.start, g.end, g.handler) refl
 
-table_passes : (begins : ℕ → Bool) (length : ℕ) (hs : List Handler) → AllByRecursion (IsEntry begins length) hs → first_bad_boundary begins length hs ≡ None
+table_passes : (begins : ℕ → Bool) (length : ℕ) (hs : List Handler) → AllByRecursion (IsEntry begins length) hs
+    → first_bad_boundary begins length hs ≡ None
 table_passes begins length [] g = refl
 table_passes begins length (h ∷ hs) g = rw (entry_passes begins length h g.0, table_passes begins length hs g.1) refl
 
@@ -40,12 +42,15 @@ no_fault : (o : Option ℕ) (x : Unit {0}) → boundary_fault o ≡ Ok x → o �
 no_fault None x e = refl
 no_fault (Some place) x e = absurd cc
 
-pub is_good : (begins : ℕ → Bool) (length : ℕ) (hs : List Handler) (r : Result (Unit {0}) CodeFault) → Gives (λ x. x) r (boundary_fault (first_bad_boundary begins length hs)) → OnOk r (AllByRecursion (IsEntry begins length) hs)
+pub is_good : (begins : ℕ → Bool) (length : ℕ) (hs : List Handler) (r : Result (Unit {0}) CodeFault)
+    → Gives (λ x. x) r (boundary_fault (first_bad_boundary begins length hs)) → OnOk r (AllByRecursion (IsEntry begins length) hs)
 is_good begins length hs (Ok x) given = good_table begins length hs (no_fault (first_bad_boundary begins length hs) x given)
 is_good begins length hs (Err e) given = tt
 
-pub passes_good : (begins : ℕ → Bool) (length : ℕ) (hs : List Handler) → AllByRecursion (IsEntry begins length) hs → boundary_fault (first_bad_boundary begins length hs) ≡ Ok tt
+pub passes_good : (begins : ℕ → Bool) (length : ℕ) (hs : List Handler) → AllByRecursion (IsEntry begins length) hs
+    → boundary_fault (first_bad_boundary begins length hs) ≡ Ok tt
 passes_good begins length hs g = ap boundary_fault (table_passes begins length hs g)
 
-pub without_fault : (begins : ℕ → Bool) (length : ℕ) (hs : List Handler) → boundary_fault (first_bad_boundary begins length hs) ≡ Ok tt → AllByRecursion (IsEntry begins length) hs
+pub without_fault : (begins : ℕ → Bool) (length : ℕ) (hs : List Handler)
+    → boundary_fault (first_bad_boundary begins length hs) ≡ Ok tt → AllByRecursion (IsEntry begins length) hs
 without_fault begins length hs e = good_table begins length hs (no_fault (first_bad_boundary begins length hs) tt e)

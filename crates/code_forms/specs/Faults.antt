@@ -4,7 +4,8 @@ use Rattle.list_views.specs.FaultWords.{joined, number_field}
 use Rattle.list_views.specs.Results as results
 use Rattle.list_views.specs.Results.{IsDue}
 use Rattle.code_forms.specs.declared.fault.CodeFault.{CodeFault}
-use Rattle.code_forms.specs.declared.fault.CodeFault.TheVariants.{Truncated, UnsupportedOpcode, UnknownOpcode, BadSwitch, BadTarget, BadOperand, Memory}
+use Rattle.code_forms.specs.declared.fault.CodeFault.TheVariants.{Truncated, UnsupportedOpcode, UnknownOpcode, BadSwitch, BadTarget}
+use Rattle.code_forms.specs.declared.fault.CodeFault.TheVariants.{BadOperand, Memory}
 
 abbrev pub fault_name : CodeFault → List ℕ
 fault_name (Truncated pc) = codes "Truncated"

@@ -1,7 +1,19 @@
 -- Which instructions there are, by their operands; the opcodes are those of the table (JVM specification, chapter 7).
 use Rattle.std.specs.Prelude.{ℕ, List, [], ◌∷◌, Option, Some, None, ◌==◌, if◌then◌else◌}
 use Rattle.code_forms.specs.declared.insn.Insn.{Insn}
-use Rattle.code_forms.specs.declared.insn.Insn.TheVariants.{Aaload, Aastore, AconstNull, Aload, Aload0, Aload1, Aload2, Aload3, Anewarray, Areturn, Arraylength, Astore, Astore0, Astore1, Astore2, Astore3, Athrow, Baload, Bastore, Caload, Castore, Checkcast, Dup, Dup2, Dup2X1, Dup2X2, DupX1, DupX2, Getfield, Getstatic, Goto, I2b, I2c, I2s, Iadd, Iaload, Iand, Iastore, Iconst0, Iconst1, Iconst2, Iconst3, Iconst4, Iconst5, IconstM1, Idiv, IfAcmpeq, IfAcmpne, IfIcmpeq, IfIcmpge, IfIcmpgt, IfIcmple, IfIcmplt, IfIcmpne, Ifeq, Ifge, Ifgt, Ifle, Iflt, Ifne, Ifnonnull, Ifnull, Iload, Iload0, Iload1, Iload2, Iload3, Imul, Ineg, Instanceof, Invokespecial, Invokestatic, Invokevirtual, Ior, Irem, Ireturn, Ishl, Ishr, Istore, Istore0, Istore1, Istore2, Istore3, Isub, Iushr, Ixor, Ldc, LdcW, New, Nop, Pop, Pop2, Putfield, Putstatic, Return, Saload, Sastore, Swap, WideAload, WideAstore, WideIload, WideIstore}
+use Rattle.code_forms.specs.declared.insn.Insn.TheVariants.{Aaload, Aastore, AconstNull, Aload, Aload0, Aload1, Aload2, Aload3}
+use Rattle.code_forms.specs.declared.insn.Insn.TheVariants.{Anewarray, Areturn, Arraylength, Astore, Astore0, Astore1, Astore2}
+use Rattle.code_forms.specs.declared.insn.Insn.TheVariants.{Astore3, Athrow, Baload, Bastore, Caload, Castore, Checkcast, Dup, Dup2}
+use Rattle.code_forms.specs.declared.insn.Insn.TheVariants.{Dup2X1, Dup2X2, DupX1, DupX2, Getfield, Getstatic, Goto, I2b, I2c, I2s}
+use Rattle.code_forms.specs.declared.insn.Insn.TheVariants.{Iadd, Iaload, Iand, Iastore, Iconst0, Iconst1, Iconst2, Iconst3}
+use Rattle.code_forms.specs.declared.insn.Insn.TheVariants.{Iconst4, Iconst5, IconstM1, Idiv, IfAcmpeq, IfAcmpne, IfIcmpeq}
+use Rattle.code_forms.specs.declared.insn.Insn.TheVariants.{IfIcmpge, IfIcmpgt, IfIcmple, IfIcmplt, IfIcmpne, Ifeq, Ifge, Ifgt}
+use Rattle.code_forms.specs.declared.insn.Insn.TheVariants.{Ifle, Iflt, Ifne, Ifnonnull, Ifnull, Iload, Iload0, Iload1, Iload2}
+use Rattle.code_forms.specs.declared.insn.Insn.TheVariants.{Iload3, Imul, Ineg, Instanceof, Invokespecial, Invokestatic}
+use Rattle.code_forms.specs.declared.insn.Insn.TheVariants.{Invokevirtual, Ior, Irem, Ireturn, Ishl, Ishr, Istore, Istore0, Istore1}
+use Rattle.code_forms.specs.declared.insn.Insn.TheVariants.{Istore2, Istore3, Isub, Iushr, Ixor, Ldc, LdcW, New, Nop, Pop, Pop2}
+use Rattle.code_forms.specs.declared.insn.Insn.TheVariants.{Putfield, Putstatic, Return, Saload, Sastore, Swap, WideAload}
+use Rattle.code_forms.specs.declared.insn.Insn.TheVariants.{WideAstore, WideIload, WideIstore}
 use Rattle.code_forms.specs.Spellings as spellings
 use Rattle.code_forms.specs.Spellings.{Spelling, spelling}
 

@@ -3,7 +3,20 @@
 use Rattle.std.specs.Prelude.{ℕ, ℤ, List}
 use Rattle.code_forms.specs.declared.insn.Case.{Case}
 use Rattle.code_forms.specs.declared.insn.Insn.{Insn}
-use Rattle.code_forms.specs.declared.insn.Insn.TheVariants.{Aaload, Aastore, AconstNull, Aload, Aload0, Aload1, Aload2, Aload3, Anewarray, Areturn, Arraylength, Astore, Astore0, Astore1, Astore2, Astore3, Athrow, Baload, Bastore, Bipush, Caload, Castore, Checkcast, Dup, Dup2, Dup2X1, Dup2X2, DupX1, DupX2, Getfield, Getstatic, Goto, GotoW, I2b, I2c, I2s, Iadd, Iaload, Iand, Iastore, Iconst0, Iconst1, Iconst2, Iconst3, Iconst4, Iconst5, IconstM1, Idiv, IfAcmpeq, IfAcmpne, IfIcmpeq, IfIcmpge, IfIcmpgt, IfIcmple, IfIcmplt, IfIcmpne, Ifeq, Ifge, Ifgt, Ifle, Iflt, Ifne, Ifnonnull, Ifnull, Iinc, Iload, Iload0, Iload1, Iload2, Iload3, Imul, Ineg, Instanceof, Invokeinterface, Invokespecial, Invokestatic, Invokevirtual, Ior, Irem, Ireturn, Ishl, Ishr, Istore, Istore0, Istore1, Istore2, Istore3, Isub, Iushr, Ixor, Ldc, LdcW, Lookupswitch, New, Newarray, Nop, Pop, Pop2, Putfield, Putstatic, Return, Saload, Sastore, Sipush, Swap, Tableswitch, WideAload, WideAstore, WideIinc, WideIload, WideIstore}
+use Rattle.code_forms.specs.declared.insn.Insn.TheVariants.{Aaload, Aastore, AconstNull, Aload, Aload0, Aload1, Aload2, Aload3}
+use Rattle.code_forms.specs.declared.insn.Insn.TheVariants.{Anewarray, Areturn, Arraylength, Astore, Astore0, Astore1, Astore2}
+use Rattle.code_forms.specs.declared.insn.Insn.TheVariants.{Astore3, Athrow, Baload, Bastore, Bipush, Caload, Castore, Checkcast}
+use Rattle.code_forms.specs.declared.insn.Insn.TheVariants.{Dup, Dup2, Dup2X1, Dup2X2, DupX1, DupX2, Getfield, Getstatic, Goto}
+use Rattle.code_forms.specs.declared.insn.Insn.TheVariants.{GotoW, I2b, I2c, I2s, Iadd, Iaload, Iand, Iastore, Iconst0, Iconst1}
+use Rattle.code_forms.specs.declared.insn.Insn.TheVariants.{Iconst2, Iconst3, Iconst4, Iconst5, IconstM1, Idiv, IfAcmpeq, IfAcmpne}
+use Rattle.code_forms.specs.declared.insn.Insn.TheVariants.{IfIcmpeq, IfIcmpge, IfIcmpgt, IfIcmple, IfIcmplt, IfIcmpne, Ifeq, Ifge}
+use Rattle.code_forms.specs.declared.insn.Insn.TheVariants.{Ifgt, Ifle, Iflt, Ifne, Ifnonnull, Ifnull, Iinc, Iload, Iload0, Iload1}
+use Rattle.code_forms.specs.declared.insn.Insn.TheVariants.{Iload2, Iload3, Imul, Ineg, Instanceof, Invokeinterface, Invokespecial}
+use Rattle.code_forms.specs.declared.insn.Insn.TheVariants.{Invokestatic, Invokevirtual, Ior, Irem, Ireturn, Ishl, Ishr, Istore}
+use Rattle.code_forms.specs.declared.insn.Insn.TheVariants.{Istore0, Istore1, Istore2, Istore3, Isub, Iushr, Ixor, Ldc, LdcW}
+use Rattle.code_forms.specs.declared.insn.Insn.TheVariants.{Lookupswitch, New, Newarray, Nop, Pop, Pop2, Putfield, Putstatic}
+use Rattle.code_forms.specs.declared.insn.Insn.TheVariants.{Return, Saload, Sastore, Sipush, Swap, Tableswitch, WideAload}
+use Rattle.code_forms.specs.declared.insn.Insn.TheVariants.{WideAstore, WideIinc, WideIload, WideIstore}
 
 -- What an instruction is in a code. The first number is the opcode wherever instructions of more than one opcode have
 -- the form.

@@ -1,7 +1,8 @@
 -- Exception tables.
 -- JVM specification, section 4.7.3 (exception_table): start, end and handler are places of instructions; the end is not
 -- part of the range, and may be the length of the code.
-use Rattle.std.specs.Prelude.{ℕ, List, [], ◌∷◌, Option, Some, None, Result, Ok, Err, Bool, not, ◌&&◌, ◌||◌, ◌==◌, nat_lt, if◌then◌else◌, IsTrue}
+use Rattle.std.specs.Prelude.{ℕ, List, [], ◌∷◌, Option, Some, None, Result, Ok, Err, Bool, not, ◌&&◌, ◌||◌, ◌==◌, nat_lt}
+use Rattle.std.specs.Prelude.{if◌then◌else◌, IsTrue}
 use Rattle.code_forms.specs.declared.fault.CodeFault.{CodeFault}
 use Rattle.code_forms.specs.declared.fault.CodeFault.TheVariants.{BadTarget}
 use Rattle.class_base.specs.declared.handler.Handler.{Handler}

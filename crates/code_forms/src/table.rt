@@ -86,6 +86,8 @@ pub fn check_table(
 
 /// A table has no bad boundary exactly where each entry is one of the code: a law, a function without a body.
 pub fn table_is_good()
-    ensures found { (begins : ℕ → Bool) (length : ℕ) (table : List Handler) → boundary_fault (first_bad_boundary begins length table) ≡ Ok tt → AllByRecursion (IsEntry begins length) table }
-    ensures only { (begins : ℕ → Bool) (length : ℕ) (table : List Handler) → AllByRecursion (IsEntry begins length) table → boundary_fault (first_bad_boundary begins length table) ≡ Ok tt }
+    ensures found { (begins : ℕ → Bool) (length : ℕ) (table : List Handler)
+        → boundary_fault (first_bad_boundary begins length table) ≡ Ok tt → AllByRecursion (IsEntry begins length) table }
+    ensures only { (begins : ℕ → Bool) (length : ℕ) (table : List Handler) → AllByRecursion (IsEntry begins length) table
+        → boundary_fault (first_bad_boundary begins length table) ≡ Ok tt }
 {}

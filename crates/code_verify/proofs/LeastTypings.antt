@@ -1,5 +1,6 @@
 -- Where a method has a typing it has a least one: types that come are joined, place by place, until nothing more grows.
-use Rattle.std.proofs.Common.{◌≡◌, ℕ, zero, suc, ◌+◌, ◌<◌, ◌≤◌, ◌||◌, Bool, true, false, cond, List, [], ◌∷◌, length, map, Option, Some, None, ◌⊎◌, inl, inr, refl, sym, ap, subst, ◌∙◌, arith, eq-eqb}
+use Rattle.std.proofs.Common.{◌≡◌, ℕ, zero, suc, ◌+◌, ◌<◌, ◌≤◌, ◌||◌, Bool, true, false, cond, List, [], ◌∷◌, length, map, Option}
+use Rattle.std.proofs.Common.{Some, None, ◌⊎◌, inl, inr, refl, sym, ap, subst, ◌∙◌, arith, eq-eqb}
 use Rattle.std.specs.Prelude.{All, IsTrue, nat_eq}
 use Rattle.std.specs.Option.{is_some}
 use Rattle.std.proofs.lemmas.Bool.{false≢true, eqb-true, cases_lt, or_right, cases_eq, cases_Bool}
@@ -63,11 +64,13 @@ abbrev place_bound : List (ℕ × Op) → ℕ
 place_bound [] = 0
 place_bound (x ∷ rest) = (x.0 + 1) + place_bound rest
 
-below_bound : (insns : List (ℕ × Op)) (place : ℕ) (found : Op × Option ℕ) → instruction_at insns place ≡ Some found → place < place_bound insns
+below_bound : (insns : List (ℕ × Op)) (place : ℕ) (found : Op × Option ℕ) → instruction_at insns place ≡ Some found
+    → place < place_bound insns
 below_bound [] place found e = absurd (none-some found e)
 below_bound (x ∷ rest) place found e = elim (cases_Bool (nat_eq x.0 place)) [
   | inl t ↦ at_first x.0 place (place_bound rest) (eqb-true x.0 place t)
-  | inr f ↦ at_later x.0 place (place_bound rest) (below_bound rest place found (sym (ap (λ (b : Bool). cond b (Some (x.1, first_place rest)) (instruction_at rest place)) f) ∙ e))
+  | inr f ↦ at_later x.0 place (place_bound rest)
+      (below_bound rest place found (sym (ap (λ (b : Bool). cond b (Some (x.1, first_place rest)) (instruction_at rest place)) f) ∙ e))
 ]
 
 -- the same types, but for one place
@@ -88,14 +91,16 @@ put_other typing to frame place h = elim (cases_Bool (nat_eq place to)) [
 
 -- ---- where flows lead
 
-led_each : (m : Method) (flows : List Flow) → ((to : ℕ) → IsTrue (is_led_to flows to) → IsReachable m to) → All (λ (flow : Flow). IsReachable m flow.to) flows
+led_each : (m : Method) (flows : List Flow) → ((to : ℕ) → IsTrue (is_led_to flows to) → IsReachable m to)
+    → All (λ (flow : Flow). IsReachable m flow.to) flows
 led_each m [] h = All-nil (λ (flow : Flow). IsReachable m flow.to)
 led_each m (flow ∷ flows) h =
     All-cons (λ (x : Flow). IsReachable m x.to) flow flows
     (h flow.to (ap (λ (b : Bool). b || is_led_to flows flow.to) (nat_eq_itself flow.to)))
     (led_each m flows (λ to k. h to (or_right (nat_eq to flow.to) (is_led_to flows to) k)))
 
-module _ (p : Program) (m : Method) (good : IsGood p) (g : IsGoodMethod p m) (laws : AreLawful (types_of p.world)) (bound : CodeTypes) (bounded : IsTyping p m bound) where
+module _ (p : Program) (m : Method) (good : IsGood p) (g : IsGoodMethod p m) (laws : AreLawful (types_of p.world))
+    (bound : CodeTypes) (bounded : IsTyping p m bound) where
   -- types that are at most those of each typing
   record IsPart (typing : CodeTypes) : Type 0 where
     entry : Takes (types_of p.world) typing (entry_flow (types_of p.world) m)
@@ -130,7 +135,11 @@ module _ (p : Program) (m : Method) (good : IsGood p) (g : IsGoodMethod p m) (la
 
   module _ (typing : CodeTypes) (part : IsPart typing) (flow : Flow) (coming : IsComing flow) where
     -- the types with that place's made wider
-    module _ (frame : PlaceTypes) (proper : IsProper (types_of p.world) m.max_locals frame) (least : (other : CodeTypes) → IsTyping p m other → Takes (types_of p.world) other (record { to = flow.to; frame = frame })) (wide : (before : PlaceTypes) → typing flow.to ≡ Some before → IsFrameWithin (types_of p.world) before frame) (less : way_up (types_of p.world) m.max_locals m.max_stack (Some frame) < way_up (types_of p.world) m.max_locals m.max_stack (typing flow.to)) where
+    module _ (frame : PlaceTypes) (proper : IsProper (types_of p.world) m.max_locals frame) (least : (other : CodeTypes)
+        → IsTyping p m other → Takes (types_of p.world) other (record { to = flow.to; frame = frame }))
+        (wide : (before : PlaceTypes) → typing flow.to ≡ Some before → IsFrameWithin (types_of p.world) before frame)
+        (less : way_up (types_of p.world) m.max_locals m.max_stack (Some frame) < way_up (types_of p.world) m.max_locals m.max_stack
+        (typing flow.to)) where
       abbrev later : CodeTypes
       later = put typing flow.to frame
 
@@ -143,19 +152,27 @@ module _ (p : Program) (m : Method) (good : IsGood p) (g : IsGoodMethod p m) (la
       depth : length frame.stack ≤ m.max_stack
       depth =
           let t = least bound bounded in
-          depth_of (length frame.stack) (length t.there.stack) m.max_stack (length_all_zip (IsWithin (types_of p.world)) frame.stack t.there.stack t.wide.stack) (bounded.each flow.to t.there t.is_there).limits.depth
+          depth_of (length frame.stack) (length t.there.stack) m.max_stack
+          (length_all_zip (IsWithin (types_of p.world)) frame.stack t.there.stack t.wide.stack)
+          (bounded.each flow.to t.there t.is_there).limits.depth
 
       later_more : IsAtMost (types_of p.world) typing later
       later_more place found e = elim (cases_eq place flow.to) [
         | inl s ↦ record { there = frame; is_there = put_there typing flow.to frame place s; wide = wide found (ap typing (sym s) ∙ e) }
-        | inr s ↦ record { there = found; is_there = put_other typing flow.to frame place s ∙ e; wide = frame_refl (types_of p.world) laws m.max_locals found (part.frames place found e).proper }
+        | inr s ↦ record {
+          there = found;
+          is_there = put_other typing flow.to frame place s
+              ∙ e;
+          wide = frame_refl (types_of p.world) laws m.max_locals found (part.frames place found e).proper;
+        }
       ]
 
       later_part : IsPart later
       later_part = record {
         entry = takes_more (types_of p.world) laws typing later later_more (entry_flow (types_of p.world) m) part.entry;
         frames = λ place found e. elim (cases_eq place flow.to) [
-          | inl s ↦ subst (IsFrame (types_of p.world) m.max_locals m.max_stack) (sym (later_is place found e s)) (record { proper = proper; depth = depth })
+          | inl s ↦ subst (IsFrame (types_of p.world) m.max_locals m.max_stack) (sym (later_is place found e s))
+              (record { proper = proper; depth = depth })
           | inr s ↦ part.frames place found (was place found e s)
         ];
         below = λ other t place found e. elim (cases_eq place flow.to) [
@@ -179,7 +196,8 @@ module _ (p : Program) (m : Method) (good : IsGood p) (g : IsGoodMethod p m) (la
 
       later_up : (place : ℕ) → up (later place) ≤ up (typing place)
       later_up place = elim (cases_eq place flow.to) [
-        | inl s ↦ under (up (later place)) (up (Some frame)) (up (typing flow.to)) (up (typing place)) (ap up (put_there typing flow.to frame place s)) less (ap (λ (k : ℕ). up (typing k)) s)
+        | inl s ↦ under (up (later place)) (up (Some frame)) (up (typing flow.to)) (up (typing place))
+            (ap up (put_there typing flow.to frame place s)) less (ap (λ (k : ℕ). up (typing k)) s)
         | inr s ↦ same_up (up (typing place)) (up (later place)) (sym (ap up (put_other typing flow.to frame place s)))
       ]
 
@@ -187,7 +205,8 @@ module _ (p : Program) (m : Method) (good : IsGood p) (g : IsGoodMethod p m) (la
       better =
           let t = least bound bounded in
           let l = place_below flow.to t.there t.is_there in
-          let down = fall (up (later flow.to)) (up (Some frame)) (up (typing flow.to)) (ap up (put_there typing flow.to frame flow.to refl)) less in
+          let down = fall (up (later flow.to)) (up (Some frame)) (up (typing flow.to))
+          (ap up (put_there typing flow.to frame flow.to refl)) less in
           (later, (later_part, sum_less limit (λ place. up (later place)) (λ place. up (typing place)) flow.to l later_up down))
 
     -- where nothing was at the place
@@ -197,13 +216,18 @@ module _ (p : Program) (m : Method) (good : IsGood p) (g : IsGoodMethod p m) (la
         let frame : IsFrame (types_of p.world) m.max_locals m.max_stack flow.frame =
         record {
           proper = coming.proper;
-          depth = depth_of (length flow.frame.stack) (length t.there.stack) m.max_stack (length_all_zip (IsWithin (types_of p.world)) flow.frame.stack t.there.stack t.wide.stack) (bounded.each flow.to t.there t.is_there).limits.depth;
+          depth = depth_of (length flow.frame.stack) (length t.there.stack) m.max_stack
+              (length_all_zip (IsWithin (types_of p.world)) flow.frame.stack t.there.stack t.wide.stack)
+              (bounded.each flow.to t.there t.is_there).limits.depth;
         }
         in
         better flow.frame coming.proper coming.taken (λ before is. absurd (none-some before (sym e ∙ is)))
-        (elim (way_down (types_of p.world) laws m.max_locals m.max_stack None (Some flow.frame) (λ found is. subst (IsFrame (types_of p.world) m.max_locals m.max_stack) (some_is is) frame) (λ found is. absurd (none-some found is))) [
+        (elim (way_down (types_of p.world) laws m.max_locals m.max_stack None (Some flow.frame)
+        (λ found is. subst (IsFrame (types_of p.world) m.max_locals m.max_stack) (some_is is) frame)
+        (λ found is. absurd (none-some found is))) [
           | inl same ↦ absurd (none-some flow.frame same)
-          | inr l ↦ subst (λ (x : Option PlaceTypes). way_up (types_of p.world) m.max_locals m.max_stack (Some flow.frame) < way_up (types_of p.world) m.max_locals m.max_stack x) (sym e) l
+          | inr l ↦ subst (λ (x : Option PlaceTypes). way_up (types_of p.world) m.max_locals m.max_stack (Some flow.frame) < way_up
+              (types_of p.world) m.max_locals m.max_stack x) (sym e) l
         ])
 
     -- where something was there, it takes the flow or is made wider
@@ -217,7 +241,9 @@ module _ (p : Program) (m : Method) (good : IsGood p) (g : IsGoodMethod p m) (la
       widened : Takes (types_of p.world) typing flow ⊎ Better typing
       widened =
           let k = coming.taken bound bounded in
-          let join = frame_join (types_of p.world) laws m.max_locals before flow.frame k.there (part.frames flow.to before is).proper coming.proper (bounded.each flow.to k.there k.is_there).limits.proper (within_there bound bounded) k.wide in
+          let join = frame_join (types_of p.world) laws m.max_locals before flow.frame k.there
+          (part.frames flow.to before is).proper coming.proper (bounded.each flow.to k.there k.is_there).limits.proper
+          (within_there bound bounded) k.wide in
           let least : (other : CodeTypes) → IsTyping p m other → Takes (types_of p.world) other (record { to = flow.to; frame = join.0 }) =
           λ other t.
           let o = coming.taken other t in
@@ -227,14 +253,28 @@ module _ (p : Program) (m : Method) (good : IsGood p) (g : IsGoodMethod p m) (la
             wide = join.1.least o.there (t.each flow.to o.there o.is_there).limits.proper (within_there other t) o.wide;
           }
           in
-          let deep = depth_of (length join.0.stack) (length before.stack) m.max_stack (sym (length_all_zip (IsWithin (types_of p.world)) before.stack join.0.stack join.1.left.stack)) (part.frames flow.to before is).depth in
+          let deep = depth_of (length join.0.stack) (length before.stack) m.max_stack
+          (sym (length_all_zip (IsWithin (types_of p.world)) before.stack join.0.stack join.1.left.stack))
+          (part.frames flow.to before is).depth in
           elim (way_down (types_of p.world) laws m.max_locals m.max_stack (Some before) (Some join.0)
-          (λ found e. subst (IsFrame (types_of p.world) m.max_locals m.max_stack) (some_is e) (record { proper = join.1.proper; depth = deep }))
-          (λ found e. record { there = join.0; is_there = refl; wide = subst (λ (x : PlaceTypes). IsFrameWithin (types_of p.world) x join.0) (some_is e) join.1.left })) [
-            | inl same ↦ inl (record { there = before; is_there = is; wide = subst (IsFrameWithin (types_of p.world) flow.frame) (sym (some_is same)) join.1.right })
+          (λ found e. subst (IsFrame (types_of p.world) m.max_locals m.max_stack) (some_is e)
+          (record { proper = join.1.proper; depth = deep }))
+          (λ found e. record {
+            there = join.0;
+            is_there = refl;
+            wide = subst
+                (λ (x : PlaceTypes). IsFrameWithin (types_of p.world) x join.0) (some_is e) join.1.left;
+          })) [
+            | inl same ↦ inl (record {
+              there = before;
+              is_there = is;
+              wide = subst (IsFrameWithin (types_of p.world) flow.frame)
+                  (sym (some_is same)) join.1.right;
+            })
             | inr l ↦ inr (better join.0 join.1.proper least
                 (λ found e. subst (λ (x : PlaceTypes). IsFrameWithin (types_of p.world) x join.0) (some_is (sym is ∙ e)) join.1.left)
-                (subst (λ (x : Option PlaceTypes). way_up (types_of p.world) m.max_locals m.max_stack (Some join.0) < way_up (types_of p.world) m.max_locals m.max_stack x) (sym is) l))
+                (subst (λ (x : Option PlaceTypes). way_up (types_of p.world) m.max_locals m.max_stack (Some join.0) < way_up
+                (types_of p.world) m.max_locals m.max_stack x) (sym is) l))
           ]
 
     come_by : (found : Option PlaceTypes) → typing flow.to ≡ found → Takes (types_of p.world) typing flow ⊎ Better typing
@@ -244,7 +284,8 @@ module _ (p : Program) (m : Method) (good : IsGood p) (g : IsGoodMethod p m) (la
     come : Takes (types_of p.world) typing flow ⊎ Better typing
     come = come_by (typing flow.to) refl
 
-  come_all : (typing : CodeTypes) → IsPart typing → (flows : List Flow) → All IsComing flows → All (Takes (types_of p.world) typing) flows ⊎ Better typing
+  come_all : (typing : CodeTypes) → IsPart typing → (flows : List Flow) → All IsComing flows
+      → All (Takes (types_of p.world) typing) flows ⊎ Better typing
   come_all typing part [] h = inl (All-nil (Takes (types_of p.world) typing))
   come_all typing part (flow ∷ flows) h = elim (come typing part flow (All-head IsComing flow flows h)) [
     | inl t ↦ elim (come_all typing part flows (All-tail IsComing flow flows h)) [
@@ -258,11 +299,13 @@ module _ (p : Program) (m : Method) (good : IsGood p) (g : IsGoodMethod p m) (la
 
   module _ (typing : CodeTypes) (part : IsPart typing) (place : ℕ) (frame : PlaceTypes) (is : typing place ≡ Some frame) where
     -- what the place leads to is taken by each typing
-    led : (other : CodeTypes) → IsTyping p m other → (flows : List Flow) × ((flows_from p m place frame ≡ Some flows) × All (Takes (types_of p.world) other) flows)
+    led : (other : CodeTypes) → IsTyping p m other
+        → (flows : List Flow) × ((flows_from p m place frame ≡ Some flows) × All (Takes (types_of p.world) other) flows)
     led other t =
         let b = part.below other t place frame is in
         let ty = t.each place b.there b.is_there in
-        let w = flows_within p m good g laws place m.max_locals frame b.there ty.flows t.catches (part.frames place frame is).proper b.wide ty.runs in
+        let w = flows_within p m good g laws place m.max_locals frame b.there ty.flows t.catches (part.frames place frame is).proper
+        b.wide ty.runs in
         (w.0, (w.1.0, takes_flows p m good g laws other w.0 ty.flows w.1.1 ty.taken))
 
     abbrev flows : List Flow
@@ -276,24 +319,34 @@ module _ (p : Program) (m : Method) (good : IsGood p) (g : IsGoodMethod p m) (la
         let l = led other t in
         subst (All (Takes (types_of p.world) other)) (some_is (sym l.1.0 ∙ runs)) l.1.1
 
-    all_onward : (after : PlaceTypes) (tos : List ℕ) → IsProper (types_of p.world) m.max_locals after → All (λ (flow : Flow). IsProper (types_of p.world) m.max_locals flow.frame) (onward after tos)
+    all_onward : (after : PlaceTypes) (tos : List ℕ) → IsProper (types_of p.world) m.max_locals after
+        → All (λ (flow : Flow). IsProper (types_of p.world) m.max_locals flow.frame) (onward after tos)
     all_onward after [] h = All-nil (λ (flow : Flow). IsProper (types_of p.world) m.max_locals flow.frame)
-    all_onward after (to ∷ tos) h = All-cons (λ (flow : Flow). IsProper (types_of p.world) m.max_locals flow.frame) (record { to = to; frame = after }) (onward after tos) h (all_onward after tos h)
+    all_onward after (to ∷ tos) h = All-cons (λ (flow : Flow). IsProper (types_of p.world) m.max_locals flow.frame)
+        (record { to = to; frame = after }) (onward after tos) h (all_onward after tos h)
 
-    alone_proper : (range : CatchRange) → CanCatch p.world range → IsProper (types_of p.world) m.max_locals (caught_frame p.world frame range)
+    alone_proper : (range : CatchRange) → CanCatch p.world range
+        → IsProper (types_of p.world) m.max_locals (caught_frame p.world frame range)
     alone_proper range h =
         let f = (part.frames place frame is).proper in
         record {
           count = f.count;
-          set = All-cons IsSet (places.Ref (erase p.world (caught_class range))) [] (λ (e : places.Ref (erase p.world (caught_class range)) ≡ places.Unset). cc) (All-nil IsSet);
+          set = All-cons IsSet (places.Ref (erase p.world (caught_class range))) []
+              (λ (e : places.Ref (erase p.world (caught_class range)) ≡ places.Unset). cc) (All-nil IsSet);
           locals = f.locals;
-          stack = All-cons (IsOfWorld (types_of p.world)) (places.Ref (erase p.world (caught_class range))) [] (caught_of_world p m good g laws range h) (All-nil (IsOfWorld (types_of p.world)));
+          stack = All-cons (IsOfWorld (types_of p.world)) (places.Ref (erase p.world (caught_class range))) []
+              (caught_of_world p m good g laws range h) (All-nil (IsOfWorld (types_of p.world)));
         }
 
-    all_caught : (ranges : List CatchRange) → All (CanCatch p.world) ranges → All (λ (flow : Flow). IsProper (types_of p.world) m.max_locals flow.frame) (map (λ (range : CatchRange). record { to = range.handler; frame = caught_frame p.world frame range }) ranges)
+    all_caught : (ranges : List CatchRange) → All (CanCatch p.world) ranges
+        → All (λ (flow : Flow). IsProper (types_of p.world) m.max_locals flow.frame)
+        (map (λ (range : CatchRange). record { to = range.handler; frame = caught_frame p.world frame range }) ranges)
     all_caught [] h = All-nil (λ (flow : Flow). IsProper (types_of p.world) m.max_locals flow.frame)
     all_caught (range ∷ ranges) h =
-        All-cons (λ (flow : Flow). IsProper (types_of p.world) m.max_locals flow.frame) (record { to = range.handler; frame = caught_frame p.world frame range }) (map (λ (x : CatchRange). record { to = x.handler; frame = caught_frame p.world frame x }) ranges) (alone_proper range (All-head (CanCatch p.world) range ranges h))
+        All-cons (λ (flow : Flow). IsProper (types_of p.world) m.max_locals flow.frame)
+        (record { to = range.handler; frame = caught_frame p.world frame range })
+        (map (λ (x : CatchRange). record { to = x.handler; frame = caught_frame p.world frame x }) ranges)
+        (alone_proper range (All-head (CanCatch p.world) range ranges h))
         (all_caught ranges (All-tail (CanCatch p.world) range ranges h))
 
     all_proper : All (λ (flow : Flow). IsProper (types_of p.world) m.max_locals flow.frame) flows
@@ -301,7 +354,8 @@ module _ (p : Program) (m : Method) (good : IsGood p) (g : IsGoodMethod p m) (la
         let f = flows_ran p m place frame flows runs in
         let after = run_proper p m good g laws place m.max_locals frame f.0 (part.frames place frame is).proper f.1.0 in
         subst (All (λ (flow : Flow). IsProper (types_of p.world) m.max_locals flow.frame)) (sym f.1.1)
-        (All-append (λ (flow : Flow). IsProper (types_of p.world) m.max_locals flow.frame) (onward f.0.2 (ways f.0.0 f.0.1)) (caught p.world place frame m.table)
+        (All-append (λ (flow : Flow). IsProper (types_of p.world) m.max_locals flow.frame) (onward f.0.2 (ways f.0.0 f.0.1))
+        (caught p.world place frame m.table)
         (all_onward f.0.2 (ways f.0.0 f.0.1) after)
         (all_caught _ (All-filter (covers place) (CanCatch p.world) m.table bounded.catches)))
 
@@ -326,7 +380,8 @@ module _ (p : Program) (m : Method) (good : IsGood p) (g : IsGoodMethod p m) (la
   abbrev IsClosed : CodeTypes → ℕ → Type 0
   IsClosed typing place = (frame : PlaceTypes) → typing place ≡ Some frame → IsClosedAt p m typing place frame
 
-  closed_by : (typing : CodeTypes) → IsPart typing → (place : ℕ) → (found : Option PlaceTypes) → typing place ≡ found → IsClosed typing place ⊎ Better typing
+  closed_by : (typing : CodeTypes) → IsPart typing → (place : ℕ) → (found : Option PlaceTypes) → typing place ≡ found
+      → IsClosed typing place ⊎ Better typing
   closed_by typing part place None e = inl (λ frame is. absurd (none-some frame (sym e ∙ is)))
   closed_by typing part place (Some frame) e = elim (closed typing part place frame e) [
     | inl c ↦ inl (λ found is. subst (IsClosedAt p m typing place) (some_is (sym e ∙ is)) c)
@@ -390,7 +445,8 @@ module _ (p : Program) (m : Method) (good : IsGood p) (g : IsGoodMethod p m) (la
 
   first_frame : IsFrame (types_of p.world) m.max_locals m.max_stack (entry_frame (types_of p.world) m)
   first_frame = record {
-    proper = entry_proper p m good g laws (elim (cases_lt m.max_locals (length m.params)) [ inl l ↦ absurd (too_many p m good g laws l (bound, bounded)) | inr l ↦ l ]);
+    proper = entry_proper p m good g laws
+        (elim (cases_lt m.max_locals (length m.params)) [ inl l ↦ absurd (too_many p m good g laws l (bound, bounded)) | inr l ↦ l ]);
     depth = omega arith;
   }
 
@@ -416,7 +472,8 @@ module _ (p : Program) (m : Method) (good : IsGood p) (g : IsGoodMethod p m) (la
   least_exists = search_from (suc (way begun)) begun begun_part (self_less (way begun))
 
 -- two least typings are one
-pub least_is_one : (p : Program) (m : Method) (laws : AreLawful (types_of p.world)) (a b : CodeTypes) → IsLeastTyping p m a → IsLeastTyping p m b → (place : ℕ) → a place ≡ b place
+pub least_is_one : (p : Program) (m : Method) (laws : AreLawful (types_of p.world)) (a b : CodeTypes) → IsLeastTyping p m a
+    → IsLeastTyping p m b → (place : ℕ) → a place ≡ b place
 least_is_one p m laws a b s t place = by_types (a place) (b place) refl refl
   where
     by_types : (x y : Option PlaceTypes) → a place ≡ x → b place ≡ y → x ≡ y

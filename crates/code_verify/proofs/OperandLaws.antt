@@ -1,5 +1,6 @@
 -- What is asked of an operand is kept by what is narrower; and operands leave what is below them.
-use Rattle.std.proofs.Common.{◌≡◌, ℕ, zero, suc, ◌+◌, ◌<◌, ◌≤◌, Bool, true, false, cond, ltb, eqb, ◌&&◌, List, [], ◌∷◌, length, Option, Some, None, ◌⊎◌, inl, inr, refl, sym, ap, subst, ◌∙◌, arith}
+use Rattle.std.proofs.Common.{◌≡◌, ℕ, zero, suc, ◌+◌, ◌<◌, ◌≤◌, Bool, true, false, cond, ltb, eqb, ◌&&◌, List, [], ◌∷◌, length}
+use Rattle.std.proofs.Common.{Option, Some, None, ◌⊎◌, inl, inr, refl, sym, ap, subst, ◌∙◌, arith}
 use Rattle.std.specs.Prelude.{IsTrue, All}
 use Rattle.std.specs.List.{AllZip}
 use Rattle.std.specs.Option.{is_some, option_map}
@@ -24,7 +25,8 @@ use Rattle.op_forms.specs.declared.form.ItemKind.{ItemKind}
 use Rattle.frame_types.specs.Places.{IsWithin, IsOfWorld}
 use Rattle.code_verify.specs.declared.want.Want.{Want}
 use Rattle.code_verify.specs.declared.want.Want.TheVariants as wants
-use Rattle.code_verify.specs.Operands.{is_int, is_reference, is_below, is_array, is_base_for, is_numbers, is_references, fits, place_of, item_place}
+use Rattle.code_verify.specs.Operands.{is_int, is_reference, is_below, is_array, is_base_for, is_numbers, is_references, fits}
+use Rattle.code_verify.specs.Operands.{place_of, item_place}
 use Rattle.code_verify.specs.Rows.{taken}
 use Rattle.code_verify.proofs.TypeShapes.{items_below, numbers_below_same, dims_below, item_erased, erased_of_world, array_of_item}
 
@@ -85,7 +87,8 @@ module _ (types : WorldTypes) (laws : AreLawful types) where
   array_within places.Null (places.Ref t) o w h = refl
   array_within (places.Ref s) (places.Ref t) o w h = lt-ltb 0 s.dims (dims_below types laws s t o.0 w (ltb-true 0 t.dims h))
 
-  numbers_within : (for : ItemKind) (a b : PlaceType) → IsOfWorld types a → IsWithin types a b → is_numbers for b ≡ true → is_numbers for a ≡ true
+  numbers_within : (for : ItemKind) (a b : PlaceType) → IsOfWorld types a → IsWithin types a b → is_numbers for b ≡ true
+      → is_numbers for a ≡ true
   numbers_within for a places.Unset o w h = absurd (false≢true h)
   numbers_within for a places.Int o w h = absurd (false≢true h)
   numbers_within for places.Unset places.Null o w h = absurd w
@@ -120,7 +123,8 @@ module _ (types : WorldTypes) (laws : AreLawful types) where
   and_true a b p q = ap (λ (x : Bool). x && b) p ∙ q
 
   -- what is narrower is what is asked for too
-  pub fits_within : (want : Want) (a b : PlaceType) → IsOfWorld types a → IsWithin types a b → fits types want b ≡ true → fits types want a ≡ true
+  pub fits_within : (want : Want) (a b : PlaceType) → IsOfWorld types a → IsWithin types a b → fits types want b ≡ true
+      → fits types want a ≡ true
   fits_within wants.Int a b o w h = int_within a b w h
   fits_within wants.Reference a b o w h = reference_within a b w h
   fits_within (wants.Below t) a b o w h = below_within t a b w h
@@ -132,7 +136,8 @@ module _ (types : WorldTypes) (laws : AreLawful types) where
   fits_within wants.References a b o w h = references_within a b o w h
 
   -- the items of what is narrower are narrower
-  pub item_within : (a b j : PlaceType) → IsOfWorld types a → IsWithin types a b → item_place b ≡ Some j → (i : PlaceType) × ((item_place a ≡ Some i) × IsWithin types i j)
+  pub item_within : (a b j : PlaceType) → IsOfWorld types a → IsWithin types a b → item_place b ≡ Some j
+      → (i : PlaceType) × ((item_place a ≡ Some i) × IsWithin types i j)
   item_within a places.Unset j o w e = absurd (none-some j e)
   item_within a places.Int j o w e = absurd (none-some j e)
   item_within places.Unset places.Null j o w e = absurd w
@@ -143,12 +148,14 @@ module _ (types : WorldTypes) (laws : AreLawful types) where
   item_within places.Int (places.Ref t) j o w e = absurd w
   item_within places.Null (places.Ref t) j o w e = go (item_of t) refl e
     where
-      go : (x : Option Ty) → item_of t ≡ x → option_map places.Ref x ≡ Some j → (i : PlaceType) × ((Some places.Null ≡ Some i) × IsWithin types i j)
+      go : (x : Option Ty) → item_of t ≡ x → option_map places.Ref x ≡ Some j
+          → (i : PlaceType) × ((Some places.Null ≡ Some i) × IsWithin types i j)
       go None f g = absurd (none-some j g)
       go (Some y) f g = (places.Null, (refl, subst (IsWithin types places.Null) (some_is g) tt))
   item_within (places.Ref s) (places.Ref t) j o w e = go (item_of t) refl e
     where
-      go : (x : Option Ty) → item_of t ≡ x → option_map places.Ref x ≡ Some j → (i : PlaceType) × ((option_map places.Ref (item_of s) ≡ Some i) × IsWithin types i j)
+      go : (x : Option Ty) → item_of t ≡ x → option_map places.Ref x ≡ Some j
+          → (i : PlaceType) × ((option_map places.Ref (item_of s) ≡ Some i) × IsWithin types i j)
       go None f g = absurd (none-some j g)
       go (Some y) f g =
           let x = items_below types laws s t y o.0 w f in
@@ -162,7 +169,8 @@ module _ (types : WorldTypes) (laws : AreLawful types) where
     where
       go : (x : Option Ty) → item_of s ≡ x → option_map places.Ref x ≡ Some i → IsOfWorld types i
       go None f g = absurd (none-some i g)
-      go (Some y) f g = subst (IsOfWorld types) (some_is g) ((array_of_item types.classes s y o.0 f).1, item_erased types laws s y o.0 o.1 f)
+      go (Some y) f g = subst (IsOfWorld types) (some_is g)
+          ((array_of_item types.classes s y o.0 f).1, item_erased types laws s y o.0 o.1 f)
 
   pub slot_of_world : (slot : Slot) → IsSlot types.classes slot → IsOfWorld types (place_of types slot)
   slot_of_world (slots.Num kind) s = tt
@@ -170,7 +178,9 @@ module _ (types : WorldTypes) (laws : AreLawful types) where
 
   -- ---- operands
 
-  pub taken_within : (asks : List Want) (xs ys rest : List PlaceType) → All (IsOfWorld types) xs → AllZip (IsWithin types) xs ys → taken types asks ys ≡ Some rest → (below : List PlaceType) × ((taken types asks xs ≡ Some below) × AllZip (IsWithin types) below rest)
+  pub taken_within : (asks : List Want) (xs ys rest : List PlaceType) → All (IsOfWorld types) xs → AllZip (IsWithin types) xs ys
+      → taken types asks ys ≡ Some rest
+      → (below : List PlaceType) × ((taken types asks xs ≡ Some below) × AllZip (IsWithin types) below rest)
   taken_within [] xs ys rest o w e = (xs, (refl, subst (AllZip (IsWithin types) xs) (some_is e) w))
   taken_within (want ∷ asks) [] [] rest o w e = absurd (none-some rest e)
   taken_within (want ∷ asks) [] (y ∷ ys) rest o w e = absurd w
@@ -182,7 +192,9 @@ module _ (types : WorldTypes) (laws : AreLawful types) where
       (r.0, (ap (λ (b : Bool). cond b (taken types asks xs) None) f ∙ r.1.0, r.1.1))
 
   -- what is below operands was there
-  pub taken_all : (P : PlaceType → Type 0) (asks : List Want) (xs rest : List PlaceType) → All P xs → taken types asks xs ≡ Some rest → All P rest
+  pub taken_all : (P : PlaceType → Type 0) (asks : List Want) (xs rest : List PlaceType) → All P xs
+      → taken types asks xs ≡ Some rest → All P rest
   taken_all P [] xs rest o e = subst (All P) (some_is e) o
   taken_all P (want ∷ asks) [] rest o e = absurd (none-some rest e)
-  taken_all P (want ∷ asks) (x ∷ xs) rest o e = taken_all P asks xs rest (All-tail P x xs o) (cond_guarded (fits types want x) (taken types asks xs) rest e).1
+  taken_all P (want ∷ asks) (x ∷ xs) rest o e = taken_all P asks xs rest (All-tail P x xs o)
+      (cond_guarded (fits types want x) (taken types asks xs) rest e).1

@@ -1,5 +1,6 @@
 -- Locals that handlers take already.
-use Rattle.std.proofs.Common.{◌≡◌, ℕ, ◌+◌, ◌<◌, ◌≤◌, Bool, true, false, cond, ltb, leb, ◌&&◌, List, [], ◌∷◌, ◌++◌, length, take, get_or, map, refl, sym, ap, subst, ◌∙◌, arith}
+use Rattle.std.proofs.Common.{◌≡◌, ℕ, ◌+◌, ◌<◌, ◌≤◌, Bool, true, false, cond, ltb, leb, ◌&&◌, List, [], ◌∷◌, ◌++◌, length, take}
+use Rattle.std.proofs.Common.{get_or, map, refl, sym, ap, subst, ◌∙◌, arith}
 use Rattle.std.specs.Prelude.{All, filter, min, max}
 use Rattle.std.proofs.lemmas.Bool.{ltb-true, ltb-false, lt-ltb, le-ltb, le-leb, lt-leb}
 use Rattle.std.proofs.lemmas.List.{take_more}
@@ -38,7 +39,12 @@ pub record IsNarrowed (place : ℕ) (range : CatchRange) (around now : Stretch) 
   pub within : (q : ℕ) → now.low ≤ q → q < now.end → (around.low ≤ q) × (q < around.end)
   pub same : (q : ℕ) → now.low ≤ q → q < now.end → covers q range ≡ covers place range
 
-by_tests : (place : ℕ) (range : CatchRange) (around : Stretch) → around.low ≤ place → place < around.end → (a b : Bool) → ltb place range.start ≡ a → ltb place range.end ≡ b → IsNarrowed place range around (cond a (record { low = around.low; end = min around.end range.start }) (cond b (record { low = max around.low range.start; end = min around.end range.end }) (record { low = max around.low range.end; end = around.end })))
+by_tests : (place : ℕ) (range : CatchRange) (around : Stretch) → around.low ≤ place → place < around.end → (a b : Bool)
+    → ltb place range.start ≡ a → ltb place range.end ≡ b
+    → IsNarrowed place range around
+    (cond a (record { low = around.low; end = min around.end range.start })
+    (cond b (record { low = max around.low range.start; end = min around.end range.end })
+    (record { low = max around.low range.end; end = around.end })))
 by_tests place range around l k true b e f =
     let s : place < range.start = ltb-true place range.start e in
     record {
@@ -54,7 +60,8 @@ by_tests place range around l k false true e f =
       low = omega (arith, l, s);
       end = omega (arith, k, t);
       within = λ q (u : max around.low range.start ≤ q) (v : q < min around.end range.end). (omega (arith, u), omega (arith, v));
-      same = λ q (u : max around.low range.start ≤ q) (v : q < min around.end range.end). in_range q range (omega (arith, u)) (omega (arith, v)) ∙ sym (in_range place range s t);
+      same = λ q (u : max around.low range.start ≤ q) (v : q < min around.end range.end). in_range q range (omega (arith, u))
+          (omega (arith, v)) ∙ sym (in_range place range s t);
     }
 by_tests place range around l k false false e f =
     let t : range.end ≤ place = ltb-false place range.end f in
@@ -65,14 +72,20 @@ by_tests place range around l k false false e f =
       same = λ q (u : max around.low range.end ≤ q) v. past_range q range (omega (arith, u)) ∙ sym (past_range place range t);
     }
 
-pub narrowed_right : (place : ℕ) (range : CatchRange) (around now : Stretch) → around.low ≤ place → place < around.end → now ≡ narrowed place range around → IsNarrowed place range around now
-narrowed_right place range around now l k e = subst (IsNarrowed place range around) (sym e) (by_tests place range around l k (ltb place range.start) (ltb place range.end) refl refl)
+pub narrowed_right : (place : ℕ) (range : CatchRange) (around now : Stretch) → around.low ≤ place → place < around.end
+    → now ≡ narrowed place range around → IsNarrowed place range around now
+narrowed_right place range around now l k e = subst (IsNarrowed place range around) (sym e)
+    (by_tests place range around l k (ltb place range.start) (ltb place range.end) refl refl)
 
-one_covered : (q place : ℕ) (range : CatchRange) → covers q range ≡ covers place range → filter (covers q) (range ∷ []) ≡ filter (covers place) (range ∷ [])
+one_covered : (q place : ℕ) (range : CatchRange) → covers q range ≡ covers place range
+    → filter (covers q) (range ∷ []) ≡ filter (covers place) (range ∷ [])
 one_covered q place range e = ap (λ (b : Bool). cond b (range ∷ []) []) e
 
 -- one range more
-pub more_covered : (q place : ℕ) (ranges : List CatchRange) (i : ℕ) (d : CatchRange) → i < length ranges → filter (covers q) (take i ranges) ≡ filter (covers place) (take i ranges) → covers q (get_or ranges i d) ≡ covers place (get_or ranges i d) → filter (covers q) (take (i + 1) ranges) ≡ filter (covers place) (take (i + 1) ranges)
+pub more_covered : (q place : ℕ) (ranges : List CatchRange) (i : ℕ) (d : CatchRange) → i < length ranges
+    → filter (covers q) (take i ranges) ≡ filter (covers place) (take i ranges)
+    → covers q (get_or ranges i d) ≡ covers place (get_or ranges i d)
+    → filter (covers q) (take (i + 1) ranges) ≡ filter (covers place) (take (i + 1) ranges)
 more_covered q place ranges i d l e f =
     let t = take_more ranges i d l in
     ap (filter (covers q)) t
@@ -86,23 +99,34 @@ more_covered q place ranges i d l e f =
 none_below : (a b : ℕ) → b ≡ 0 → a < b → ⊥
 none_below a b e l = omega arith
 
-pub nothing_passed : (world : World) (ranges : List CatchRange) (typing : CodeTypes) (passed : Passed) → passed ≡ record { places = record { low = 0; end = 0 }; locals = [] } → IsPassed world ranges typing passed
-nothing_passed world ranges typing passed e place frame l m f = absurd (none_below place passed.places.end (ap (λ (x : Passed). x.places.end) e) m)
+pub nothing_passed : (world : World) (ranges : List CatchRange) (typing : CodeTypes) (passed : Passed)
+    → passed ≡ record { places = record { low = 0; end = 0 }; locals = [] } → IsPassed world ranges typing passed
+nothing_passed world ranges typing passed e place frame l m f = absurd
+    (none_below place passed.places.end (ap (λ (x : Passed). x.places.end) e) m)
 
 -- ---- what comes to handlers
 
 -- what comes depends on the locals and the ranges alone
 abbrev caught_by : World → List PlaceType → List CatchRange → List Flow
-caught_by world locals ranges = map (λ (range : CatchRange). record { to = range.handler; frame = record { locals = locals; stack = places.Ref (erase world (caught_class range)) ∷ [] } }) ranges
+caught_by world locals ranges = map
+    (λ (range : CatchRange). record
+    { to = range.handler; frame = record { locals = locals; stack = places.Ref (erase world (caught_class range)) ∷ [] } }) ranges
 
-pub same_caught : (world : World) (ranges : List CatchRange) (q place : ℕ) (a b : PlaceTypes) → a.locals ≡ b.locals → filter (covers q) ranges ≡ filter (covers place) ranges → caught world q a ranges ≡ caught world place b ranges
-same_caught world ranges q place a b e f = ap (λ (locals : List PlaceType). caught_by world locals (filter (covers q) ranges)) e ∙ ap (caught_by world b.locals) f
+pub same_caught : (world : World) (ranges : List CatchRange) (q place : ℕ) (a b : PlaceTypes) → a.locals ≡ b.locals
+    → filter (covers q) ranges ≡ filter (covers place) ranges → caught world q a ranges ≡ caught world place b ranges
+same_caught world ranges q place a b e f = ap (λ (locals : List PlaceType). caught_by world locals (filter (covers q) ranges)) e
+    ∙ ap (caught_by world b.locals) f
 
 module _ (world : World) (laws : AreLawful (types_of world)) (ranges : List CatchRange) where
   -- the types have grown since
-  pub passed_on : (a b : CodeTypes) (passed : Passed) → IsAtMost (types_of world) a b → IsPassed world ranges a passed → IsPassed world ranges b passed
-  passed_on a b passed h p place frame l m e = All-weaker (Takes (types_of world) a) (Takes (types_of world) b) (takes_more (types_of world) laws a b h) (caught world place frame ranges) (p place frame l m e)
+  pub passed_on : (a b : CodeTypes) (passed : Passed) → IsAtMost (types_of world) a b → IsPassed world ranges a passed
+      → IsPassed world ranges b passed
+  passed_on a b passed h p place frame l m e = All-weaker (Takes (types_of world) a) (Takes (types_of world) b)
+      (takes_more (types_of world) laws a b h) (caught world place frame ranges) (p place frame l m e)
 
   -- they took what came from a place
-  pub passed_from : (typing : CodeTypes) (passed : Passed) (place : ℕ) (frame : PlaceTypes) → passed.locals ≡ frame.locals → ((q : ℕ) → passed.places.low ≤ q → q < passed.places.end → filter (covers q) ranges ≡ filter (covers place) ranges) → All (Takes (types_of world) typing) (caught world place frame ranges) → IsPassed world ranges typing passed
-  passed_from typing passed place frame e same h q other l m f = subst (All (Takes (types_of world) typing)) (sym (same_caught world ranges q place other frame (f ∙ e) (same q l m))) h
+  pub passed_from : (typing : CodeTypes) (passed : Passed) (place : ℕ) (frame : PlaceTypes) → passed.locals ≡ frame.locals
+      → ((q : ℕ) → passed.places.low ≤ q → q < passed.places.end → filter (covers q) ranges ≡ filter (covers place) ranges)
+      → All (Takes (types_of world) typing) (caught world place frame ranges) → IsPassed world ranges typing passed
+  passed_from typing passed place frame e same h q other l m f = subst (All (Takes (types_of world) typing))
+      (sym (same_caught world ranges q place other frame (f ∙ e) (same q l m))) h

@@ -1,5 +1,6 @@
 -- What the table of a method keeps while it grows, and what it is when nothing waits.
-use Rattle.std.proofs.Common.{◌≡◌, ℕ, zero, suc, ◌+◌, ◌-◌, ◌<◌, ◌≤◌, Bool, true, false, ◌||◌, List, [], ◌∷◌, ◌++◌, length, map, replicate, get_or, Option, Some, None, inl, inr, refl, sym, ap, subst, ◌∙◌, arith, length-append}
+use Rattle.std.proofs.Common.{◌≡◌, ℕ, zero, suc, ◌+◌, ◌-◌, ◌<◌, ◌≤◌, Bool, true, false, ◌||◌, List, [], ◌∷◌, ◌++◌, length, map}
+use Rattle.std.proofs.Common.{replicate, get_or, Option, Some, None, inl, inr, refl, sym, ap, subst, ◌∙◌, arith, length-append}
 use Rattle.std.specs.Prelude.{All, IsTrue, slice_set, nat_eq}
 use Rattle.std.specs.List.{list_any, AllByRecursion}
 use Rattle.std.specs.Option.{is_some}
@@ -41,22 +42,29 @@ unmarked (x ∷ xs) (suc n) = unmarked xs n
 nothing_at : (place : ℕ) (frame : PlaceTypes) → types_at [] place ≡ Some frame → ⊥
 nothing_at place frame e = none-some frame e
 
-frame_of_method : (types : WorldTypes) (a b c d : ℕ) (frame : PlaceTypes) → a ≡ c → b ≡ d → IsFrame types a b frame → IsFrame types c d frame
+frame_of_method : (types : WorldTypes) (a b c d : ℕ) (frame : PlaceTypes) → a ≡ c → b ≡ d → IsFrame types a b frame
+    → IsFrame types c d frame
 frame_of_method types a b c d frame e f h =
     let g : IsFrame types c b frame = subst (λ n. IsFrame types n b frame) e h in
     subst (λ n. IsFrame types c n frame) f g
 
-slots_of_world : (types : WorldTypes) (laws : AreLawful types) (slots : List Slot) → AllByRecursion (IsSlot types.classes) slots → All (IsOfWorld types) (map (place_of types) slots)
+slots_of_world : (types : WorldTypes) (laws : AreLawful types) (slots : List Slot) → AllByRecursion (IsSlot types.classes) slots
+    → All (IsOfWorld types) (map (place_of types) slots)
 slots_of_world types laws [] h = All-nil (IsOfWorld types)
-slots_of_world types laws (s ∷ slots) h = All-cons (IsOfWorld types) (place_of types s) (map (place_of types) slots) (slot_of_world types laws s h.0) (slots_of_world types laws slots h.1)
+slots_of_world types laws (s ∷ slots) h = All-cons (IsOfWorld types) (place_of types s) (map (place_of types) slots)
+    (slot_of_world types laws s h.0) (slots_of_world types laws slots h.1)
 
 module _ (p : Program) (m : Method) (good : IsGood p) (g : IsGoodMethod p m) (laws : AreLawful (types_of p.world)) where
-  other_frames : (table : Table) → table.max_locals ≡ m.max_locals → table.max_stack ≡ m.max_stack → (other : CodeTypes) → IsTyping p m other → AreFrames (types_of p.world) table other
-  other_frames table e f other t place frame is = frame_of_method (types_of p.world) m.max_locals m.max_stack table.max_locals table.max_stack frame (sym e) (sym f) (t.each place frame is).limits
+  other_frames : (table : Table) → table.max_locals ≡ m.max_locals → table.max_stack ≡ m.max_stack → (other : CodeTypes)
+      → IsTyping p m other → AreFrames (types_of p.world) table other
+  other_frames table e f other t place frame is = frame_of_method (types_of p.world) m.max_locals m.max_stack table.max_locals
+      table.max_stack frame (sym e) (sym f) (t.each place frame is).limits
 
   -- ---- one place is looked at
 
-  module _ (old mid : Table) (s : IsSolving p m old) (place : ℕ) (is : mid ≡ record old { waiting = slice_set old.waiting place false; low = place + 1 }) (below : (k : ℕ) → k < place → waits old.waiting k ≡ false) where
+  module _ (old mid : Table) (s : IsSolving p m old) (place : ℕ)
+      (is : mid ≡ record old { waiting = slice_set old.waiting place false; low = place + 1 }) (below : (k : ℕ) → k < place
+      → waits old.waiting k ≡ false) where
     same_types : mid.types ≡ old.types
     same_types = ap (λ (t : Table). t.types) is
 
@@ -86,10 +94,13 @@ module _ (p : Program) (m : Method) (good : IsGood p) (g : IsGoodMethod p m) (la
       even = ap length marks ∙ length-set old.waiting place false ∙ s.is_table.even ∙ sym (ap length same_types);
       small = omega (arith, s.is_table.small, ap length same_types);
       done = λ k l. elim (cases_eq k place) [
-        | inl h ↦ ap (λ (xs : List Bool). waits xs k) marks ∙ ap (λ (n : ℕ). get_or (slice_set old.waiting place false) n false) h ∙ unmarked old.waiting place
+        | inl h ↦ ap (λ (xs : List Bool). waits xs k) marks ∙ ap (λ (n : ℕ). get_or (slice_set old.waiting place false) n false) h
+            ∙ unmarked old.waiting place
         | inr h ↦ other_mark k h ∙ below k (omega (arith, low_is, l, h))
       ];
-      frames = λ k frame e. frame_of_method (types_of p.world) old.max_locals old.max_stack mid.max_locals mid.max_stack frame (sym (ap (λ (t : Table). t.max_locals) is)) (sym (ap (λ (t : Table). t.max_stack) is)) (s.is_table.frames k frame (was_at k frame e));
+      frames = λ k frame e. frame_of_method (types_of p.world) old.max_locals old.max_stack mid.max_locals mid.max_stack frame
+          (sym (ap (λ (t : Table). t.max_locals) is)) (sym (ap (λ (t : Table). t.max_stack) is))
+          (s.is_table.frames k frame (was_at k frame e));
     }
 
     pub mid_proper : (frame : PlaceTypes) → types_at mid.types place ≡ Some frame → IsProper (types_of p.world) mid.max_locals frame
@@ -105,7 +116,8 @@ module _ (p : Program) (m : Method) (good : IsGood p) (g : IsGoodMethod p m) (la
       is_table = mid_table;
       max_locals = mid_locals;
       max_stack = mid_stack;
-      entry = subst (λ (xs : List (Option FrameType)). Takes (types_of p.world) (types_at xs) (entry_flow (types_of p.world) m)) (sym same_types) s.entry;
+      entry = subst (λ (xs : List (Option FrameType)). Takes (types_of p.world) (types_at xs) (entry_flow (types_of p.world) m))
+          (sym same_types) s.entry;
       below = below_mid;
       reached = λ k frame e. s.reached k frame (was_at k frame e);
       closed = λ k frame e. elim (cases_eq k place) [
@@ -119,14 +131,17 @@ module _ (p : Program) (m : Method) (good : IsGood p) (g : IsGoodMethod p m) (la
 
     module _ (frame : PlaceTypes) (there : types_at mid.types place ≡ Some frame) where
       -- each typing takes what the place leads to
-      other_flows : (other : CodeTypes) → IsTyping p m other → (flows : List Flow) × ((flows_from p m place frame ≡ Some flows) × All (Takes (types_of p.world) other) flows)
+      other_flows : (other : CodeTypes) → IsTyping p m other
+          → (flows : List Flow) × ((flows_from p m place frame ≡ Some flows) × All (Takes (types_of p.world) other) flows)
       other_flows other t =
           let b = below_mid other t place frame there in
           let ty = t.each place b.there b.is_there in
-          let w = flows_within p m good g laws place mid.max_locals frame b.there ty.flows t.catches (mid_proper frame there) b.wide ty.runs in
+          let w = flows_within p m good g laws place mid.max_locals frame b.there ty.flows t.catches (mid_proper frame there) b.wide
+          ty.runs in
           (w.0, (w.1.0, takes_flows p m good g laws other w.0 ty.flows w.1.1 ty.taken))
 
-      refused_by : (found : Option (List Flow)) (new : Table) → flows_from p m place frame ≡ found → Looks (types_of p.world) found false mid new → HasTyping p m → ⊥
+      refused_by : (found : Option (List Flow)) (new : Table) → flows_from p m place frame ≡ found
+          → Looks (types_of p.world) found false mid new → HasTyping p m → ⊥
       refused_by None new e h (other, t) = none-some (other_flows other t).0 (sym e ∙ (other_flows other t).1.0)
       refused_by (Some flows) new e h (other, t) =
           let f = other_flows other t in
@@ -136,7 +151,8 @@ module _ (p : Program) (m : Method) (good : IsGood p) (g : IsGoodMethod p m) (la
       pub refused : (new : Table) → Looks (types_of p.world) (flows_from p m place frame) false mid new → HasTyping p m → ⊥
       refused new h = refused_by (flows_from p m place frame) new refl h
 
-      solved_by : (found : Option (List Flow)) (new : Table) → flows_from p m place frame ≡ found → Looks (types_of p.world) found true mid new → IsSolving p m new
+      solved_by : (found : Option (List Flow)) (new : Table) → flows_from p m place frame ≡ found
+          → Looks (types_of p.world) found true mid new → IsSolving p m new
       solved_by None new e h = absurd (false≢true (sym h))
       solved_by (Some flows) new e q = record {
         catches = s.catches;
@@ -144,10 +160,12 @@ module _ (p : Program) (m : Method) (good : IsGood p) (g : IsGoodMethod p m) (la
         max_locals = q.max_locals ∙ mid_locals;
         max_stack = q.max_stack ∙ mid_stack;
         entry = takes_more (types_of p.world) laws (types_at mid.types) (types_at new.types) q.kept (entry_flow (types_of p.world) m)
-            (subst (λ (xs : List (Option FrameType)). Takes (types_of p.world) (types_at xs) (entry_flow (types_of p.world) m)) (sym same_types) s.entry);
+            (subst (λ (xs : List (Option FrameType)). Takes (types_of p.world) (types_at xs) (entry_flow (types_of p.world) m))
+            (sym same_types) s.entry);
         below = λ other t.
             let f = other_flows other t in
-            q.least other (other_frames mid mid_locals mid_stack other t) (below_mid other t) (subst (All (Takes (types_of p.world) other)) (some_is (sym f.1.0 ∙ e)) f.1.1);
+            q.least other (other_frames mid mid_locals mid_stack other t) (below_mid other t)
+            (subst (All (Takes (types_of p.world) other)) (some_is (sym f.1.0 ∙ e)) f.1.1);
         reached = λ k later is_later. elim (q.places k later is_later) [
           | inl b ↦ s.reached k b.0 (was_at k b.0 b.1)
           | inr led ↦ onwards place k (s.reached place frame (was_at place frame there)) (led_places p m place frame flows k e led)
@@ -157,7 +175,8 @@ module _ (p : Program) (m : Method) (good : IsGood p) (g : IsGoodMethod p m) (la
             | inl h ↦
                 let l : later ≡ frame = some_is (sym is_later ∙ same ∙ ap (types_at mid.types) h ∙ there) in
                 let c : IsClosedAt p m (types_at new.types) place frame = record { flows = flows; runs = e; taken = q.taken } in
-                inr (subst (λ (n : ℕ). IsClosedAt p m (types_at new.types) n later) (sym h) (subst (IsClosedAt p m (types_at new.types) place) (sym l) c))
+                inr (subst (λ (n : ℕ). IsClosedAt p m (types_at new.types) n later) (sym h)
+                (subst (IsClosedAt p m (types_at new.types) place) (sym l) c))
             | inr h ↦ elim (s.closed k later (was_at k later (sym same ∙ is_later))) [
               | inl w ↦ inl (q.still k (other_mark k h ∙ w))
               | inr c ↦ inr (record {
@@ -165,7 +184,8 @@ module _ (p : Program) (m : Method) (good : IsGood p) (g : IsGoodMethod p m) (la
                 runs = c.runs;
                 taken = all_map (Takes (types_of p.world) (types_at mid.types)) (Takes (types_of p.world) (types_at new.types)) c.flows
                     (takes_more (types_of p.world) laws (types_at mid.types) (types_at new.types) q.kept)
-                    (subst (λ (xs : List (Option FrameType)). All (Takes (types_of p.world) (types_at xs)) c.flows) (sym same_types) c.taken);
+                    (subst (λ (xs : List (Option FrameType)). All (Takes (types_of p.world) (types_at xs)) c.flows) (sym same_types)
+                    c.taken);
               })
             ]
           ]
@@ -179,7 +199,8 @@ module _ (p : Program) (m : Method) (good : IsGood p) (g : IsGoodMethod p m) (la
   -- ---- nothing waits
 
   -- a typing has each place that can be reached
-  pub reached_typed : (typing : CodeTypes) → IsTyping p m typing → (k : ℕ) → IsReachable m k → (there : PlaceTypes) × (typing k ≡ Some there)
+  pub reached_typed : (typing : CodeTypes) → IsTyping p m typing → (k : ℕ) → IsReachable m k
+      → (there : PlaceTypes) × (typing k ≡ Some there)
   reached_typed typing t zero start = (t.entry.there, t.entry.is_there)
   reached_typed typing t _ (onwards from to r h) =
       let x = reached_typed typing t from r in
@@ -204,7 +225,8 @@ module _ (p : Program) (m : Method) (good : IsGood p) (g : IsGoodMethod p m) (la
       each = λ k frame e.
           let c = closed_at k frame e in
           record {
-            limits = frame_of_method (types_of p.world) table.max_locals table.max_stack m.max_locals m.max_stack frame s.max_locals s.max_stack (s.is_table.frames k frame e);
+            limits = frame_of_method (types_of p.world) table.max_locals table.max_stack m.max_locals m.max_stack frame s.max_locals
+                s.max_stack (s.is_table.frames k frame e);
             flows = c.flows;
             runs = c.runs;
             taken = c.taken;
@@ -223,7 +245,8 @@ module _ (p : Program) (m : Method) (good : IsGood p) (g : IsGoodMethod p m) (la
 
   -- ---- the beginning
 
-  module _ (empty : Table) (e : empty ≡ record { max_locals = m.max_locals; max_stack = m.max_stack; types = []; waiting = []; low = 0 }) where
+  module _ (empty : Table)
+      (e : empty ≡ record { max_locals = m.max_locals; max_stack = m.max_stack; types = []; waiting = []; low = 0 }) where
     no_types : (place : ℕ) (frame : PlaceTypes) → types_at empty.types place ≡ Some frame → ⊥
     no_types place frame is = nothing_at place frame (ap (λ (t : Table). types_at t.types place) (sym e) ∙ is)
 
@@ -245,14 +268,17 @@ module _ (p : Program) (m : Method) (good : IsGood p) (g : IsGoodMethod p m) (la
     at_start : (place : ℕ) → place ≡ 0 → IsReachable m place
     at_start place h = subst (IsReachable m) (sym h) start
 
-    pub first_solving : (new : Table) → All (CanCatch p.world) m.table → IsGrown (types_of p.world) (entry_flow (types_of p.world) m ∷ []) empty new → IsSolving p m new
+    pub first_solving : (new : Table) → All (CanCatch p.world) m.table
+        → IsGrown (types_of p.world) (entry_flow (types_of p.world) m ∷ []) empty new → IsSolving p m new
     first_solving new catches q = record {
       catches = catches;
       is_table = q.table;
       max_locals = q.max_locals ∙ ap (λ (t : Table). t.max_locals) e;
       max_stack = q.max_stack ∙ ap (λ (t : Table). t.max_stack) e;
       entry = one_of (Takes (types_of p.world) (types_at new.types)) (entry_flow (types_of p.world) m) q.taken;
-      below = λ other t. q.least other (other_frames empty (ap (λ (t : Table). t.max_locals) e) (ap (λ (t : Table). t.max_stack) e) other t) (λ place frame is. absurd (no_types place frame is)) (all_one (Takes (types_of p.world) other) (entry_flow (types_of p.world) m) t.entry);
+      below = λ other t. q.least other (other_frames empty (ap (λ (t : Table). t.max_locals) e) (ap (λ (t : Table). t.max_stack) e)
+          other t) (λ place frame is. absurd (no_types place frame is))
+          (all_one (Takes (types_of p.world) other) (entry_flow (types_of p.world) m) t.entry);
       reached = λ place frame is. elim (q.places place frame is) [
         | inl b ↦ absurd (no_types place b.0 b.1)
         | inr led ↦ at_start place (first_led place led)
@@ -265,25 +291,30 @@ module _ (p : Program) (m : Method) (good : IsGood p) (g : IsGoodMethod p m) (la
 
     pub first_refused : AreRefused (types_of p.world) (entry_flow (types_of p.world) m ∷ []) empty → HasTyping p m → ⊥
     first_refused h (other, t) =
-        h other (other_frames empty (ap (λ (t : Table). t.max_locals) e) (ap (λ (t : Table). t.max_stack) e) other t) (λ place frame is. absurd (no_types place frame is))
+        h other (other_frames empty (ap (λ (t : Table). t.max_locals) e) (ap (λ (t : Table). t.max_stack) e) other t)
+        (λ place frame is. absurd (no_types place frame is))
         (all_one (Takes (types_of p.world) other) (entry_flow (types_of p.world) m) t.entry)
 
   entry_count : length (entry_frame (types_of p.world) m).locals ≡ length m.params + (m.max_locals - length m.params)
   entry_count =
       length-append (map (place_of (types_of p.world)) m.params) (replicate (m.max_locals - length m.params) places.Unset)
-      ∙ ap (λ (n : ℕ). n + length (replicate (m.max_locals - length m.params) places.Unset)) (length-map m.params (place_of (types_of p.world)))
+      ∙ ap (λ (n : ℕ). n + length (replicate (m.max_locals - length m.params) places.Unset))
+      (length-map m.params (place_of (types_of p.world)))
       ∙ ap (λ (n : ℕ). length m.params + n) (length-replicate (m.max_locals - length m.params) places.Unset)
 
   pub too_many : m.max_locals < length m.params → HasTyping p m → ⊥
   too_many l (other, t) =
       let c = (t.each 0 t.entry.there t.entry.is_there).limits.proper.count in
-      let w = length_all_zip (IsWithin (types_of p.world)) (entry_frame (types_of p.world) m).locals t.entry.there.locals t.entry.wide.locals in
+      let w = length_all_zip (IsWithin (types_of p.world)) (entry_frame (types_of p.world) m).locals t.entry.there.locals
+      t.entry.wide.locals in
       absurd (omega (arith, entry_count, c, w, l))
 
   pub entry_proper : length m.params ≤ m.max_locals → IsProper (types_of p.world) m.max_locals (entry_frame (types_of p.world) m)
   entry_proper l = record {
     count = omega (arith, entry_count, l);
     set = All-nil IsSet;
-    locals = All-append (IsOfWorld (types_of p.world)) (map (place_of (types_of p.world)) m.params) (replicate (m.max_locals - length m.params) places.Unset) (slots_of_world (types_of p.world) laws m.params g.params) (All-replicate (IsOfWorld (types_of p.world)) (m.max_locals - length m.params) places.Unset tt);
+    locals = All-append (IsOfWorld (types_of p.world)) (map (place_of (types_of p.world)) m.params)
+        (replicate (m.max_locals - length m.params) places.Unset) (slots_of_world (types_of p.world) laws m.params g.params)
+        (All-replicate (IsOfWorld (types_of p.world)) (m.max_locals - length m.params) places.Unset tt);
     stack = All-nil (IsOfWorld (types_of p.world));
   }

@@ -1,5 +1,6 @@
 -- Reference types by what they are: a class, an array of numbers, or an array of references.
-use Rattle.std.proofs.Common.{◌≡◌, ℕ, zero, suc, ◌+◌, ◌-◌, ◌<◌, ◌≤◌, Bool, true, false, cond, ltb, eqb, ◌&&◌, Option, Some, None, ◌⊎◌, inl, inr, refl, sym, ap, subst, ◌∙◌, arith}
+use Rattle.std.proofs.Common.{◌≡◌, ℕ, zero, suc, ◌+◌, ◌-◌, ◌<◌, ◌≤◌, Bool, true, false, cond, ltb, eqb, ◌&&◌, Option, Some, None}
+use Rattle.std.proofs.Common.{◌⊎◌, inl, inr, refl, sym, ap, subst, ◌∙◌, arith}
 use Rattle.std.specs.Prelude.{IsTrue}
 use Rattle.std.specs.Option.{is_some}
 use Rattle.std.proofs.lemmas.Bool.{false≢true, ltb-true, lt-ltb, cases_lt}
@@ -8,7 +9,8 @@ use Rattle.jvm_values.specs.declared.types.Ty.{Ty}
 use Rattle.jvm_values.specs.declared.types.Kind.{Kind}
 use Rattle.jvm_values.specs.declared.types.Base.{Base}
 use Rattle.jvm_values.specs.declared.types.Base.TheVariants.{Class, Num}
-use Rattle.jvm_values.specs.Subtyping.{class_type, object_type, array_of, array_of_numbers, IsReference, IsReferenceBase, IsErased, IsArrayAbove}
+use Rattle.jvm_values.specs.Subtyping.{class_type, object_type, array_of, array_of_numbers, IsReference, IsReferenceBase, IsErased}
+use Rattle.jvm_values.specs.Subtyping.{IsArrayAbove}
 use Rattle.jvm_values.specs.TypedHeaps.{WorldTypes, AreLawful}
 use Rattle.jvm_values.specs.Joins.{item_under, item_of}
 use Rattle.jvm_values.proofs.Options.{some_is}
@@ -22,10 +24,12 @@ pub data Shape (n : ℕ) (t : Ty) : Type 0 where
 
 shape_of_base : (n d : ℕ) (base : Base) → d ≤ 255 → IsReferenceBase n d base → Shape n (record { dims = d; base = base })
 shape_of_base n zero (Class k) l r = class k refl
-shape_of_base n (suc d) (Class k) l r = references (record { dims = d; base = Class k }) (omega arith, r) (same_type (record { dims = suc d; base = Class k }) (array_of (record { dims = d; base = Class k })) (omega arith) refl)
+shape_of_base n (suc d) (Class k) l r = references (record { dims = d; base = Class k }) (omega arith, r)
+    (same_type (record { dims = suc d; base = Class k }) (array_of (record { dims = d; base = Class k })) (omega arith) refl)
 shape_of_base n zero (Num kind) l r = absurd (omega arith)
 shape_of_base n (suc zero) (Num kind) l r = numbers kind refl
-shape_of_base n (suc (suc d)) (Num kind) l r = references (record { dims = suc d; base = Num kind }) (omega arith, omega arith) (same_type (record { dims = suc (suc d); base = Num kind }) (array_of (record { dims = suc d; base = Num kind })) (omega arith) refl)
+shape_of_base n (suc (suc d)) (Num kind) l r = references (record { dims = suc d; base = Num kind }) (omega arith, omega arith)
+    (same_type (record { dims = suc (suc d); base = Num kind }) (array_of (record { dims = suc d; base = Num kind })) (omega arith) refl)
 
 pub shape_of : (n : ℕ) (t : Ty) → IsReference n t → Shape n t
 shape_of n t r = shape_of_base n t.dims t.base r.0 r.1
@@ -35,10 +39,12 @@ shape_of n t r = shape_of_base n t.dims t.base r.0 r.1
 under_array : (n d : ℕ) (base : Base) → IsReferenceBase n d base → item_under (d + 1) base ≡ Some (record { dims = d; base = base })
 under_array n d (Class k) r =
     let e : (d + 1) - 1 ≡ d = omega arith in
-    ap (λ (b : Bool). cond b (Some (record { dims = (d + 1) - 1; base = Class k })) None) (lt-ltb 0 (d + 1) (omega arith)) ∙ ap (λ x. Some (record { dims = x; base = Class k })) e
+    ap (λ (b : Bool). cond b (Some (record { dims = (d + 1) - 1; base = Class k })) None) (lt-ltb 0 (d + 1) (omega arith))
+    ∙ ap (λ x. Some (record { dims = x; base = Class k })) e
 under_array n d (Num kind) r =
     let e : (d + 1) - 1 ≡ d = omega arith in
-    ap (λ (b : Bool). cond b (Some (record { dims = (d + 1) - 1; base = Num kind })) None) (lt-ltb 1 (d + 1) (omega arith)) ∙ ap (λ x. Some (record { dims = x; base = Num kind })) e
+    ap (λ (b : Bool). cond b (Some (record { dims = (d + 1) - 1; base = Num kind })) None) (lt-ltb 1 (d + 1) (omega arith))
+    ∙ ap (λ x. Some (record { dims = x; base = Num kind })) e
 
 -- the items of an array of references
 pub item_of_array : (n : ℕ) (item : Ty) → IsReference n item → item_of (array_of item) ≡ Some item
@@ -57,13 +63,15 @@ array_of_item n t item r e = by (shape_of n t r)
 
 module _ (types : WorldTypes) (laws : AreLawful types) where
   -- what is below an array of references is one, and its items are below
-  pub items_below : (s t item : Ty) → IsReference types.classes s → IsTrue (types.sub s t) → item_of t ≡ Some item → (x : Ty) × ((item_of s ≡ Some x) × IsTrue (types.sub x item))
+  pub items_below : (s t item : Ty) → IsReference types.classes s → IsTrue (types.sub s t) → item_of t ≡ Some item
+      → (x : Ty) × ((item_of s ≡ Some x) × IsTrue (types.sub x item))
   items_below s t item r below e = by (shape_of types.classes s r)
     where
       target : (t ≡ array_of item) × IsReference types.classes item
       target = array_of_item types.classes t item (laws.of_world s t below).1 e
 
-      above : (x : Ty) → IsReference types.classes x → s ≡ array_of x → (t ≡ object_type) ⊎ IsArrayAbove types.sub types.classes x t → IsTrue (types.sub x item)
+      above : (x : Ty) → IsReference types.classes x → s ≡ array_of x → (t ≡ object_type) ⊎ IsArrayAbove types.sub types.classes x t
+          → IsTrue (types.sub x item)
       above x q is (inl o) = absurd (none-some item (ap item_of (sym o) ∙ e))
       above x q is (inr h) = subst (λ (y : Ty). IsTrue (types.sub x y)) (array_inside h.0 item (sym h.3 ∙ target.0)) h.2
 
@@ -77,11 +85,18 @@ module _ (types : WorldTypes) (laws : AreLawful types) where
       by : Shape types.classes s → (x : Ty) × ((item_of s ≡ Some x) × IsTrue (types.sub x item))
       by (class k is) = absurd (flat_no (laws.class_below k t (subst (λ (x : Ty). IsTrue (types.sub x t)) is below)))
       by (numbers kind is) = absurd (numbers_no kind is (laws.numbers_below kind t (subst (λ (x : Ty). IsTrue (types.sub x t)) is below)))
-      by (references x q is) =
-          (x, (ap item_of is ∙ item_of_array types.classes x q, above x q is (laws.array_below x t q (subst (λ (y : Ty). IsTrue (types.sub y t)) is below))))
+      by (references x q is) = (
+        x,
+        (
+          ap item_of is ∙ item_of_array types.classes x q,
+          above x q is
+              (laws.array_below x t q (subst (λ (y : Ty). IsTrue (types.sub y t)) is below)),
+        ),
+      )
 
   -- what is below an array of numbers is that array
-  pub numbers_below_same : (s t : Ty) (kind : Kind) → IsReference types.classes s → IsTrue (types.sub s t) → t ≡ array_of_numbers kind → s ≡ t
+  pub numbers_below_same : (s t : Ty) (kind : Kind) → IsReference types.classes s → IsTrue (types.sub s t)
+      → t ≡ array_of_numbers kind → s ≡ t
   numbers_below_same s t kind r below e = by (shape_of types.classes s r)
     where
       no_object : t ≡ object_type → ⊥
@@ -105,7 +120,8 @@ module _ (types : WorldTypes) (laws : AreLawful types) where
           base_no h.0.dims h.0.base h.1.1 (omega (arith, d, one)) (ap (λ (y : Ty). y.base) (sym h.3 ∙ e))
 
       by : Shape types.classes s → s ≡ t
-      by (class k is) = absurd (let z : t.dims ≡ 0 = laws.class_below k t (subst (λ (x : Ty). IsTrue (types.sub x t)) is below) in omega (arith, z, one))
+      by (class k is) = absurd (let z : t.dims ≡ 0 = laws.class_below k t (subst (λ (x : Ty). IsTrue (types.sub x t)) is below) in
+          omega (arith, z, one))
       by (numbers k is) = by_numbers k is (laws.numbers_below k t (subst (λ (x : Ty). IsTrue (types.sub x t)) is below))
       by (references x q is) = absurd (by_items x q (laws.array_below x t q (subst (λ (y : Ty). IsTrue (types.sub y t)) is below)))
 
@@ -114,15 +130,19 @@ module _ (types : WorldTypes) (laws : AreLawful types) where
   dims_below s t r below l = by (shape_of types.classes s r)
     where
       by : Shape types.classes s → 0 < s.dims
-      by (class k is) = absurd (let z : t.dims ≡ 0 = laws.class_below k t (subst (λ (x : Ty). IsTrue (types.sub x t)) is below) in omega arith)
+      by (class k is) = absurd (let z : t.dims ≡ 0 = laws.class_below k t (subst (λ (x : Ty). IsTrue (types.sub x t)) is below) in
+          omega arith)
       by (numbers k is) = let d : s.dims ≡ 1 = ap (λ (x : Ty). x.dims) is in omega arith
       by (references x q is) = let d : s.dims ≡ x.dims + 1 = ap (λ (y : Ty). y.dims) is in omega arith
 
   -- the items of an erased array are erased
-  pub item_erased : (t item : Ty) → IsReference types.classes t → IsErased types.erase t → item_of t ≡ Some item → IsErased types.erase item
+  pub item_erased : (t item : Ty) → IsReference types.classes t → IsErased types.erase t → item_of t ≡ Some item
+      → IsErased types.erase item
   item_erased t item r e is =
       let h = array_of_item types.classes t item r is in
-      array_inside (types.erase item) item (sym (laws.erase_array item h.1 (subst (IsReference types.classes) h.0 r)) ∙ ap types.erase (sym h.0) ∙ e ∙ h.0)
+      array_inside (types.erase item) item (sym (laws.erase_array item h.1 (subst (IsReference types.classes) h.0 r))
+      ∙ ap types.erase (sym h.0) ∙ e ∙ h.0)
 
-  pub erased_of_world : (t : Ty) → IsReference types.classes t → IsReference types.classes (types.erase t) × IsErased types.erase (types.erase t)
+  pub erased_of_world : (t : Ty) → IsReference types.classes t → IsReference types.classes (types.erase t)
+      × IsErased types.erase (types.erase t)
   erased_of_world t r = ((laws.of_world t (types.erase t) (laws.erase_up t r)).1, laws.erase_erased t r)

@@ -4,7 +4,8 @@ use Rattle.jvm_values.specs.Subtyping.{IsReference, IsSlot}
 use Rattle.jvm_values.specs.TypedHeaps.{WorldTypes}
 use Rattle.class_program.specs.Programs.{Program}
 use Rattle.op_forms.specs.Forms.{Form}
-use Rattle.op_forms.specs.Forms.Form.{Getstatic, Getfield, Invokevirtual, Invokespecial, Invokestatic, Invokeinterface, New, Anewarray, Checkcast}
+use Rattle.op_forms.specs.Forms.Form.{Getstatic, Getfield, Invokevirtual, Invokespecial, Invokestatic, Invokeinterface, New}
+use Rattle.op_forms.specs.Forms.Form.{Anewarray, Checkcast}
 use Rattle.frame_types.specs.declared.table.Table.{Table}
 use Rattle.frame_types.specs.Tables.{Flow}
 use Rattle.frame_types.specs.Growth.{IsGrown, AreRefused}

@@ -1,5 +1,6 @@
 -- Where a method's code leads from a place, and with what types (JVM specification, sections 4.10.1.6 and 4.10.2.2).
-use Rattle.std.specs.Prelude.{ℕ, ◌++◌, ◌||◌, ◌&&◌, not, nat_eq, nat_le, nat_lt, Bool, true, false, if◌then◌else◌, List, [], ◌∷◌, map, filter, Option, Some, None, unwrap_or, IsTrue}
+use Rattle.std.specs.Prelude.{ℕ, ◌++◌, ◌||◌, ◌&&◌, not, nat_eq, nat_le, nat_lt, Bool, true, false, if◌then◌else◌, List, [], ◌∷◌}
+use Rattle.std.specs.Prelude.{map, filter, Option, Some, None, unwrap_or, IsTrue}
 use Rattle.std.specs.List.{list_any}
 use Rattle.std.specs.Option.{option_map_or, option_to_list, is_some}
 use Rattle.list_views.specs.Options.{◌>>=◌, asked}
@@ -17,7 +18,8 @@ use Rattle.class_program.specs.declared.program.Method.{Method}
 use Rattle.class_program.specs.Instructions.{instruction_at}
 use Rattle.class_program.specs.Programs.{Program}
 use Rattle.op_forms.specs.Forms.{Form, form_of}
-use Rattle.op_forms.specs.Forms.Form.{If, IfIcmp, IfAcmpeq, IfAcmpne, Ifnull, Ifnonnull, Goto, Tableswitch, Lookupswitch, Ireturn, Areturn, Return, Athrow}
+use Rattle.op_forms.specs.Forms.Form.{If, IfIcmp, IfAcmpeq, IfAcmpne, Ifnull, Ifnonnull, Goto, Tableswitch, Lookupswitch, Ireturn}
+use Rattle.op_forms.specs.Forms.Form.{Areturn, Return, Athrow}
 use Rattle.frame_types.specs.Tables.{Flow}
 use Rattle.code_verify.specs.Rows.{types_after}
 
@@ -94,7 +96,8 @@ onward after places = map (λ to. record { to = to; frame = after }) places
 
 -- from a place of the code: to the handler of each range that has it
 abbrev pub caught : World → ℕ → PlaceTypes → List CatchRange → List Flow
-caught world place frame ranges = map (λ range. record { to = range.handler; frame = caught_frame world frame range }) (filter (covers place) ranges)
+caught world place frame ranges = map (λ range. record { to = range.handler; frame = caught_frame world frame range })
+    (filter (covers place) ranges)
 
 -- What runs at a place of a method where it has these types: the form of the instruction there, the place of the next
 -- one, and the types after it. None where no instruction stands there, where it does not find what it needs, and where it

@@ -2,7 +2,8 @@
 -- each instruction, 6.5). Each row of the table is one equation, over the same forms as the machine's table.
 --
 -- What a row does not find has no type after it. Uninitialised objects are not told apart. Stacks are lists, the top first.
-use Rattle.std.specs.Prelude.{ℕ, ◌++◌, nat_lt, Bool, true, false, if◌then◌else◌, List, [], ◌∷◌, length, map, reverse, slice_get, slice_set, Option, Some, None}
+use Rattle.std.specs.Prelude.{ℕ, ◌++◌, nat_lt, Bool, true, false, if◌then◌else◌, List, [], ◌∷◌, length, map, reverse, slice_get}
+use Rattle.std.specs.Prelude.{slice_set, Option, Some, None}
 use Rattle.std.specs.Option.{option_map, option_map_or}
 use Rattle.std.specs.Str.{bytes_eq}
 use Rattle.list_views.specs.Options.{◌>>=◌, asked}
@@ -24,7 +25,11 @@ use Rattle.class_program.specs.Ops.{constructor_name}
 use Rattle.class_program.specs.Programs.{Program}
 use Rattle.op_forms.specs.declared.form.Shuffle.{Shuffle as StackShuffle}
 use Rattle.op_forms.specs.Forms.{Form, shuffled}
-use Rattle.op_forms.specs.Forms.Form.{Nop, AconstNull, Iconst, Iload, Aload, Istore, Astore, Iinc, Shuffle, Arith, Ineg, Narrow, If, IfIcmp, IfAcmpeq, IfAcmpne, Ifnull, Ifnonnull, Goto, Tableswitch, Lookupswitch, Ireturn, Areturn, Return, Getstatic, Putstatic, Getfield, Putfield, Invokevirtual, Invokespecial, Invokestatic, Invokeinterface, New, Newarray, Anewarray, Arraylength, NumberLoad, Aaload, NumberStore, Aastore, Athrow, Checkcast, Instanceof}
+use Rattle.op_forms.specs.Forms.Form.{Nop, AconstNull, Iconst, Iload, Aload, Istore, Astore, Iinc, Shuffle, Arith, Ineg, Narrow, If}
+use Rattle.op_forms.specs.Forms.Form.{IfIcmp, IfAcmpeq, IfAcmpne, Ifnull, Ifnonnull, Goto, Tableswitch, Lookupswitch, Ireturn}
+use Rattle.op_forms.specs.Forms.Form.{Areturn, Return, Getstatic, Putstatic, Getfield, Putfield, Invokevirtual, Invokespecial}
+use Rattle.op_forms.specs.Forms.Form.{Invokestatic, Invokeinterface, New, Newarray, Anewarray, Arraylength, NumberLoad, Aaload}
+use Rattle.op_forms.specs.Forms.Form.{NumberStore, Aastore, Athrow, Checkcast, Instanceof}
 use Rattle.code_verify.specs.declared.want.Want.{Want}
 use Rattle.code_verify.specs.declared.want.Want.TheVariants as wants
 use Rattle.code_verify.specs.Operands.{is_int, is_reference, fits, want_of, place_of, item_place}
@@ -190,11 +195,13 @@ types_after p m Areturn frame = areturn_types (types_of p.world) m.result frame
 types_after p m Return frame = return_types m.result frame
 types_after p m (Getstatic place) frame = getstatic_types p place frame
 types_after p m (Putstatic place) frame = putstatic_types p place frame
-types_after p m (Getfield used) frame = acted (types_of p.world) (wants.Below (class_type used.class) ∷ []) (Some (place_of (types_of p.world) used.slot)) frame
+types_after p m (Getfield used) frame = acted (types_of p.world) (wants.Below (class_type used.class) ∷ [])
+    (Some (place_of (types_of p.world) used.slot)) frame
 types_after p m (Putfield used) frame = acted (types_of p.world) (want_of used.slot ∷ wants.Below (class_type used.class) ∷ []) None frame
 types_after p m (Invokevirtual call) frame = called (types_of p.world) call (wants.Below (class_type call.class)) frame
 types_after p m (Invokespecial call) frame = called (types_of p.world) call (special_receiver p.world m.class call) frame
-types_after p m (Invokestatic call) frame = acted (types_of p.world) (argument_wants call) (option_map (place_of (types_of p.world)) call.result) frame
+types_after p m (Invokestatic call) frame = acted (types_of p.world) (argument_wants call)
+    (option_map (place_of (types_of p.world)) call.result) frame
 types_after p m (Invokeinterface call) frame = called (types_of p.world) call wants.Reference frame
 types_after p m (New t) frame = acted (types_of p.world) [] (Some (places.Ref (erase p.world t))) frame
 types_after p m (Newarray kind) frame = acted (types_of p.world) (wants.Int ∷ []) (Some (places.Ref (array_of_numbers kind))) frame

@@ -30,12 +30,16 @@ pub record IsSolving (p : Program) (m : Method) (table : Table) : Type 0 where
   pub entry : Takes (types_of p.world) (types_at table.types) (entry_flow (types_of p.world) m)
   pub below : (other : CodeTypes) → IsTyping p m other → IsAtMost (types_of p.world) (types_at table.types) other
   pub reached : (place : ℕ) (frame : PlaceTypes) → types_at table.types place ≡ Some frame → IsReachable m place
-  pub closed : (place : ℕ) (frame : PlaceTypes) → types_at table.types place ≡ Some frame → IsTrue (waits table.waiting place) ⊎ IsClosedAt p m (types_at table.types) place frame
+  pub closed : (place : ℕ) (frame : PlaceTypes) → types_at table.types place ≡ Some frame → IsTrue (waits table.waiting place)
+      ⊎ IsClosedAt p m (types_at table.types) place frame
 
 -- Of the places around a place those that a range has, if it has that place, and else those that it has not.
 abbrev pub narrowed : ℕ → CatchRange → Stretch → Stretch
-narrowed place range around = if nat_lt place range.start then record { low = around.low; end = min around.end range.start } else (if nat_lt place range.end then record { low = max around.low range.start; end = min around.end range.end } else record { low = max around.low range.end; end = around.end })
+narrowed place range around = if nat_lt place range.start then record { low = around.low; end = min around.end range.start } else
+    (if nat_lt place range.end then record { low = max around.low range.start; end = min around.end range.end } else record
+    { low = max around.low range.end; end = around.end })
 
 -- The types take what comes from each of these places, where it has these locals, to the handlers of a table of ranges.
 abbrev pub IsPassed : World → List CatchRange → CodeTypes → Passed → Type 0
-IsPassed world ranges typing passed = (place : ℕ) (frame : PlaceTypes) → passed.places.low ≤ place → place < passed.places.end → frame.locals ≡ passed.locals → All (Takes (types_of world) typing) (caught world place frame ranges)
+IsPassed world ranges typing passed = (place : ℕ) (frame : PlaceTypes) → passed.places.low ≤ place → place < passed.places.end
+    → frame.locals ≡ passed.locals → All (Takes (types_of world) typing) (caught world place frame ranges)

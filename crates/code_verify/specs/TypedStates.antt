@@ -98,7 +98,8 @@ AreCallers p typing heap callee (frame ∷ below) = IsCaller p typing heap calle
 -- Throwable.
 abbrev pub IsTop : Program → (ℕ → CodeTypes) → Heap → Mode → MachineFrame → Type 0
 IsTop p typing heap Normal frame = IsRunning p typing heap frame
-IsTop p typing heap (Throwing r) frame = IsUnwinding p typing heap frame × HasType (types_of p.world) heap (values.Ref r) (class_type throwable)
+IsTop p typing heap (Throwing r) frame = IsUnwinding p typing heap frame
+    × HasType (types_of p.world) heap (values.Ref r) (class_type throwable)
 
 -- there is a frame at least
 abbrev pub AreTypedFrames : Program → (ℕ → CodeTypes) → Heap → Mode → List MachineFrame → Type 0

@@ -53,11 +53,13 @@ pub record IsLeastTyping (p : Program) (m : Method) (typing : CodeTypes) : Type 
 
 -- Where a method of a good program has a typing, it has a least one.
 abbrev pub LeastTypingsExist : Type 0
-LeastTypingsExist = (p : Program) (m : Method) → IsTrue (is_linked p.world) → IsGood p → IsGoodMethod p m → HasTyping p m → (typing : CodeTypes) × IsLeastTyping p m typing
+LeastTypingsExist = (p : Program) (m : Method) → IsTrue (is_linked p.world) → IsGood p → IsGoodMethod p m → HasTyping p m
+    → (typing : CodeTypes) × IsLeastTyping p m typing
 
 -- It has no other: two least typings have the same types at each place.
 abbrev pub LeastTypingsAreOne : Type 0
-LeastTypingsAreOne = (p : Program) (m : Method) → IsTrue (is_linked p.world) → (a b : CodeTypes) → IsLeastTyping p m a → IsLeastTyping p m b → (place : ℕ) → a place ≡ b place
+LeastTypingsAreOne = (p : Program) (m : Method) → IsTrue (is_linked p.world) → (a b : CodeTypes) → IsLeastTyping p m a
+    → IsLeastTyping p m b → (place : ℕ) → a place ≡ b place
 
 -- ---- programs
 

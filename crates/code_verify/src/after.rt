@@ -21,7 +21,8 @@ use std::alloc::AllocError;
 
 #[tactic(auto, unfolding(crate::specs::Rows::shuffle_types))]
 fn shuffled(kind: Shuffle, frame: &mut FrameType) -> Result<bool, AllocError>
-    ensures { IfOk result (λ ok. MatchBool ok (shuffle_types kind (seen frame.old) ≡ Some (seen frame.new)) (shuffle_types kind (seen frame.old) ≡ None)) }
+    ensures { IfOk result (λ ok. MatchBool ok (shuffle_types kind (seen frame.old) ≡ Some (seen frame.new))
+        (shuffle_types kind (seen frame.old) ≡ None)) }
 {
     shuffle(kind, &mut frame.stack)
 }
@@ -39,7 +40,9 @@ pub fn types_after(
     frame: &mut FrameType,
 ) -> Result<bool, AllocError>
     requires { IsGoodForm (program_of program.now) (form_seen form) }
-    ensures { IfOk result (λ ok. MatchBool ok (types_after (program_of program.now) method.now (form_seen form.entry) (seen frame.old) ≡ Some (seen frame.new)) (types_after (program_of program.now) method.now (form_seen form.entry) (seen frame.old) ≡ None)) }
+    ensures { IfOk result
+        (λ ok. MatchBool ok (types_after (program_of program.now) method.now (form_seen form.entry) (seen frame.old) ≡ Some
+        (seen frame.new)) (types_after (program_of program.now) method.now (form_seen form.entry) (seen frame.old) ≡ None)) }
 {
     let world = &program.world;
     match form {

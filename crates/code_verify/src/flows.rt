@@ -8,7 +8,8 @@ ghost use Rattle.op_forms.specs.Forms.{form_seen};
 ghost use Rattle.frame_types.specs.Places.{IsProper, IsOfWorld};
 ghost use Rattle.frame_types.specs.Growth.{IsTable};
 ghost use Rattle.code_verify.specs.Answers.{Comes};
-ghost use Rattle.code_verify.specs.Flows.{CanCatch, falls, jump, table_targets, lookup_cases, jumps, ways, covers, caught_class, onward, caught};
+ghost use Rattle.code_verify.specs.Flows.{CanCatch, falls, jump, table_targets, lookup_cases, jumps, ways, covers, caught_class};
+ghost use Rattle.code_verify.specs.Flows.{onward, caught};
 
 use crate::rows::THROWABLE;
 use class_program::CatchRange;
@@ -111,7 +112,8 @@ fn enter_cases(
 ) -> Result<bool, AllocError>
     requires table { IsTable (types_of (classes_of world.now)) table.old }
     requires proper { IsProper (types_of (classes_of world.now)) table.old.max_locals (seen frame.now) }
-    ensures { IfOk result (λ ok. Comes (types_of (classes_of world.now)) (onward (seen frame.now) (map (λ c. c.target) cases.now)) ok table.old table.new) }
+    ensures { IfOk result (λ ok. Comes (types_of (classes_of world.now)) (onward (seen frame.now) (map (λ c. c.target) cases.now))
+        ok table.old table.new) }
 {
     for case in cases {
         let entered = table.enter(alloc, world, case.target, frame)?;
@@ -132,7 +134,8 @@ fn enter_one(
 ) -> Result<bool, AllocError>
     requires table { IsTable (types_of (classes_of world.now)) table.old }
     requires proper { IsProper (types_of (classes_of world.now)) table.old.max_locals (seen frame.now) }
-    ensures { IfOk result (λ ok. Comes (types_of (classes_of world.now)) (onward (seen frame.now) (option_to_list place)) ok table.old table.new) }
+    ensures { IfOk result (λ ok. Comes (types_of (classes_of world.now)) (onward (seen frame.now) (option_to_list place)) ok
+        table.old table.new) }
 {
     match place {
         Some(place) => table.enter(alloc, world, place, frame),
@@ -150,7 +153,11 @@ fn enter_keys(
 ) -> Result<bool, AllocError>
     requires table { IsTable (types_of (classes_of world.now)) table.old }
     requires proper { IsProper (types_of (classes_of world.now)) table.old.max_locals (seen frame.now) }
-    ensures { IfOk result (λ ok. Comes (types_of (classes_of world.now)) (onward (seen frame.now) (table_targets (form_seen form.entry) ++ map (λ c. c.target) (lookup_cases (form_seen form.entry)))) ok table.old table.new) }
+    ensures { IfOk result
+        (λ ok. Comes (types_of (classes_of world.now))
+        (onward (seen frame.now)
+        (table_targets (form_seen form.entry) ++ map (λ c. c.target) (lookup_cases (form_seen form.entry)))) ok table.old
+        table.new) }
 {
     let entered = enter_all(alloc, world, table_targets(form), frame, table)?;
     if !entered {
@@ -169,7 +176,8 @@ fn enter_jumps(
 ) -> Result<bool, AllocError>
     requires table { IsTable (types_of (classes_of world.now)) table.old }
     requires proper { IsProper (types_of (classes_of world.now)) table.old.max_locals (seen frame.now) }
-    ensures { IfOk result (λ ok. Comes (types_of (classes_of world.now)) (onward (seen frame.now) (jumps (form_seen form.entry))) ok table.old table.new) }
+    ensures { IfOk result (λ ok. Comes (types_of (classes_of world.now)) (onward (seen frame.now) (jumps (form_seen form.entry))) ok
+        table.old table.new) }
 {
     let entered = enter_one(alloc, world, jump(form), frame, table)?;
     if !entered {
@@ -189,7 +197,9 @@ pub(crate) fn enter_ways(
 ) -> Result<bool, AllocError>
     requires table { IsTable (types_of (classes_of world.now)) table.old }
     requires proper { IsProper (types_of (classes_of world.now)) table.old.max_locals (seen frame.now) }
-    ensures { IfOk result (λ ok. Comes (types_of (classes_of world.now)) (onward (seen frame.now) (ways (form_seen form.entry) next)) ok table.old table.new) }
+    ensures { IfOk result
+        (λ ok. Comes (types_of (classes_of world.now)) (onward (seen frame.now) (ways (form_seen form.entry) next)) ok table.old
+        table.new) }
 {
     let entered = enter_one(alloc, world, following(form, next), frame, table)?;
     if !entered {
@@ -238,7 +248,8 @@ fn enter_handler(
     requires count { length frame.old.locals ≡ table.old.max_locals }
     requires locals { All (IsOfWorld (types_of (classes_of world.now))) frame.old.locals }
     requires catches { CanCatch (classes_of world.now) range }
-    ensures comes { IfOk result (λ ok. (old : PlaceTypes) → old.locals ≡ frame.old.locals → Comes (types_of (classes_of world.now)) (caught (classes_of world.now) place old (range ∷ [])) ok table.old table.new) }
+    ensures comes { IfOk result (λ ok. (old : PlaceTypes) → old.locals ≡ frame.old.locals
+        → Comes (types_of (classes_of world.now)) (caught (classes_of world.now) place old (range ∷ [])) ok table.old table.new) }
     ensures locals { frame.new.locals ≡ frame.old.locals }
 {
     if !covers(place, range) {
@@ -260,7 +271,9 @@ pub(crate) fn enter_handlers(
     requires table { IsTable (types_of (classes_of world.now)) table.old }
     requires proper { IsProper (types_of (classes_of world.now)) table.old.max_locals (seen frame.old) }
     requires catches { All (CanCatch (classes_of world.now)) ranges.now }
-    ensures { IfOk result (λ ok. Comes (types_of (classes_of world.now)) (caught (classes_of world.now) place (seen frame.old) ranges.now) ok table.old table.new) }
+    ensures { IfOk result
+        (λ ok. Comes (types_of (classes_of world.now)) (caught (classes_of world.now) place (seen frame.old) ranges.now) ok
+        table.old table.new) }
 {
     for range in ranges {
         let entered = enter_handler(alloc, world, place, *range, frame, table)?;

@@ -74,7 +74,8 @@ fn run_at<'a>(
 ) -> Result<Option<(Form<'a>, Option<u16>)>, AllocError>
     requires good { IsGood (program_of program.now) }
     requires method { IsGoodMethod (program_of program.now) method.now }
-    ensures { IfOk result (λ answer. MatchOption answer (runs_at (program_of program.now) method.now place (seen frame.old) ≡ None) (λ x. runs_at (program_of program.now) method.now place (seen frame.old) ≡ Some (form_seen x.0, x.1, seen frame.new))) }
+    ensures { IfOk result (λ answer. MatchOption answer (runs_at (program_of program.now) method.now place (seen frame.old) ≡ None)
+        (λ x. runs_at (program_of program.now) method.now place (seen frame.old) ≡ Some (form_seen x.0, x.1, seen frame.new))) }
 {
     let Some((op, next)) = method.at(place) else {
         return Ok(None);
@@ -118,8 +119,11 @@ fn look(
     requires proper { IsProper (types_of (classes_of program.now.world)) table.old.max_locals (seen frame.old) }
     requires catches { All (CanCatch (classes_of program.now.world)) method.now.table }
     requires passed { IsPassed (classes_of program.now.world) method.now.table (types_at table.old.types) passed.old }
-    ensures looks { IfOk result (λ ok. Looks (types_of (classes_of program.now.world)) (flows_from (program_of program.now) method.now place (seen frame.old)) ok table.old table.new) }
-    ensures passed { IfOk result (λ ok. ok ≡ true → IsPassed (classes_of program.now.world) method.now.table (types_at table.new.types) passed.new) }
+    ensures looks { IfOk result
+        (λ ok. Looks (types_of (classes_of program.now.world))
+        (flows_from (program_of program.now) method.now place (seen frame.old)) ok table.old table.new) }
+    ensures passed { IfOk result (λ ok. ok ≡ true
+        → IsPassed (classes_of program.now.world) method.now.table (types_at table.new.types) passed.new) }
 {
     let mut after = copy_of(alloc, frame)?;
     let ran = run_at(program, method, place, &mut after)?;
@@ -153,9 +157,15 @@ fn look_on(
     requires method { IsGoodMethod (program_of program.now) method.now }
     requires solving { IsSolving (program_of program.now) method.now table.old }
     requires passed { IsPassed (classes_of program.now.world) method.now.table (types_at table.old.types) passed.old }
-    ensures answer { IfOk result (λ answer. MatchOption answer (IsLeastTyping (program_of program.now) method.now (types_at table.new.types)) (λ ok. MatchBool ok (IsSolving (program_of program.now) method.now table.new) (HasTyping (program_of program.now) method.now → ⊥))) }
-    ensures less { IfOk result (λ answer. answer ≡ Some true → work_left (types_of (classes_of program.now.world)) table.new < work_left (types_of (classes_of program.now.world)) table.old) }
-    ensures passed { IfOk result (λ answer. answer ≡ Some true → IsPassed (classes_of program.now.world) method.now.table (types_at table.new.types) passed.new) }
+    ensures answer { IfOk result
+        (λ answer. MatchOption answer (IsLeastTyping (program_of program.now) method.now (types_at table.new.types))
+        (λ ok. MatchBool ok (IsSolving (program_of program.now) method.now table.new)
+        (HasTyping (program_of program.now) method.now → ⊥))) }
+    ensures less { IfOk result (λ answer. answer ≡ Some true
+        → work_left (types_of (classes_of program.now.world)) table.new < work_left (types_of (classes_of program.now.world))
+        table.old) }
+    ensures passed { IfOk result (λ answer. answer ≡ Some true
+        → IsPassed (classes_of program.now.world) method.now.table (types_at table.new.types) passed.new) }
 {
     let Some(place) = table.take() else {
         return Ok(None);
@@ -179,7 +189,8 @@ fn first_table(
     requires good { IsGood (program_of program.now) }
     requires method { IsGoodMethod (program_of program.now) method.now }
     requires catches { All (CanCatch (classes_of program.now.world)) method.now.table }
-    ensures { IfOk result (λ answer. MatchOption answer (HasTyping (program_of program.now) method.now → ⊥) (λ table. IsSolving (program_of program.now) method.now table)) }
+    ensures { IfOk result (λ answer. MatchOption answer (HasTyping (program_of program.now) method.now → ⊥)
+        (λ table. IsSolving (program_of program.now) method.now table)) }
 {
     if method.params.len() > usize::from(method.max_locals) {
         return Ok(None);
@@ -203,7 +214,8 @@ pub(crate) fn type_method(
 ) -> Result<Option<Seq<Option<FrameType>>>, AllocError>
     requires good { IsGood (program_of program.now) }
     requires method { IsGoodMethod (program_of program.now) method.now }
-    ensures { IfOk result (λ answer. MatchOption answer (HasTyping (program_of program.now) method.now → ⊥) (λ types. IsLeastTyping (program_of program.now) method.now (types_at types))) }
+    ensures { IfOk result (λ answer. MatchOption answer (HasTyping (program_of program.now) method.now → ⊥)
+        (λ types. IsLeastTyping (program_of program.now) method.now (types_at types))) }
 {
     if !can_catch(&program.world, method.table.as_slice()) {
         return Ok(None);

@@ -4,7 +4,8 @@ ghost use Rattle.class_world.specs.WorldTypes.{types_of};
 ghost use Rattle.std.specs.Prelude.{◌≡◌, [], ◌∷◌, Some, None, MatchBool, map, reverse};
 ghost use Rattle.std.specs.Option.{is_some};
 ghost use Rattle.jvm_values.specs.Joins.{item_of};
-ghost use Rattle.code_verify.specs.Operands.{is_for, is_base_for, is_int, is_reference, is_below, is_array, is_numbers, is_references, fits, want_of, place_of, item_place};
+ghost use Rattle.code_verify.specs.Operands.{is_for, is_base_for, is_int, is_reference, is_below, is_array, is_numbers};
+ghost use Rattle.code_verify.specs.Operands.{is_references, fits, want_of, place_of, item_place};
 ghost use Rattle.code_verify.specs.Rows.{taken};
 
 use crate::want::Want;
@@ -166,7 +167,9 @@ pub(crate) fn item_place(place: PlaceType) -> Option<PlaceType>
 
 /// Takes an operand off the stack, where it is what is asked for, and says so.
 pub(crate) fn take(world: &World<'_>, want: Want, frame: &mut FrameType) -> bool
-    ensures stack { MatchBool result (taken (types_of (classes_of world.now)) (want ∷ []) frame.old.stack.0 ≡ Some frame.new.stack.0) (taken (types_of (classes_of world.now)) (want ∷ []) frame.old.stack.0 ≡ None) }
+    ensures stack { MatchBool result
+        (taken (types_of (classes_of world.now)) (want ∷ []) frame.old.stack.0 ≡ Some frame.new.stack.0)
+        (taken (types_of (classes_of world.now)) (want ∷ []) frame.old.stack.0 ≡ None) }
     ensures locals { frame.new.locals ≡ frame.old.locals }
 {
     match frame.stack.pop() {
@@ -177,7 +180,8 @@ pub(crate) fn take(world: &World<'_>, want: Want, frame: &mut FrameType) -> bool
 
 /// Takes operands off the stack, the first from the top, where each is what is asked for, and says so.
 pub(crate) fn take_all(world: &World<'_>, wants: &[Want], frame: &mut FrameType) -> bool
-    ensures stack { MatchBool result (taken (types_of (classes_of world.now)) wants.now frame.old.stack.0 ≡ Some frame.new.stack.0) (taken (types_of (classes_of world.now)) wants.now frame.old.stack.0 ≡ None) }
+    ensures stack { MatchBool result (taken (types_of (classes_of world.now)) wants.now frame.old.stack.0 ≡ Some frame.new.stack.0)
+        (taken (types_of (classes_of world.now)) wants.now frame.old.stack.0 ≡ None) }
     ensures locals { frame.new.locals ≡ frame.old.locals }
 {
     match wants.split_first() {
@@ -188,7 +192,9 @@ pub(crate) fn take_all(world: &World<'_>, wants: &[Want], frame: &mut FrameType)
 
 /// Takes the arguments of a call off the stack, the last from the top, where each is such as its slot says, and says so.
 pub(crate) fn take_arguments(world: &World<'_>, params: &[Slot], frame: &mut FrameType) -> bool
-    ensures stack { MatchBool result (taken (types_of (classes_of world.now)) (map want_of (reverse params.now)) frame.old.stack.0 ≡ Some frame.new.stack.0) (taken (types_of (classes_of world.now)) (map want_of (reverse params.now)) frame.old.stack.0 ≡ None) }
+    ensures stack { MatchBool result (taken (types_of (classes_of world.now)) (map want_of (reverse params.now)) frame.old.stack.0
+        ≡ Some frame.new.stack.0) (taken (types_of (classes_of world.now)) (map want_of (reverse params.now)) frame.old.stack.0
+        ≡ None) }
     ensures locals { frame.new.locals ≡ frame.old.locals }
 {
     match params.split_last() {

@@ -92,7 +92,8 @@ impl Passed {
         locals: &Seq<PlaceType>,
     ) -> Result<Passed, AllocError>
         ensures locals { IfOk result (λ passed. passed.locals ≡ locals.now) }
-        ensures places { IfOk result (λ passed. (q : ℕ) → passed.places.low ≤ q → q < passed.places.end → filter (covers q) ranges.now ≡ filter (covers place) ranges.now) }
+        ensures places { IfOk result (λ passed. (q : ℕ) → passed.places.low ≤ q → q < passed.places.end
+            → filter (covers q) ranges.now ≡ filter (covers place) ranges.now) }
     {
         let copy = Seq::from_slice(alloc, locals.as_slice())?;
         Ok(Passed {
@@ -140,7 +141,9 @@ pub(crate) fn pass_handlers(
     requires proper { IsProper (types_of (classes_of world.now)) table.old.max_locals (seen frame.old) }
     requires catches { All (CanCatch (classes_of world.now)) ranges.now }
     requires passed { IsPassed (classes_of world.now) ranges.now (types_at table.old.types) passed.old }
-    ensures comes { IfOk result (λ ok. Comes (types_of (classes_of world.now)) (caught (classes_of world.now) place (seen frame.old) ranges.now) ok table.old table.new) }
+    ensures comes { IfOk result
+        (λ ok. Comes (types_of (classes_of world.now)) (caught (classes_of world.now) place (seen frame.old) ranges.now) ok
+        table.old table.new) }
     ensures passed { IfOk result (λ ok. ok ≡ true → IsPassed (classes_of world.now) ranges.now (types_at table.new.types) passed.new) }
 {
     if passed.has(place, &frame.locals) {

@@ -2,13 +2,16 @@
 ghost use Rattle.class_world.specs.Worlds.{classes_of};
 ghost use Rattle.class_world.specs.WorldTypes.{types_of};
 ghost use Rattle.class_world.specs.Types.{erase};
-ghost use Rattle.std.specs.Prelude.{◌≡◌, ◌<◌, ◌≤◌, [], ◌∷◌, ◌++◌, map, reverse, length, Some, None, IfOk, OnOk, MatchBool, slice_get, slice_set};
+ghost use Rattle.std.specs.Prelude.{◌≡◌, ◌<◌, ◌≤◌, [], ◌∷◌, ◌++◌, map, reverse, length, Some, None, IfOk, OnOk, MatchBool};
+ghost use Rattle.std.specs.Prelude.{slice_get, slice_set};
 ghost use Rattle.std.specs.Option.{option_map};
 ghost use Rattle.jvm_values.specs.States.{types_of as seen};
 ghost use Rattle.jvm_values.specs.Subtyping.{class_type, array_of};
 ghost use Rattle.class_program.specs.Views.{program_of};
 ghost use Rattle.code_verify.specs.Operands.{place_of, want_of};
-ghost use Rattle.code_verify.specs.Rows.{taken, acted, with_result, iload_types, aload_types, istore_types, astore_types, iinc_types, aaload_types, is_constructor, special_receiver, argument_wants, called, ireturn_types, areturn_types, static_slot, getstatic_types, putstatic_types};
+ghost use Rattle.code_verify.specs.Rows.{taken, acted, with_result, iload_types, aload_types, istore_types, astore_types};
+ghost use Rattle.code_verify.specs.Rows.{iinc_types, aaload_types, is_constructor, special_receiver, argument_wants, called};
+ghost use Rattle.code_verify.specs.Rows.{ireturn_types, areturn_types, static_slot, getstatic_types, putstatic_types};
 
 use crate::operands::{
     is_int, is_reference, item_place, place_of, take, take_all, take_arguments, want_of,
@@ -42,7 +45,9 @@ pub(crate) fn acts(
     gives: Option<PlaceType>,
     frame: &mut FrameType,
 ) -> Result<bool, AllocError>
-    ensures { IfOk result (λ ok. MatchBool ok (acted (types_of (classes_of world.now)) wants.now gives (seen frame.old) ≡ Some (seen frame.new)) (acted (types_of (classes_of world.now)) wants.now gives (seen frame.old) ≡ None)) }
+    ensures { IfOk result
+        (λ ok. MatchBool ok (acted (types_of (classes_of world.now)) wants.now gives (seen frame.old) ≡ Some (seen frame.new))
+        (acted (types_of (classes_of world.now)) wants.now gives (seen frame.old) ≡ None)) }
 {
     if !take_all(world, wants, frame) {
         return Ok(false);
@@ -63,7 +68,8 @@ fn local_at(frame: &FrameType, n: u16) -> Option<PlaceType>
 
 #[tactic(auto, unfolding(crate::specs::Rows::iload_types))]
 pub(crate) fn iload(n: u16, frame: &mut FrameType) -> Result<bool, AllocError>
-    ensures { IfOk result (λ ok. MatchBool ok (iload_types n (seen frame.old) ≡ Some (seen frame.new)) (iload_types n (seen frame.old) ≡ None)) }
+    ensures { IfOk result
+        (λ ok. MatchBool ok (iload_types n (seen frame.old) ≡ Some (seen frame.new)) (iload_types n (seen frame.old) ≡ None)) }
 {
     let Some(local) = local_at(frame, n) else {
         return Ok(false);
@@ -77,7 +83,8 @@ pub(crate) fn iload(n: u16, frame: &mut FrameType) -> Result<bool, AllocError>
 
 #[tactic(auto, unfolding(crate::specs::Rows::aload_types))]
 pub(crate) fn aload(n: u16, frame: &mut FrameType) -> Result<bool, AllocError>
-    ensures { IfOk result (λ ok. MatchBool ok (aload_types n (seen frame.old) ≡ Some (seen frame.new)) (aload_types n (seen frame.old) ≡ None)) }
+    ensures { IfOk result
+        (λ ok. MatchBool ok (aload_types n (seen frame.old) ≡ Some (seen frame.new)) (aload_types n (seen frame.old) ≡ None)) }
 {
     let Some(local) = local_at(frame, n) else {
         return Ok(false);
@@ -103,7 +110,8 @@ fn set_local(n: u16, place: PlaceType, locals: &mut Seq<PlaceType>) -> bool
 
 #[tactic(auto, unfolding(crate::specs::Rows::istore_types))]
 pub(crate) fn istore(world: &World<'_>, n: u16, frame: &mut FrameType) -> bool
-    ensures { MatchBool result (istore_types (types_of (classes_of world.now)) n (seen frame.old) ≡ Some (seen frame.new)) (istore_types (types_of (classes_of world.now)) n (seen frame.old) ≡ None) }
+    ensures { MatchBool result (istore_types (types_of (classes_of world.now)) n (seen frame.old) ≡ Some (seen frame.new))
+        (istore_types (types_of (classes_of world.now)) n (seen frame.old) ≡ None) }
 {
     take(world, Want::Int, frame) && set_local(n, PlaceType::Int, &mut frame.locals)
 }
@@ -131,7 +139,9 @@ pub(crate) fn iinc(n: u16, frame: &FrameType) -> bool
 /// Takes an index and an array of references, and pushes what the array's items are, where there are both; it says so.
 #[tactic(auto, unfolding(crate::specs::Rows::aaload_types))]
 pub(crate) fn aaload(world: &World<'_>, frame: &mut FrameType) -> Result<bool, AllocError>
-    ensures { IfOk result (λ ok. MatchBool ok (aaload_types (types_of (classes_of world.now)) (seen frame.old) ≡ Some (seen frame.new)) (aaload_types (types_of (classes_of world.now)) (seen frame.old) ≡ None)) }
+    ensures { IfOk result
+        (λ ok. MatchBool ok (aaload_types (types_of (classes_of world.now)) (seen frame.old) ≡ Some (seen frame.new))
+        (aaload_types (types_of (classes_of world.now)) (seen frame.old) ≡ None)) }
 {
     if !take(world, Want::Int, frame) {
         return Ok(false);
@@ -184,7 +194,11 @@ pub(crate) fn invokestatic(
     call: &Call,
     frame: &mut FrameType,
 ) -> Result<bool, AllocError>
-    ensures { IfOk result (λ ok. MatchBool ok (acted (types_of (classes_of world.now)) (argument_wants call.now) (option_map (place_of (types_of (classes_of world.now))) call.now.result) (seen frame.old) ≡ Some (seen frame.new)) (acted (types_of (classes_of world.now)) (argument_wants call.now) (option_map (place_of (types_of (classes_of world.now))) call.now.result) (seen frame.old) ≡ None)) }
+    ensures { IfOk result
+        (λ ok. MatchBool ok (acted (types_of (classes_of world.now)) (argument_wants call.now)
+        (option_map (place_of (types_of (classes_of world.now))) call.now.result) (seen frame.old) ≡ Some (seen frame.new))
+        (acted (types_of (classes_of world.now)) (argument_wants call.now)
+        (option_map (place_of (types_of (classes_of world.now))) call.now.result) (seen frame.old) ≡ None)) }
 {
     if !take_arguments(world, call.params.as_slice(), frame) {
         return Ok(false);
@@ -195,7 +209,9 @@ pub(crate) fn invokestatic(
 
 /// Takes the arguments of a call and the receiver below them off the stack, where they are what is asked for, and says so.
 fn take_call(world: &World<'_>, params: &[Slot], receiver: Want, frame: &mut FrameType) -> bool
-    ensures stack { MatchBool result (taken (types_of (classes_of world.now)) (map want_of (reverse params.now) ++ receiver ∷ []) frame.old.stack.0 ≡ Some frame.new.stack.0) (taken (types_of (classes_of world.now)) (map want_of (reverse params.now) ++ receiver ∷ []) frame.old.stack.0 ≡ None) }
+    ensures stack { MatchBool result (taken (types_of (classes_of world.now)) (map want_of (reverse params.now) ++ receiver ∷ [])
+        frame.old.stack.0 ≡ Some frame.new.stack.0)
+        (taken (types_of (classes_of world.now)) (map want_of (reverse params.now) ++ receiver ∷ []) frame.old.stack.0 ≡ None) }
     ensures locals { frame.new.locals ≡ frame.old.locals }
 {
     let arguments = take_arguments(world, params, frame);
@@ -213,7 +229,9 @@ pub(crate) fn invoke(
     receiver: Want,
     frame: &mut FrameType,
 ) -> Result<bool, AllocError>
-    ensures { IfOk result (λ ok. MatchBool ok (called (types_of (classes_of world.now)) call.now receiver (seen frame.old) ≡ Some (seen frame.new)) (called (types_of (classes_of world.now)) call.now receiver (seen frame.old) ≡ None)) }
+    ensures { IfOk result
+        (λ ok. MatchBool ok (called (types_of (classes_of world.now)) call.now receiver (seen frame.old) ≡ Some (seen frame.new))
+        (called (types_of (classes_of world.now)) call.now receiver (seen frame.old) ≡ None)) }
 {
     if !take_call(world, call.params.as_slice(), receiver, frame) {
         return Ok(false);
@@ -228,7 +246,9 @@ pub(crate) fn ireturn(
     gives: Option<Slot>,
     frame: &mut FrameType,
 ) -> Result<bool, AllocError>
-    ensures { IfOk result (λ ok. MatchBool ok (ireturn_types (types_of (classes_of world.now)) gives (seen frame.old) ≡ Some (seen frame.new)) (ireturn_types (types_of (classes_of world.now)) gives (seen frame.old) ≡ None)) }
+    ensures { IfOk result
+        (λ ok. MatchBool ok (ireturn_types (types_of (classes_of world.now)) gives (seen frame.old) ≡ Some (seen frame.new))
+        (ireturn_types (types_of (classes_of world.now)) gives (seen frame.old) ≡ None)) }
 {
     match gives {
         Some(Slot::Num(_)) => acts(world, &[Want::Int], None, frame),
@@ -242,7 +262,9 @@ pub(crate) fn areturn(
     gives: Option<Slot>,
     frame: &mut FrameType,
 ) -> Result<bool, AllocError>
-    ensures { IfOk result (λ ok. MatchBool ok (areturn_types (types_of (classes_of world.now)) gives (seen frame.old) ≡ Some (seen frame.new)) (areturn_types (types_of (classes_of world.now)) gives (seen frame.old) ≡ None)) }
+    ensures { IfOk result
+        (λ ok. MatchBool ok (areturn_types (types_of (classes_of world.now)) gives (seen frame.old) ≡ Some (seen frame.new))
+        (areturn_types (types_of (classes_of world.now)) gives (seen frame.old) ≡ None)) }
 {
     match gives {
         Some(Slot::Ref(t)) => acts(world, &[Want::Below(t)], None, frame),
@@ -266,7 +288,9 @@ pub(crate) fn getstatic(
     place: u32,
     frame: &mut FrameType,
 ) -> Result<bool, AllocError>
-    ensures { IfOk result (λ ok. MatchBool ok (getstatic_types (program_of program.now) place (seen frame.old) ≡ Some (seen frame.new)) (getstatic_types (program_of program.now) place (seen frame.old) ≡ None)) }
+    ensures { IfOk result
+        (λ ok. MatchBool ok (getstatic_types (program_of program.now) place (seen frame.old) ≡ Some (seen frame.new))
+        (getstatic_types (program_of program.now) place (seen frame.old) ≡ None)) }
 {
     match static_slot(program, place) {
         Some(slot) => acts(
@@ -285,7 +309,9 @@ pub(crate) fn putstatic(
     place: u32,
     frame: &mut FrameType,
 ) -> Result<bool, AllocError>
-    ensures { IfOk result (λ ok. MatchBool ok (putstatic_types (program_of program.now) place (seen frame.old) ≡ Some (seen frame.new)) (putstatic_types (program_of program.now) place (seen frame.old) ≡ None)) }
+    ensures { IfOk result
+        (λ ok. MatchBool ok (putstatic_types (program_of program.now) place (seen frame.old) ≡ Some (seen frame.new))
+        (putstatic_types (program_of program.now) place (seen frame.old) ≡ None)) }
 {
     match static_slot(program, place) {
         Some(slot) => acts(&program.world, &[want_of(slot)], None, frame),
@@ -296,7 +322,11 @@ pub(crate) fn putstatic(
 /// `anewarray`.
 pub(crate) fn anewarray(world: &World<'_>, t: Ty, frame: &mut FrameType) -> Result<bool, AllocError>
     requires { t.dims < 255 }
-    ensures { IfOk result (λ ok. MatchBool ok (acted (types_of (classes_of world.now)) (Want.Int ∷ []) (Some (PlaceType.Ref (erase (classes_of world.now) (array_of t)))) (seen frame.old) ≡ Some (seen frame.new)) (acted (types_of (classes_of world.now)) (Want.Int ∷ []) (Some (PlaceType.Ref (erase (classes_of world.now) (array_of t)))) (seen frame.old) ≡ None)) }
+    ensures { IfOk result
+        (λ ok. MatchBool ok (acted (types_of (classes_of world.now)) (Want.Int ∷ [])
+        (Some (PlaceType.Ref (erase (classes_of world.now) (array_of t)))) (seen frame.old) ≡ Some (seen frame.new))
+        (acted (types_of (classes_of world.now)) (Want.Int ∷ [])
+        (Some (PlaceType.Ref (erase (classes_of world.now) (array_of t)))) (seen frame.old) ≡ None)) }
 {
     acts(
         world,

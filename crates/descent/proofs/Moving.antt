@@ -25,11 +25,13 @@ pub outside : (rules : List PathRule) (set : List ℕ) (turn : Turn) → has set
 outside rules set turn e = Acc.intro turn (λ v m. absurd (both_ways (has set turn.rule) e m.from_set))
 
 -- fewer moves end where more do
-pub fewer : (rules : List PathRule) (set more : List ℕ) → ((v u : Turn) → Moves rules set v u → Moves rules more v u) → (turn : Turn) → EndsAt rules more turn → EndsAt rules set turn
+pub fewer : (rules : List PathRule) (set more : List ℕ) → ((v u : Turn) → Moves rules set v u → Moves rules more v u)
+    → (turn : Turn) → EndsAt rules more turn → EndsAt rules set turn
 fewer rules set more f turn (Acc.intro t h) = Acc.intro t (λ v m. fewer rules set more f v (h v (f v t m)))
 
 -- what a filter keeps
-keep_cases : (kept here : Bool) (x rule : ℕ) (rest : List ℕ) → eqb x rule ≡ here → (here ≡ true → kept ≡ true) → (here ≡ false → has rest rule ≡ true) → has (cond kept (x ∷ rest) rest) rule ≡ true
+keep_cases : (kept here : Bool) (x rule : ℕ) (rest : List ℕ) → eqb x rule ≡ here → (here ≡ true → kept ≡ true)
+    → (here ≡ false → has rest rule ≡ true) → has (cond kept (x ∷ rest) rest) rule ≡ true
 keep_cases true true x rule rest e k m = or_left (eqb x rule) (has rest rule) e
 keep_cases false true x rule rest e k m = absurd (false≢true (k refl))
 keep_cases true false x rule rest e k m = or_right (eqb x rule) (has rest rule) (m refl)
@@ -37,4 +39,6 @@ keep_cases false false x rule rest e k m = m refl
 
 pub has_filter : (test : ℕ → Bool) (set : List ℕ) (rule : ℕ) → has set rule ≡ true → test rule ≡ true → has (filter test set) rule ≡ true
 has_filter test [] rule h t = absurd (false≢true h)
-has_filter test (x ∷ rest) rule h t = keep_cases (test x) (eqb x rule) x rule (filter test rest) refl (λ b. subst (λ (y : ℕ). test y ≡ true) (sym (eqb-true x rule b)) t) (λ b. has_filter test rest rule (or_second (eqb x rule) (has rest rule) b h) t)
+has_filter test (x ∷ rest) rule h t = keep_cases (test x) (eqb x rule) x rule (filter test rest) refl
+    (λ b. subst (λ (y : ℕ). test y ≡ true) (sym (eqb-true x rule b)) t)
+    (λ b. has_filter test rest rule (or_second (eqb x rule) (has rest rule) b h) t)

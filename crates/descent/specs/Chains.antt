@@ -18,7 +18,8 @@ pub record IsTurn (rules : List PathRule) (turn : Turn) : Type 0 where
 
 -- an id that has a slot of one kind on both sides has one value, for all weighings
 abbrev pub Agree : Valuation → List SlotForm → Valuation → List SlotForm → Type 0
-Agree before last after first = (weigh : ℕ → ℤ) → IsWeighing weigh → (i j : ℕ) (s t : SlotForm) → slice_get last i ≡ Some s → slice_get first j ≡ Some t → s.id ≡ t.id → s.size ≡ t.size → slot_value weigh before s ≡ slot_value weigh after t
+Agree before last after first = (weigh : ℕ → ℤ) → IsWeighing weigh → (i j : ℕ) (s t : SlotForm) → slice_get last i ≡ Some s
+    → slice_get first j ≡ Some t → s.id ≡ t.id → s.size ≡ t.size → slot_value weigh before s ≡ slot_value weigh after t
 
 -- in a chain, turn v may come right after turn u: u's rule ends at the cut at which v's starts, and the ids of that cut
 -- have the same values

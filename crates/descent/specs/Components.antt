@@ -19,4 +19,5 @@ pub record AreClasses (rules : List PathRule) (classes : List (List ℕ)) : Type
   pub only : (rule : ℕ) → IsTrue (stands_in classes rule) → rule < length rules
   pub full : (n : ℕ) (class : List ℕ) → slice_get classes n ≡ Some class → 0 < length class
   pub joined : (rule other n : ℕ) → place_in classes rule ≡ Some n → place_in classes other ≡ Some n → Reaches rules rule other
-  pub forward : (rule next n m : ℕ) → IsTrue (is_followed rules rule next) → place_in classes rule ≡ Some n → place_in classes next ≡ Some m → n ≤ m
+  pub forward : (rule next n m : ℕ) → IsTrue (is_followed rules rule next) → place_in classes rule ≡ Some n
+      → place_in classes next ≡ Some m → n ≤ m

@@ -9,7 +9,8 @@ use Rattle.descent.specs.Steps.{Given, give}
 -- one set more is given or not, whatever comes after it
 abbrev pub Gives : ℕ → Option (ℕ × List ℕ) → Bool → Given → Given → Type 0
 Gives number None done old new = (more : List (ℕ × List ℕ)) → give number more old ≡ (if done then give number more new else None)
-Gives number (Some left) done old new = (more : List (ℕ × List ℕ)) → give number (left ∷ more) old ≡ (if done then give number more new else None)
+Gives number (Some left) done old new = (more : List (ℕ × List ℕ))
+    → give number (left ∷ more) old ≡ (if done then give number more new else None)
 
 -- all sets of a step are given or not
 abbrev pub IsHanded : Bool → Option Given → Given → Type 0

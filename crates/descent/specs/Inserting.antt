@@ -1,5 +1,6 @@
 -- How classes are built: rule after rule, by a table that tells which rules reach which.
-use Rattle.std.specs.Prelude.{ℕ, zero, suc, ◌≡◌, ◌<◌, Bool, true, false, List, [], ◌∷◌, ◌++◌, if◌then◌else◌, get_or, length, nat_lt, ◌&&◌, insert, remove}
+use Rattle.std.specs.Prelude.{ℕ, zero, suc, ◌≡◌, ◌<◌, Bool, true, false, List, [], ◌∷◌, ◌++◌, if◌then◌else◌, get_or, length, nat_lt}
+use Rattle.std.specs.Prelude.{◌&&◌, insert, remove}
 use Rattle.descent.specs.declared.rules.PathRule.{PathRule}
 use Rattle.descent.specs.Components.{Reaches}
 
@@ -28,7 +29,8 @@ placed_at false rule class rest = (rule ∷ []) ∷ class ∷ rest
 
 abbrev pub insert_into : List (List Bool) → ℕ → List (List ℕ) → List (List ℕ)
 insert_into table rule [] = (rule ∷ []) ∷ []
-insert_into table rule (class ∷ rest) = if tells table rule (head_of class) then placed_at (tells table (head_of class) rule) rule class rest else class ∷ insert_into table rule rest
+insert_into table rule (class ∷ rest) = if tells table rule (head_of class) then placed_at (tells table (head_of class) rule) rule
+    class rest else class ∷ insert_into table rule rest
 
 -- the first class whose first rule the rule reaches, counted from 0, or their number
 abbrev pub first_at : List (List Bool) → ℕ → List (List ℕ) → ℕ

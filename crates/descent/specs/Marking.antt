@@ -1,5 +1,6 @@
 -- How a split that holds is found by one walk over its parts, with marks of rules and of cuts.
-use Rattle.std.specs.Prelude.{ℕ, ◌≡◌, ◌&&◌, ◌||◌, not, Bool, true, false, List, [], ◌∷◌, Option, Some, None, if◌then◌else◌, nat_lt, get_or, slice_get, slice_set, length}
+use Rattle.std.specs.Prelude.{ℕ, ◌≡◌, ◌&&◌, ◌||◌, not, Bool, true, false, List, [], ◌∷◌, Option, Some, None, if◌then◌else◌, nat_lt}
+use Rattle.std.specs.Prelude.{get_or, slice_get, slice_set, length}
 use Rattle.descent.specs.declared.rules.PathRule.{PathRule}
 use Rattle.descent.specs.Splits.{is_followed}
 
@@ -48,12 +49,14 @@ mark_start (Some rule) marks = if nat_lt rule.from (length marks) then Some (sli
 
 abbrev pub mark_starts : List PathRule → List ℕ → List Bool → Option (List Bool)
 mark_starts rules [] marks = Some marks
-mark_starts rules (rule ∷ rest) marks = then_marks (λ (more : List Bool). mark_starts rules rest more) (mark_start (slice_get rules rule) marks)
+mark_starts rules (rule ∷ rest) marks = then_marks (λ (more : List Bool). mark_starts rules rest more)
+    (mark_start (slice_get rules rule) marks)
 
 -- no rule of a part ends at a cut at which one of an earlier part starts
 abbrev pub flow : List PathRule → List (List ℕ) → List Bool → Option (List Bool)
 flow rules [] marks = Some marks
-flow rules (part ∷ rest) marks = if enters rules part marks then None else then_marks (λ (more : List Bool). flow rules rest more) (mark_starts rules part marks)
+flow rules (part ∷ rest) marks = if enters rules part marks then None else then_marks (λ (more : List Bool). flow rules rest more)
+    (mark_starts rules part marks)
 
 -- the part has at most one rule, which doesn't follow itself
 abbrev pub is_light : List PathRule → List ℕ → Bool

@@ -17,7 +17,8 @@ placed_of parts set = map (λ (rule : ℕ). (rule, place_in parts rule)) set
 
 abbrev pub lower_among : List PathRule → ℕ → Option ℕ → Placed → Option ℕ
 lower_among rules rule place [] = None
-lower_among rules rule place (entry ∷ rest) = if is_followed rules rule entry.0 && is_below entry.1 place then Some entry.0 else lower_among rules rule place rest
+lower_among rules rule place (entry ∷ rest) = if is_followed rules rule entry.0 && is_below entry.1 place then Some entry.0 else
+    lower_among rules rule place rest
 
 abbrev pub back_among : List PathRule → Placed → Placed → Option DescentFault
 back_among rules all [] = None
@@ -25,4 +26,5 @@ back_among rules all (entry ∷ rest) = back_fault entry.0 (lower_among rules en
 
 abbrev pub loop_among : List PathRule → List (List ℕ) → List (Option ℕ) → Placed → Option ℕ
 loop_among rules parts steps [] = None
-loop_among rules parts steps (entry ∷ rest) = if loops_at rules parts steps entry.0 entry.1 then Some entry.0 else loop_among rules parts steps rest
+loop_among rules parts steps (entry ∷ rest) = if loops_at rules parts steps entry.0 entry.1 then Some entry.0 else loop_among rules
+    parts steps rest

@@ -1,5 +1,6 @@
 -- Forms of cuts, and what is to be shown of them on a rule.
-use Rattle.std.specs.Prelude.{◌≡◌, ℕ, zero, suc, ℤ, pos, negsuc, ◌+ℤ◌, ◌-ℤ◌, ◌*ℤ◌, ◌==◌, ◌&&◌, not, Bool, true, false, List, [], ◌∷◌, ◌++◌, Option, Some, None, is_some, if◌then◌else◌, int_le, map}
+use Rattle.std.specs.Prelude.{◌≡◌, ℕ, zero, suc, ℤ, pos, negsuc, ◌+ℤ◌, ◌-ℤ◌, ◌*ℤ◌, ◌==◌, ◌&&◌, not, Bool, true, false, List, []}
+use Rattle.std.specs.Prelude.{◌∷◌, ◌++◌, Option, Some, None, is_some, if◌then◌else◌, int_le, map}
 use Rattle.lin_core.specs.declared.rows.Target.{Target}
 use Rattle.lin_core.specs.declared.faults.LinFault.{LinFault}
 use Rattle.lin_core.specs.Combination.{summed_coefficient, summed_constant, first_fault}
@@ -68,7 +69,8 @@ entry_terms slots size (entry ∷ rest) = scaled entry.1 (terms_of (slot_at slot
 
 abbrev pub entry_constant : (ℕ → ℤ) → List SlotForm → Bool → List (ℕ × ℤ) → ℤ
 entry_constant weigh slots size [] = pos 0
-entry_constant weigh slots size (entry ∷ rest) = entry.1 *ℤ constant_of weigh (slot_at slots size entry.0) +ℤ entry_constant weigh slots size rest
+entry_constant weigh slots size (entry ∷ rest) = entry.1 *ℤ constant_of weigh (slot_at slots size entry.0) +ℤ entry_constant weigh
+    slots size rest
 
 -- each id that has a multiple has a slot
 abbrev pub have_slots : List SlotForm → Bool → List (ℕ × ℤ) → Bool
@@ -77,7 +79,8 @@ have_slots slots size (entry ∷ rest) = is_some (slot_at slots size entry.0) &&
 
 -- the constant of a form's slots, without the form's own
 abbrev pub beyond_base : Ranking → Option CutForm → List SlotForm → ℤ
-beyond_base ranking form slots = entry_constant (weigh_of ranking) slots false (ints_of form) +ℤ entry_constant (weigh_of ranking) slots true (sizes_of ranking.sizes form)
+beyond_base ranking form slots = entry_constant (weigh_of ranking) slots false (ints_of form) +ℤ entry_constant (weigh_of ranking)
+    slots true (sizes_of ranking.sizes form)
 
 -- the form of a cut where these are the cut's slots
 abbrev pub line_of : Ranking → Option CutForm → List SlotForm → Target
@@ -121,7 +124,8 @@ agree_below (suc n) f g = (int_le (f n) (g n) && int_le (g n) (f n)) && agree_be
 -- whether the rows show the target by the multipliers: the coefficients of all variables are equal, and the target's
 -- constant is at least the sum's
 abbrev pub shows_target : ℕ → List Row → Target → List (ℕ × ℤ) → Bool
-shows_target vars rows target multipliers = agree_below vars (summed_coefficient rows multipliers) (λ (variable : ℕ). coefficient_of variable target.terms) && int_le (summed_constant rows multipliers) target.constant
+shows_target vars rows target multipliers = agree_below vars (summed_coefficient rows multipliers)
+    (λ (variable : ℕ). coefficient_of variable target.terms) && int_le (summed_constant rows multipliers) target.constant
 
 -- the multipliers are refused, or else the target isn't shown
 abbrev pub need_fault : DescentFault → Bool → Option LinFault → Option DescentFault
@@ -135,18 +139,22 @@ refuses fault None = ⊥
 refuses fault (Some lin) = fault ≡ Lin lin
 
 abbrev pub need : DescentFault → (ℕ → ℤ) → PathRule → Target → List (ℕ × ℤ) → Option DescentFault
-need missing weigh rule target multipliers = need_fault missing (shows_target rule.vars (rows_under weigh rule.rows) target multipliers) (first_fault (rows_under weigh rule.rows) multipliers)
+need missing weigh rule target multipliers = need_fault missing
+    (shows_target rule.vars (rows_under weigh rule.rows) target multipliers) (first_fault (rows_under weigh rule.rows) multipliers)
 
 -- the fault of a row that is to be shown for a rule of this number: a form has an id that isn't taken, or the multipliers
 -- are refused, or the row isn't shown
 abbrev pub weak_fault : Ranking → ℕ → PathRule → List (ℕ × ℤ) → Option DescentFault
-weak_fault ranking number rule multipliers = if takes_start ranking rule && takes_end ranking rule then need (NotWeak number) (weigh_of ranking) rule (fall_of ranking (pos 0) rule) multipliers else Some (NotWeak number)
+weak_fault ranking number rule multipliers = if takes_start ranking rule && takes_end ranking rule then need (NotWeak number)
+    (weigh_of ranking) rule (fall_of ranking (pos 0) rule) multipliers else Some (NotWeak number)
 
 abbrev pub strict_fault : Ranking → ℕ → PathRule → List (ℕ × ℤ) → Option DescentFault
-strict_fault ranking number rule multipliers = if takes_start ranking rule && takes_end ranking rule then need (NotStrict number) (weigh_of ranking) rule (fall_of ranking (pos 1) rule) multipliers else Some (NotStrict number)
+strict_fault ranking number rule multipliers = if takes_start ranking rule && takes_end ranking rule then need (NotStrict number)
+    (weigh_of ranking) rule (fall_of ranking (pos 1) rule) multipliers else Some (NotStrict number)
 
 abbrev pub bounded_fault : Ranking → ℕ → PathRule → List (ℕ × ℤ) → Option DescentFault
-bounded_fault ranking number rule multipliers = if takes_start ranking rule then need (NotBounded number) (weigh_of ranking) rule (start_of ranking rule) multipliers else Some (NotBounded number)
+bounded_fault ranking number rule multipliers = if takes_start ranking rule then need (NotBounded number) (weigh_of ranking) rule
+    (start_of ranking rule) multipliers else Some (NotBounded number)
 
 -- the same for a rule that can never be taken: no class has a weight
 abbrev pub dead_fault : ℕ → PathRule → List (ℕ × ℤ) → Option DescentFault

@@ -1,5 +1,6 @@
 -- A set of rules that is divided into parts. A set is the list of its rules' numbers, rising.
-use Rattle.std.specs.Prelude.{ℕ, suc, ◌==◌, ◌&&◌, not, Bool, false, List, [], ◌∷◌, ◌++◌, Option, Some, None, is_none, if◌then◌else◌, nat_lt, slice_get, filter, find}
+use Rattle.std.specs.Prelude.{ℕ, suc, ◌==◌, ◌&&◌, not, Bool, false, List, [], ◌∷◌, ◌++◌, Option, Some, None, is_none, if◌then◌else◌}
+use Rattle.std.specs.Prelude.{nat_lt, slice_get, filter, find}
 use Rattle.std.specs.List.{list_any, concat}
 use Rattle.descent.specs.declared.faults.DescentFault.{DescentFault}
 use Rattle.descent.specs.declared.faults.DescentFault.TheVariants.{NotCovered, BackEdge, Loops}
@@ -20,7 +21,8 @@ stands_once (other ∷ rest) rule = if other == rule then not (has rest rule) el
 -- the part in which the rule stands, counted from `n`, where it stands exactly once in all parts
 abbrev pub place_from : ℕ → List (List ℕ) → ℕ → Option ℕ
 place_from n [] rule = None
-place_from n (part ∷ rest) rule = if has part rule then (if stands_once part rule && not (stands_in rest rule) then Some n else None) else place_from (suc n) rest rule
+place_from n (part ∷ rest) rule = if has part rule then
+    (if stands_once part rule && not (stands_in rest rule) then Some n else None) else place_from (suc n) rest rule
 
 abbrev pub place_in : List (List ℕ) → ℕ → Option ℕ
 place_in parts rule = place_from 0 parts rule
@@ -58,7 +60,8 @@ is_below (Some n) (Some m) = nat_lt n m
 
 -- the first rule of the set that follows the rule and stands in a lower part
 abbrev pub lower_one : List PathRule → List ℕ → List (List ℕ) → ℕ → Option ℕ
-lower_one rules set parts rule = find (λ (next : ℕ). is_followed rules rule next && is_below (place_in parts next) (place_in parts rule)) set
+lower_one rules set parts rule = find
+    (λ (next : ℕ). is_followed rules rule next && is_below (place_in parts next) (place_in parts rule)) set
 
 -- the first rule of these that is followed by one of a lower part
 abbrev pub back_fault : ℕ → Option ℕ → Option DescentFault → Option DescentFault
@@ -100,4 +103,5 @@ cover_fault None later = later
 cover_fault (Some rule) later = Some (NotCovered rule)
 
 abbrev pub split_fault : List PathRule → List ℕ → List (List ℕ) → List (Option ℕ) → Option DescentFault
-split_fault rules set parts steps = cover_fault (uncovered set parts) (edge_fault (back_edge rules set parts set) (loop_fault (first_loop rules set parts steps)))
+split_fault rules set parts steps = cover_fault (uncovered set parts)
+    (edge_fault (back_edge rules set parts set) (loop_fault (first_loop rules set parts steps)))

@@ -1,5 +1,6 @@
 -- How the rules that one rule reaches are marked: by groups of rules that start at one cut. Each group stands at its first rule.
-use Rattle.std.specs.Prelude.{ℕ, suc, ◌==◌, ◌&&◌, not, Bool, true, false, List, [], ◌∷◌, ◌++◌, Option, Some, None, if◌then◌else◌, get_or, length, nat_lt, slice_set}
+use Rattle.std.specs.Prelude.{ℕ, suc, ◌==◌, ◌&&◌, not, Bool, true, false, List, [], ◌∷◌, ◌++◌, Option, Some, None, if◌then◌else◌}
+use Rattle.std.specs.Prelude.{get_or, length, nat_lt, slice_set}
 use Rattle.descent.specs.declared.rules.PathRule.{PathRule}
 
 -- the first rule that starts at a cut; the rules are counted from n
@@ -36,7 +37,8 @@ Noted = List Bool × List ℕ
 -- a group that may be come to for the first time
 abbrev pub noted : Option ℕ → Noted → Noted
 noted None notes = notes
-noted (Some group) notes = if nat_lt group (length notes.0) && not (get_or notes.0 group false) then (slice_set notes.0 group true, notes.1 ++ group ∷ []) else notes
+noted (Some group) notes = if nat_lt group (length notes.0) && not (get_or notes.0 group false) then
+    (slice_set notes.0 group true, notes.1 ++ group ∷ []) else notes
 
 -- the marks of the rules, and what is noted of groups
 abbrev pub Front : Type 0

@@ -1,5 +1,6 @@
 -- The steps of a proof, tested one by one, and the first fault.
-use Rattle.std.specs.Prelude.{ℕ, zero, suc, ◌≡◌, ◌==◌, ◌&&◌, not, Bool, true, false, List, [], ◌∷◌, Option, Some, None, Result, if◌then◌else◌, nat_lt, slice_get, slice_set, length, filter, replicate, ℤ}
+use Rattle.std.specs.Prelude.{ℕ, zero, suc, ◌≡◌, ◌==◌, ◌&&◌, not, Bool, true, false, List, [], ◌∷◌, Option, Some, None, Result}
+use Rattle.std.specs.Prelude.{if◌then◌else◌, nat_lt, slice_get, slice_set, length, filter, replicate, ℤ}
 use Rattle.std.specs.List.{filter_map}
 pub use Rattle.list_views.specs.Lists.{numbers_from}
 use Rattle.list_views.specs.Results as results
@@ -73,7 +74,8 @@ abbrev pub step_fault : List PathRule → List ℕ → ProofStep → Option Desc
 step_fault rules set Empty = empty_fault set
 step_fault rules set (Split parts steps) = split_fault rules set parts steps
 step_fault rules set (Rank step rest) = ranking_fault (ranking_of step) rules set step.rules
-step_fault rules set (Dead rule multipliers rest) = if has set rule then dead_at rule (slice_get rules rule) multipliers else Some (NotCovered rule)
+step_fault rules set (Dead rule multipliers rest) = if has set rule then dead_at rule (slice_get rules rule) multipliers else Some
+    (NotCovered rule)
 
 -- what a step leaves to later steps: the step's number, and its set
 abbrev pub part_left : List ℕ → List ℕ → Option ℕ → Option (ℕ × List ℕ)
@@ -108,7 +110,8 @@ is_free (Some (Some set)) = false
 -- wasn't named before
 abbrev pub give : ℕ → List (ℕ × List ℕ) → Given → Option Given
 give number [] given = Some given
-give number (left ∷ rest) given = if nat_lt number left.0 && is_free (slice_get given left.0) then give number rest (slice_set given left.0 (Some left.1)) else None
+give number (left ∷ rest) given = if nat_lt number left.0 && is_free (slice_get given left.0) then give number rest
+    (slice_set given left.0 (Some left.1)) else None
 
 -- the set that a step was given
 abbrev pub set_of : Option (Option (List ℕ)) → Option (List ℕ)
@@ -128,7 +131,8 @@ try_step rules number step given (Some set) next = go_on number (step_fault rule
 -- the first fault of the steps from `number` on
 abbrev pub first_fault_from : List PathRule → ℕ → Given → List ProofStep → Option StepFault
 first_fault_from rules number given [] = None
-first_fault_from rules number given (step ∷ rest) = try_step rules number step given (set_of (slice_get given number)) (λ (after : Given). first_fault_from rules (suc number) after rest)
+first_fault_from rules number given (step ∷ rest) = try_step rules number step given (set_of (slice_get given number))
+    (λ (after : Given). first_fault_from rules (suc number) after rest)
 
 -- step 0 is given all rules
 abbrev pub given_first : ℕ → ℕ → Given

@@ -42,7 +42,9 @@ fn try_step(
     requires rules { AreRules rules.now }
     requires step { IsStep step.now }
     requires room { AreOver (variables scratch.old) rules.now }
-    ensures answer { (next : Given → Option StepFault) → GoesOn result (try_step rules.now number step.now given.old.items (set_of (slice_get given.old.items number)) next) (next given.new.items) }
+    ensures answer { (next : Given → Option StepFault)
+        → GoesOn result (try_step rules.now number step.now given.old.items (set_of (slice_get given.old.items number)) next)
+        (next given.new.items) }
     ensures over { variables scratch.new ≡ variables scratch.old }
 {
     let Some(set) = set_of(alloc, given, number)? else {

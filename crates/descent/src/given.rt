@@ -95,7 +95,9 @@ fn give_parts(
     steps: &[Option<u32>],
     given: &mut Vec<Option<Seq<u32>>>,
 ) -> Result<bool, AllocError>
-    ensures { IfOk result (λ done. IsHanded done (give number (filter_map same_option (parts_left set.now parts.now steps.now)) given.old.items) given.new.items) }
+    ensures { IfOk result
+        (λ done. IsHanded done (give number (filter_map same_option (parts_left set.now parts.now steps.now)) given.old.items)
+        given.new.items) }
 {
     for (n, part) in parts.iter().enumerate() {
         let Some(step) = steps.get(n) else {

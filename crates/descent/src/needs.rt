@@ -1,12 +1,14 @@
 //! What is to be shown of a form on a rule.
-ghost use Rattle.std.specs.Prelude.{◌≡◌, ◌≤◌, ◌-ℤ◌, ◌^◌, ℤ, pos, negsuc, true, false, [], IsTrue, ◌↔◌, ◌&&◌, None, Some, OnOk, MatchResult, unsigned_abs, if◌then◌else◌};
+ghost use Rattle.std.specs.Prelude.{◌≡◌, ◌≤◌, ◌-ℤ◌, ◌^◌, ℤ, pos, negsuc, true, false, [], IsTrue, ◌↔◌, ◌&&◌, None, Some, OnOk};
+ghost use Rattle.std.specs.Prelude.{MatchResult, unsigned_abs, if◌then◌else◌};
 ghost use Rattle.std.specs.Result.{result_err};
 ghost use Rattle.lin_core.specs.Combination.{Shows, IsSumOf, first_fault};
 ghost use Rattle.lin_core.specs.Sums.{variables, IsWithin};
 ghost use Rattle.lin_core.specs.Weights.{AreWeights, weight_in, rows_under};
 ghost use Rattle.descent.specs.Conditions.{AreForms, AreFew, AreSlots, IsRule};
 ghost use Rattle.descent.specs.Lines.{AddsLine};
-ghost use Rattle.descent.specs.Rankings.{Ranking, weigh_of, form_at, ints_of, sizes_of, base_of, is_taken, takes_start, takes_end, line_of, beyond_base, start_of, fall_of, need, refuses, dead_fault};
+ghost use Rattle.descent.specs.Rankings.{Ranking, weigh_of, form_at, ints_of, sizes_of, base_of, is_taken, takes_start, takes_end};
+ghost use Rattle.descent.specs.Rankings.{line_of, beyond_base, start_of, fall_of, need, refuses, dead_fault};
 
 use crate::faults::DescentFault;
 use crate::proof::CutForm;
@@ -111,7 +113,9 @@ impl<'a> Ranks<'a> {
         requires forms { AreForms self.now.forms }
         requires slots { AreSlots (variables scratch.old) slots.now }
         requires room { IsWithin (2 ^ 112) scratch.old }
-        ensures { AddsLine (2 ^ 111) (line_of self.now (form_at self.now.forms cut) slots.now).terms (beyond_base self.now (form_at self.now.forms cut) slots.now) (if negative then negsuc 0 else pos 1) scratch.old scratch.new }
+        ensures { AddsLine (2 ^ 111) (line_of self.now (form_at self.now.forms cut) slots.now).terms
+            (beyond_base self.now (form_at self.now.forms cut) slots.now) (if negative then negsuc 0 else pos 1) scratch.old
+            scratch.new }
     {
         add_entries(
             scratch,
@@ -175,7 +179,8 @@ impl<'a> Ranks<'a> {
         requires rule { IsRule rule.now }
         requires few { AreFew multipliers.now }
         requires vars { rule.now.vars ≤ variables scratch.old }
-        ensures fault { result_err result ≡ (if takes_start self.now rule.now && takes_end self.now rule.now then need missing (weigh_of self.now) rule.now (fall_of self.now fall.now rule.now) multipliers.now else Some missing) }
+        ensures fault { result_err result ≡ (if takes_start self.now rule.now && takes_end self.now rule.now then need missing
+            (weigh_of self.now) rule.now (fall_of self.now fall.now rule.now) multipliers.now else Some missing) }
         ensures over { variables scratch.new ≡ variables scratch.old }
     {
         if !self.takes_both(rule) {
@@ -202,7 +207,8 @@ impl<'a> Ranks<'a> {
         requires rule { IsRule rule.now }
         requires few { AreFew multipliers.now }
         requires vars { rule.now.vars ≤ variables scratch.old }
-        ensures fault { result_err result ≡ (if takes_start self.now rule.now then need missing (weigh_of self.now) rule.now (start_of self.now rule.now) multipliers.now else Some missing) }
+        ensures fault { result_err result ≡ (if takes_start self.now rule.now then need missing (weigh_of self.now) rule.now
+            (start_of self.now rule.now) multipliers.now else Some missing) }
         ensures over { variables scratch.new ≡ variables scratch.old }
     {
         if !self.takes(rule.from, rule.first.as_slice()) {
@@ -228,8 +234,10 @@ fn combined(
     requires rule { IsRule rule.now }
     requires few { AreFew multipliers.now }
     requires vars { rule.now.vars ≤ variables scratch.old }
-    ensures fault { MatchResult result (λ _. first_fault (rows_under (weight_in weights.now) rule.now.rows) multipliers.now ≡ None) (λ e. refuses e (first_fault (rows_under (weight_in weights.now) rule.now.rows) multipliers.now)) }
-    ensures sum { OnOk result (IsSumOf (variables scratch.old) (rows_under (weight_in weights.now) rule.now.rows) multipliers.now scratch.new) }
+    ensures fault { MatchResult result (λ _. first_fault (rows_under (weight_in weights.now) rule.now.rows) multipliers.now ≡ None)
+        (λ e. refuses e (first_fault (rows_under (weight_in weights.now) rule.now.rows) multipliers.now)) }
+    ensures sum { OnOk result (IsSumOf (variables scratch.old) (rows_under (weight_in weights.now) rule.now.rows) multipliers.now
+        scratch.new) }
     ensures within { IsWithin (2 ^ 110) scratch.new }
     ensures over { variables scratch.new ≡ variables scratch.old }
 {

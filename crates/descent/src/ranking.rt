@@ -1,5 +1,6 @@
 //! What both orders rank by: forms of cuts, the weights of classes, and whether sizes count.
-ghost use Rattle.std.specs.Prelude.{◌≡◌, ℕ, ◌≤◌, ◌<◌, ◌^◌, ◌*ℤ◌, ℤ, pos, negsuc, true, false, None, Some, MatchOption, unsigned_abs, if◌then◌else◌};
+ghost use Rattle.std.specs.Prelude.{◌≡◌, ℕ, ◌≤◌, ◌<◌, ◌^◌, ◌*ℤ◌, ℤ, pos, negsuc, true, false, None, Some, MatchOption, unsigned_abs};
+ghost use Rattle.std.specs.Prelude.{if◌then◌else◌};
 ghost use Rattle.lin_core.specs.Sums.{variables, IsWithin};
 ghost use Rattle.lin_core.specs.Weights.{AreWeights, weight_in};
 ghost use Rattle.descent.specs.Conditions.{AreMultiples, AreSlots, IsSlot};
@@ -85,7 +86,9 @@ pub(crate) fn add_entries(
     requires slots { AreSlots (variables scratch.old) slots.now }
     requires entries { AreMultiples entries.now }
     requires room { IsWithin (2 ^ 113) scratch.old }
-    ensures { AddsLine (2 ^ 110) (entry_terms slots.now size entries.now) (entry_constant (weight_in weights.now) slots.now size entries.now) (if negative then negsuc 0 else pos 1) scratch.old scratch.new }
+    ensures { AddsLine (2 ^ 110) (entry_terms slots.now size entries.now)
+        (entry_constant (weight_in weights.now) slots.now size entries.now) (if negative then negsuc 0 else pos 1) scratch.old
+        scratch.new }
 {
     for (id, multiple) in entries {
         if let Some(slot) = slot_at(slots, size, *id) {

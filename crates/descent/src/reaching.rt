@@ -115,7 +115,8 @@ fn go_on(
     seen: &mut Vec<bool>,
     todo: &mut Seq<usize>,
 ) -> Result<(), AllocError>
-    ensures { OnOk result ((marks.new.items, (seen.new.items, todo.new)) ≡ spread next.now group.now (marks.old.items, (seen.old.items, todo.old))) }
+    ensures { OnOk result
+        ((marks.new.items, (seen.new.items, todo.new)) ≡ spread next.now group.now (marks.old.items, (seen.old.items, todo.old))) }
 {
     for rule in group {
         set_mark(marks, *rule);

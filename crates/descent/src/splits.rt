@@ -161,7 +161,8 @@ fn order_fault(
     steps: &[Option<u32>],
     placed: &[(u32, Option<usize>)],
 ) -> Option<DescentFault>
-    ensures { result ≡ edge_fault (back_among rules.now placed.now placed.now) (loop_fault (loop_among rules.now parts.now steps.now placed.now)) }
+    ensures { result ≡ edge_fault (back_among rules.now placed.now placed.now)
+        (loop_fault (loop_among rules.now parts.now steps.now placed.now)) }
 {
     if let Some(fault) = back_edge(rules, placed) {
         return Some(fault);

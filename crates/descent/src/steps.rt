@@ -43,7 +43,8 @@ fn is_as_listed<O: Order>(
     requires rule { IsRule rule.now }
     requires few { IsListed listed.now }
     requires room { rule.now.vars ≤ variables scratch.old }
-    ensures fault { result_err result ≡ listed_fault (O.weak_says order.now) (O.strict_says order.now) (O.bounded_says order.now) listed.now (Some rule.now) }
+    ensures fault { result_err result ≡ listed_fault (O.weak_says order.now) (O.strict_says order.now) (O.bounded_says order.now)
+        listed.now (Some rule.now) }
     ensures over { variables scratch.new ≡ variables scratch.old }
 {
     match listed {
@@ -73,7 +74,8 @@ fn is_listed<O: Order>(
     requires rules { AreRules rules.now }
     requires few { IsListed listed.now }
     requires room { AreOver (variables scratch.old) rules.now }
-    ensures fault { result_err result ≡ listed_fault (O.weak_says order.now) (O.strict_says order.now) (O.bounded_says order.now) listed.now (slice_get rules.now number) }
+    ensures fault { result_err result ≡ listed_fault (O.weak_says order.now) (O.strict_says order.now) (O.bounded_says order.now)
+        listed.now (slice_get rules.now number) }
     ensures over { variables scratch.new ≡ variables scratch.old }
 {
     match rule_at(rules, number) {
@@ -97,7 +99,8 @@ fn rank_fault<O: Order>(
     requires rules { AreRules rules.now }
     requires few { All IsListed listed.now }
     requires room { AreOver (variables scratch.old) rules.now }
-    ensures fault { result_err result ≡ rank_fault (O.weak_says order.now) (O.strict_says order.now) (O.bounded_says order.now) rules.now set.now listed.now }
+    ensures fault { result_err result ≡ rank_fault (O.weak_says order.now) (O.strict_says order.now) (O.bounded_says order.now)
+        rules.now set.now listed.now }
     ensures over { variables scratch.new ≡ variables scratch.old }
 {
     for (n, rule) in set.iter().enumerate() {
@@ -163,7 +166,8 @@ fn dead_step(
     requires rules { AreRules rules.now }
     requires few { AreFew multipliers.now }
     requires room { AreOver (variables scratch.old) rules.now }
-    ensures fault { result_err result ≡ (if has set.now number then dead_at number (slice_get rules.now number) multipliers.now else Some (NotCovered number)) }
+    ensures fault { result_err result ≡ (if has set.now number then dead_at number (slice_get rules.now number) multipliers.now else
+        Some (NotCovered number)) }
     ensures over { variables scratch.new ≡ variables scratch.old }
 {
     if !has(set, number) {

@@ -13,20 +13,30 @@ use Rattle.describe.specs.Methods.{method_lines, Names, IsNamed, IsFirstNamed}
 use Rattle.describe.specs.Templates.{IsTemplate}
 use Rattle.describe.specs.Calls.{ListsMethods, DescribesEntry, DescribesIn, Describes}
 
-pub is_named_one : (class : ClassContent) (word : List ℕ) (names : MethodNames) → names.class.now ≡ class.name → Names word names.name.now names.desc.now → IsNamed class word names
+pub is_named_one : (class : ClassContent) (word : List ℕ) (names : MethodNames) → names.class.now ≡ class.name
+    → Names word names.name.now names.desc.now → IsNamed class word names
 is_named_one class word names e named = record { class_is = e; named = named }
 
-pub is_first_one : (classes : List ClassContent) (word : List ℕ) (names : MethodNames) (class : ClassContent) → slice_get classes 0 ≡ Some class → IsNamed class word names → IsFirstNamed classes word names
+pub is_first_one : (classes : List ClassContent) (word : List ℕ) (names : MethodNames) (class : ClassContent)
+    → slice_get classes 0 ≡ Some class → IsNamed class word names → IsFirstNamed classes word names
 is_first_one classes word names class first named = record { class = class; first = first; named = named }
 
-pub lists : (files : List (List ℕ)) (classes : List ClassContent) (class : ClassContent) (lines : List ℕ) → AllSpell files classes → slice_get classes 0 ≡ Some class → lines ≡ method_lines class.methods → ListsMethods files lines
-lists files classes class lines spelled first are = record { classes = classes; spelled = spelled; class = class; first = first; lines_are = are }
+pub lists : (files : List (List ℕ)) (classes : List ClassContent) (class : ClassContent) (lines : List ℕ) → AllSpell files classes
+    → slice_get classes 0 ≡ Some class → lines ≡ method_lines class.methods → ListsMethods files lines
+lists files classes class lines spelled first are = record
+    { classes = classes; spelled = spelled; class = class; first = first; lines_are = are }
 
-pub entry_described : (world : World) (entry : MethodRef) (p : Program) (text : List ℕ) → IsProgramOf world entry p → IsTemplate p text → DescribesEntry world entry text
+pub entry_described : (world : World) (entry : MethodRef) (p : Program) (text : List ℕ) → IsProgramOf world entry p
+    → IsTemplate p text → DescribesEntry world entry text
 entry_described world entry p text program template = record { p = p; program = program; template = template }
 
-pub in_described : (classes : List ClassContent) (word text : List ℕ) (world : World) (names : MethodNames) (entry : MethodRef) → IsWorldOf classes world → IsFirstNamed classes word names → find_method world names.class.now names.name.now names.desc.now ≡ Some entry → DescribesEntry world entry text → DescribesIn classes word text
-in_described classes word text world names entry makes named found described = record { world = world; makes = makes; names = names; named = named; entry = entry; found = found; described = described }
+pub in_described : (classes : List ClassContent) (word text : List ℕ) (world : World) (names : MethodNames) (entry : MethodRef)
+    → IsWorldOf classes world → IsFirstNamed classes word names
+    → find_method world names.class.now names.name.now names.desc.now ≡ Some entry → DescribesEntry world entry text
+    → DescribesIn classes word text
+in_described classes word text world names entry makes named found described = record
+    { world = world; makes = makes; names = names; named = named; entry = entry; found = found; described = described }
 
-pub files_described : (files : List (List ℕ)) (classes : List ClassContent) (word text : List ℕ) → AllSpell files classes → DescribesIn classes word text → Describes files word text
+pub files_described : (files : List (List ℕ)) (classes : List ClassContent) (word text : List ℕ) → AllSpell files classes
+    → DescribesIn classes word text → Describes files word text
 files_described files classes word text spelled described = record { classes = classes; spelled = spelled; described = described }

@@ -21,13 +21,17 @@ listed_behind i j [] pairs h = h
 listed_behind i j (pair ∷ front) pairs h = inr (inr (listed_behind i j front pairs h))
 
 -- one that stands somewhere
-pub listed_at : (i j place : ℕ) (pairs : List (ℕ × ℕ)) (pair : ℕ × ℕ) → slice_get pairs place ≡ Some pair → pair.0 ≡ i → pair.1 ≡ j → IsListed i j pairs
+pub listed_at : (i j place : ℕ) (pairs : List (ℕ × ℕ)) (pair : ℕ × ℕ) → slice_get pairs place ≡ Some pair → pair.0 ≡ i → pair.1 ≡ j
+    → IsListed i j pairs
 listed_at i j place [] pair e f g = absurd cc
-listed_at i j zero (p ∷ pairs) pair e f g = let same : p ≡ pair = cc in inl (ap (λ (q : ℕ × ℕ). q.0) same ∙ f, ap (λ (q : ℕ × ℕ). q.1) same ∙ g)
+listed_at i j zero (p ∷ pairs) pair e f g = let same : p ≡ pair = cc in inl
+    (ap (λ (q : ℕ × ℕ). q.0) same ∙ f, ap (λ (q : ℕ × ℕ). q.1) same ∙ g)
 listed_at i j (suc place) (p ∷ pairs) pair e f g = inr (inr (listed_at i j place pairs pair e f g))
 
 -- one input more
-pub listed_more : (world : World) (listed : Listed) (slots' : List Slot) (pairs : List (ℕ × ℕ)) (j count : ℕ) (a b : Slot) → slice_get slots' count ≡ Some a → slice_get slots' j ≡ Some b → (IsTrue (is_wanted world listed a b) → IsListed count j pairs) → AreListedTo world listed slots' pairs j count → AreListedTo world listed slots' pairs j (count + 1)
+pub listed_more : (world : World) (listed : Listed) (slots' : List Slot) (pairs : List (ℕ × ℕ)) (j count : ℕ) (a b : Slot)
+    → slice_get slots' count ≡ Some a → slice_get slots' j ≡ Some b → (IsTrue (is_wanted world listed a b) → IsListed count j pairs)
+    → AreListedTo world listed slots' pairs j count → AreListedTo world listed slots' pairs j (count + 1)
 listed_more world listed slots' pairs j count a b at_a at_b one all i c d l at_c at_d wanted = go (split i count l)
   where
     split : (i count : ℕ) → i < count + 1 → (i < count) ⊎ (i ≡ count)
@@ -43,7 +47,8 @@ listed_more world listed slots' pairs j count a b at_a at_b one all i c d l at_c
     here same =
         let c_is : a ≡ c = let k : Some a ≡ Some c = sym at_a ∙ ap (slice_get slots') (sym same) ∙ at_c in cc in
         let d_is : b ≡ d = let k : Some b ≡ Some d = sym at_b ∙ at_d in cc in
-        let both : is_wanted world listed a b ≡ true = ap (λ x. is_wanted world listed x b) c_is ∙ ap (is_wanted world listed c) d_is ∙ wanted in
+        let both : is_wanted world listed a b ≡ true = ap (λ x. is_wanted world listed x b) c_is
+        ∙ ap (is_wanted world listed c) d_is ∙ wanted in
         subst (λ n. IsListed n j pairs) (sym same) (one both)
 
     go : (i < count) ⊎ (i ≡ count) → IsListed i j pairs
@@ -51,7 +56,9 @@ listed_more world listed slots' pairs j count a b at_a at_b one all i c d l at_c
     go (inr k) = here k
 
 -- one row more
-pub rows_more : (world : World) (listed : Listed) (slots' : List Slot) (pairs : List (ℕ × ℕ)) (count : ℕ) → AreListedTo world listed slots' pairs count count → AreListedBelow world listed slots' pairs count → AreListedBelow world listed slots' pairs (count + 1)
+pub rows_more : (world : World) (listed : Listed) (slots' : List Slot) (pairs : List (ℕ × ℕ)) (count : ℕ)
+    → AreListedTo world listed slots' pairs count count → AreListedBelow world listed slots' pairs count
+    → AreListedBelow world listed slots' pairs (count + 1)
 rows_more world listed slots' pairs count one all j l i a b k at_a at_b wanted = go (split j count l)
   where
     split : (j count : ℕ) → j < count + 1 → (j < count) ⊎ (j ≡ count)
@@ -65,8 +72,11 @@ rows_more world listed slots' pairs count one all j l i a b k at_a at_b wanted =
 
     go : (j < count) ⊎ (j ≡ count) → IsListed i j pairs
     go (inl m) = all j m i a b k at_a at_b wanted
-    go (inr m) = subst (λ n. IsListed i n pairs) (sym m) (one i a b (subst (λ n. i < n) m k) at_a (ap (slice_get slots') (sym m) ∙ at_b) wanted)
+    go (inr m) = subst (λ n. IsListed i n pairs) (sym m)
+        (one i a b (subst (λ n. i < n) m k) at_a (ap (slice_get slots') (sym m) ∙ at_b) wanted)
 
 -- all rows
-pub all_rows : (world : World) (listed : Listed) (slots' : List Slot) (pairs : List (ℕ × ℕ)) (count : ℕ) → ((j : ℕ) (b : Slot) → slice_get slots' j ≡ Some b → j < count) → AreListedBelow world listed slots' pairs count → ListsAll world listed slots' pairs
+pub all_rows : (world : World) (listed : Listed) (slots' : List Slot) (pairs : List (ℕ × ℕ)) (count : ℕ)
+    → ((j : ℕ) (b : Slot) → slice_get slots' j ≡ Some b → j < count) → AreListedBelow world listed slots' pairs count
+    → ListsAll world listed slots' pairs
 all_rows world listed slots' pairs count within all i j a b l at_a at_b wanted = all j (within j b at_b) i a b l at_a at_b wanted

@@ -8,7 +8,8 @@ use Rattle.describe.specs.Whole.{is_wanted}
 
 -- of input j with each input below a number
 abbrev pub AreListedTo : World → Listed → List Slot → List (ℕ × ℕ) → ℕ → ℕ → Type 0
-AreListedTo world listed slots' pairs j count = (i : ℕ) (a b : Slot) → i < count → slice_get slots' i ≡ Some a → slice_get slots' j ≡ Some b → IsTrue (is_wanted world listed a b) → IsListed i j pairs
+AreListedTo world listed slots' pairs j count = (i : ℕ) (a b : Slot) → i < count → slice_get slots' i ≡ Some a
+    → slice_get slots' j ≡ Some b → IsTrue (is_wanted world listed a b) → IsListed i j pairs
 
 -- of each input below a number with each one before it
 abbrev pub AreListedBelow : World → Listed → List Slot → List (ℕ × ℕ) → ℕ → Type 0

@@ -60,7 +60,8 @@ is_wanted world listed (slots.Ref s) (slots.Ref t) = is_share listed || are_comp
 
 -- all those are listed
 abbrev pub ListsAll : World → Listed → List Slot → List (ℕ × ℕ) → Type 0
-ListsAll world listed slots' pairs = (i j : ℕ) (a b : Slot) → i < j → slice_get slots' i ≡ Some a → slice_get slots' j ≡ Some b → IsTrue (is_wanted world listed a b) → IsListed i j pairs
+ListsAll world listed slots' pairs = (i j : ℕ) (a b : Slot) → i < j → slice_get slots' i ≡ Some a → slice_get slots' j ≡ Some b
+    → IsTrue (is_wanted world listed a b) → IsListed i j pairs
 
 -- ---- the whole
 

@@ -18,7 +18,8 @@ use std::alloc::Global;
 
 /// The method of these names, which has a body.
 fn entry_in(world: &World<'_>, names: &MethodNames<'_>) -> Result<MethodRef, DescribeFault>
-    ensures found { IfOk result (λ entry. find_method (classes_of world.now) names.now.class.now names.now.name.now names.now.desc.now ≡ Some entry) }
+    ensures found { IfOk result (λ entry. find_method (classes_of world.now) names.now.class.now names.now.name.now
+        names.now.desc.now ≡ Some entry) }
     ensures body { IfOk result (λ entry. IsTrue (has_body (classes_of world.now) entry)) }
 {
     match world.find(names.class, names.name, names.desc) {

@@ -48,8 +48,10 @@ fn described(alloc: Global, program: &Program<'_>, text: &[u8]) -> Result<DescTe
 
 /// What the text describes fits the program, and leaves no input out.
 fn fitted(alloc: Global, program: &Program<'_>, said: DescText) -> Result<Desc, DescribeFault>
-    ensures described { IfOk result (λ desc. (desc_fault (program_of program.now) said ≡ None) × IsDescribed (program_of program.now) said desc) }
-    ensures whole { IfOk result (λ desc. IsWhole (classes_of program.now.world) (has_receiver (program_of program.now)) (slots_of (program_of program.now)) desc) }
+    ensures described { IfOk result (λ desc. (desc_fault (program_of program.now) said ≡ None)
+        × IsDescribed (program_of program.now) said desc) }
+    ensures whole { IfOk result (λ desc. IsWhole (classes_of program.now.world) (has_receiver (program_of program.now))
+        (slots_of (program_of program.now)) desc) }
 {
     let slots = inputs(alloc, program)?;
     let desc = match Desc::fit(alloc, said, program) {

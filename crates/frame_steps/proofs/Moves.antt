@@ -60,7 +60,7 @@ use Rattle.abs_expand.specs.Switches.{table_keys, lookup_keys}
 use Rattle.abs_expand.specs.Table.{local_here, step_if, one_step, unary, binary, load_plan, store_plan, increment_plan}
 use Rattle.abs_expand.specs.Table.{negation_plan, narrow_plan, switch_plan, number_cell}
 use Rattle.abs_expand.specs.Turns.{with_stack as stack_at, pushes, turn_narrowing, known, id, goes_on, interval_of_id, turns_of, branches}
-use Rattle.abs_expand.proofs.IntTurns.{local_held, set_held, reordered}
+use Rattle.abs_plans.proofs.Holding.{local_held, set_held, reordered}
 use Rattle.turn_fits.proofs.SomeOf.{SomeOf, some_one, some_of_map}
 use Rattle.turn_fits.proofs.Keys.{key_target, lookup_target, table_target}
 use Rattle.form_steps.proofs.Effects.{constant_is, goto_is, sets_is, sets_none, shuffle_is, arith_is, ineg_is, narrow_is, if_is}

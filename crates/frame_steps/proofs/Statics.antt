@@ -40,7 +40,7 @@ use Rattle.abs_expand.specs.Plans.{in_bottom, makes, Turn, Plan, no_child, no_ro
 use Rattle.abs_expand.specs.Table.{step_if, bottom_of, bottom_with, static_local, locals_of_method, getstatic_plan, put_static}
 use Rattle.abs_expand.specs.Table.{putstatic_plan}
 use Rattle.abs_expand.specs.Turns.{moves, goes_on, turn_narrowing, turns_narrowing, interval_of_id, with_stack as stack_at}
-use Rattle.abs_expand.proofs.IntTurns.{set_held}
+use Rattle.abs_plans.proofs.Holding.{set_held}
 use Rattle.turn_fits.proofs.SomeOf.{SomeOf, some_one, some_of_map}
 use Rattle.turn_fits.specs.Laws.{Moved}
 use Rattle.turn_fits.proofs.Tops.{BottomHas, bottom_set, stacked, from_tops}

@@ -11,7 +11,8 @@ use Rattle.frame_types.specs.GrowthLaws.{frame_refl}
 use Rattle.jvm_values.proofs.Options.{some_is}
 
 module _ (types : WorldTypes) (laws : AreLawful types) (max_locals : ℕ) where
-  pub first : (before : Option PlaceTypes) (more new : PlaceTypes) → before ≡ None → new ≡ more → IsProper types max_locals more → IsMerged types max_locals before more new
+  pub first : (before : Option PlaceTypes) (more new : PlaceTypes) → before ≡ None → new ≡ more → IsProper types max_locals more
+      → IsMerged types max_locals before more new
   first before more new n e p = subst (IsMerged types max_locals before more) (sym e) (record {
     proper = p;
     left = λ frame (f : before ≡ Some frame). cc;
@@ -19,7 +20,8 @@ module _ (types : WorldTypes) (laws : AreLawful types) (max_locals : ℕ) where
     least = λ top t old h. h;
   })
 
-  pub merged : (before : Option PlaceTypes) (old more new : PlaceTypes) → before ≡ Some old → IsFrameJoin types max_locals old more new → IsMerged types max_locals before more new
+  pub merged : (before : Option PlaceTypes) (old more new : PlaceTypes) → before ≡ Some old
+      → IsFrameJoin types max_locals old more new → IsMerged types max_locals before more new
   merged before old more new b h = record {
     proper = h.proper;
     left = λ frame f. subst (λ (x : PlaceTypes). IsFrameWithin types x new) (some_is (sym b ∙ f)) h.left;
@@ -27,10 +29,12 @@ module _ (types : WorldTypes) (laws : AreLawful types) (max_locals : ℕ) where
     least = λ top t old_within more_within. h.least top t (old_within old b) more_within;
   }
 
-  pub apart : (before : Option PlaceTypes) (old more : PlaceTypes) → before ≡ Some old → AreFramesApart types max_locals old more → IsApart types max_locals before more
+  pub apart : (before : Option PlaceTypes) (old more : PlaceTypes) → before ≡ Some old → AreFramesApart types max_locals old more
+      → IsApart types max_locals before more
   apart before old more b h top t old_within more_within = h top t (old_within old b) more_within
 
-  pub answered : (coming : Coming) (before : Option PlaceTypes) (old more new : PlaceTypes) → before ≡ Some old → IsMergedAs types max_locals old more new coming → IsComing types max_locals before more (Some new) coming
+  pub answered : (coming : Coming) (before : Option PlaceTypes) (old more new : PlaceTypes) → before ≡ Some old
+      → IsMergedAs types max_locals old more new coming → IsComing types max_locals before more (Some new) coming
   answered comings.Same before old more new b h = (new, (refl, merged before old more new b h.0, ap Some h.1 ∙ sym b))
   answered comings.Grew before old more new b h = (new, (refl, merged before old more new b h.0, λ e. h.1 (some_is (e ∙ b))))
   answered comings.Apart before old more new b h = apart before old more b h

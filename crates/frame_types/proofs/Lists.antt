@@ -9,7 +9,8 @@ get_set_same (x ∷ xs) zero v l = refl
 get_set_same (x ∷ xs) (suc i) v l = get_set_same xs i v (omega arith)
 
 -- what holds of two lists at each place holds place by place
-pub all_zip : {A : Type 0} (R : A → A → Type 0) (d : A) (xs ys : List A) → length ys ≡ length xs → ((k : ℕ) → k < length xs → R (get_or xs k d) (get_or ys k d)) → AllZip R xs ys
+pub all_zip : {A : Type 0} (R : A → A → Type 0) (d : A) (xs ys : List A) → length ys ≡ length xs
+    → ((k : ℕ) → k < length xs → R (get_or xs k d) (get_or ys k d)) → AllZip R xs ys
 all_zip R d [] [] l h = tt
 all_zip R d [] (y ∷ ys) l h = absurd (omega arith)
 all_zip R d (x ∷ xs) [] l h = absurd (omega arith)

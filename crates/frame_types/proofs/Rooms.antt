@@ -1,5 +1,6 @@
 -- Tables with more places.
-use Rattle.std.proofs.Common.{◌≡◌, ℕ, zero, suc, ◌<◌, ◌≤◌, ◌+◌, Bool, false, List, [], ◌∷◌, ◌++◌, length, Option, None, refl, sym, ap, ◌∙◌, arith, length-append}
+use Rattle.std.proofs.Common.{◌≡◌, ℕ, zero, suc, ◌<◌, ◌≤◌, ◌+◌, Bool, false, List, [], ◌∷◌, ◌++◌, length, Option, None, refl, sym}
+use Rattle.std.proofs.Common.{ap, ◌∙◌, arith, length-append}
 use Rattle.jvm_values.specs.declared.typing.FrameType.{FrameType}
 use Rattle.frame_types.specs.declared.table.Table.{Table}
 use Rattle.frame_types.specs.Tables.{types_at}
@@ -13,7 +14,8 @@ none_more [] (suc k) = refl
 none_more (x ∷ xs) zero = refl
 none_more (x ∷ xs) (suc k) = none_more xs k
 
-pub one_more : (old new : Table) → length old.waiting ≡ length old.types → length old.types < 65536 → new ≡ record old { types = old.types ++ None ∷ []; waiting = old.waiting ++ false ∷ [] } → IsRoomier old new
+pub one_more : (old new : Table) → length old.waiting ≡ length old.types → length old.types < 65536
+    → new ≡ record old { types = old.types ++ None ∷ []; waiting = old.waiting ++ false ∷ [] } → IsRoomier old new
 one_more old new even small e =
     let t : new.types ≡ old.types ++ None ∷ [] = ap (λ (x : Table). x.types) e in
     let w : new.waiting ≡ old.waiting ++ false ∷ [] = ap (λ (x : Table). x.waiting) e in

@@ -16,16 +16,21 @@ pub record IsMerged (types : WorldTypes) (max_locals : ℕ) (old : Option PlaceT
   pub proper : IsProper types max_locals new
   pub left : (frame : PlaceTypes) → old ≡ Some frame → IsFrameWithin types frame new
   pub right : IsFrameWithin types more new
-  pub least : (top : PlaceTypes) → IsProper types max_locals top → ((frame : PlaceTypes) → old ≡ Some frame → IsFrameWithin types frame top) → IsFrameWithin types more top → IsFrameWithin types new top
+  pub least : (top : PlaceTypes) → IsProper types max_locals top
+      → ((frame : PlaceTypes) → old ≡ Some frame → IsFrameWithin types frame top) → IsFrameWithin types more top
+      → IsFrameWithin types new top
 
 -- no proper frame is as wide as both
 abbrev pub IsApart : WorldTypes → ℕ → Option PlaceTypes → PlaceTypes → Type 0
-IsApart types max_locals old more = (top : PlaceTypes) → IsProper types max_locals top → ((frame : PlaceTypes) → old ≡ Some frame → IsFrameWithin types frame top) → IsFrameWithin types more top → ⊥
+IsApart types max_locals old more = (top : PlaceTypes) → IsProper types max_locals top
+    → ((frame : PlaceTypes) → old ≡ Some frame → IsFrameWithin types frame top) → IsFrameWithin types more top → ⊥
 
 -- what an entry becomes where a frame comes, by what the call answers: it grows exactly where it is not as before
 abbrev pub IsComing : WorldTypes → ℕ → Option PlaceTypes → PlaceTypes → Option PlaceTypes → Coming → Type 0
-IsComing types max_locals old more new comings.Same = (frame : PlaceTypes) × ((new ≡ Some frame) × IsMerged types max_locals old more frame × (new ≡ old))
-IsComing types max_locals old more new comings.Grew = (frame : PlaceTypes) × ((new ≡ Some frame) × IsMerged types max_locals old more frame × (new ≡ old → ⊥))
+IsComing types max_locals old more new comings.Same = (frame : PlaceTypes)
+    × ((new ≡ Some frame) × IsMerged types max_locals old more frame × (new ≡ old))
+IsComing types max_locals old more new comings.Grew = (frame : PlaceTypes)
+    × ((new ≡ Some frame) × IsMerged types max_locals old more frame × (new ≡ old → ⊥))
 IsComing types max_locals old more new comings.Apart = IsApart types max_locals old more
 
 -- ---- tables
@@ -40,11 +45,13 @@ pub record IsTable (types : WorldTypes) (table : Table) : Type 0 where
   pub even : length table.waiting ≡ length table.types
   pub small : length table.types ≤ 65536
   pub done : (place : ℕ) → place < table.low → waits table.waiting place ≡ false
-  pub frames : (place : ℕ) (frame : PlaceTypes) → types_at table.types place ≡ Some frame → IsFrame types table.max_locals table.max_stack frame
+  pub frames : (place : ℕ) (frame : PlaceTypes) → types_at table.types place ≡ Some frame
+      → IsFrame types table.max_locals table.max_stack frame
 
 -- frames of a method are at all places
 abbrev pub AreFrames : WorldTypes → Table → CodeTypes → Type 0
-AreFrames types table typing = (place : ℕ) (frame : PlaceTypes) → typing place ≡ Some frame → IsFrame types table.max_locals table.max_stack frame
+AreFrames types table typing = (place : ℕ) (frame : PlaceTypes) → typing place ≡ Some frame
+    → IsFrame types table.max_locals table.max_stack frame
 
 -- the place is one that a flow leads to
 abbrev pub is_led_to : List Flow → ℕ → Bool
@@ -58,15 +65,19 @@ pub record IsGrown (types : WorldTypes) (flows : List Flow) (old new : Table) : 
   pub max_stack : new.max_stack ≡ old.max_stack
   pub kept : IsAtMost types (types_at old.types) (types_at new.types)
   pub taken : All (Takes types (types_at new.types)) flows
-  pub least : (other : CodeTypes) → AreFrames types old other → IsAtMost types (types_at old.types) other → All (Takes types other) flows → IsAtMost types (types_at new.types) other
-  pub places : (place : ℕ) (frame : PlaceTypes) → types_at new.types place ≡ Some frame → ((before : PlaceTypes) × (types_at old.types place ≡ Some before)) ⊎ IsTrue (is_led_to flows place)
+  pub least : (other : CodeTypes) → AreFrames types old other → IsAtMost types (types_at old.types) other
+      → All (Takes types other) flows → IsAtMost types (types_at new.types) other
+  pub places : (place : ℕ) (frame : PlaceTypes) → types_at new.types place ≡ Some frame
+      → ((before : PlaceTypes) × (types_at old.types place ≡ Some before)) ⊎ IsTrue (is_led_to flows place)
   pub changes : (place : ℕ) → (types_at new.types place ≡ types_at old.types place) ⊎ IsTrue (waits new.waiting place)
   pub still : (place : ℕ) → IsTrue (waits old.waiting place) → IsTrue (waits new.waiting place)
-  pub begun : (place : ℕ) → IsTrue (waits new.waiting place) → IsTrue (waits old.waiting place) ⊎ (types_at new.types place ≡ types_at old.types place → ⊥)
+  pub begun : (place : ℕ) → IsTrue (waits new.waiting place) → IsTrue (waits old.waiting place)
+      ⊎ (types_at new.types place ≡ types_at old.types place → ⊥)
 
 -- nothing has all that the table has and takes the flows
 abbrev pub AreRefused : WorldTypes → List Flow → Table → Type 0
-AreRefused types flows table = (other : CodeTypes) → AreFrames types table other → IsAtMost types (types_at table.types) other → All (Takes types other) flows → ⊥
+AreRefused types flows table = (other : CodeTypes) → AreFrames types table other → IsAtMost types (types_at table.types) other
+    → All (Takes types other) flows → ⊥
 
 -- the same types, marks and limits; there may be more places without types
 pub record IsRoomier (old new : Table) : Type 0 where

@@ -1,5 +1,6 @@
 -- Laws of wider types and of tables that grow, for the proofs of this crate and of those above it.
-use Rattle.std.proofs.Common.{◌≡◌, ℕ, zero, suc, ◌+◌, ◌||◌, Bool, true, false, List, [], ◌∷◌, ◌++◌, length, get_or, Option, Some, None, inl, inr, refl, sym, ap, subst, ◌∙◌, arith, length-append}
+use Rattle.std.proofs.Common.{◌≡◌, ℕ, zero, suc, ◌+◌, ◌||◌, Bool, true, false, List, [], ◌∷◌, ◌++◌, length, get_or, Option, Some}
+use Rattle.std.proofs.Common.{None, inl, inr, refl, sym, ap, subst, ◌∙◌, arith, length-append}
 use Rattle.std.specs.Prelude.{All, IsTrue, nat_eq}
 use Rattle.std.specs.List.{AllZip, list_any}
 use Rattle.std.proofs.lemmas.List.{get_or_append_left, get_or-append-add}
@@ -49,7 +50,8 @@ zip_with : {A : Type 0} (R : A → A → Type 0) (P : A → Type 0) → ((a : A)
 zip_with R P f [] h = tt
 zip_with R P f (x ∷ xs) h = (f x (h 0 x (omega arith)), zip_with R P f xs (λ k d l. h (suc k) d (omega arith)))
 
-zip_trans : {A : Type 0} (R : A → A → Type 0) → ((a b c : A) → R a b → R b c → R a c) → (xs ys zs : List A) → AllZip R xs ys → AllZip R ys zs → AllZip R xs zs
+zip_trans : {A : Type 0} (R : A → A → Type 0) → ((a b c : A) → R a b → R b c → R a c) → (xs ys zs : List A) → AllZip R xs ys
+    → AllZip R ys zs → AllZip R xs zs
 zip_trans R f [] [] [] p q = tt
 zip_trans R f [] [] (z ∷ zs) p q = absurd q
 zip_trans R f [] (y ∷ ys) zs p q = absurd p
@@ -107,16 +109,25 @@ module _ (types : WorldTypes) (laws : AreLawful types) where
 
   -- ---- flows
 
-  pub takes_more : (typing other : CodeTypes) → IsAtMost types typing other → (flow : Flow) → Takes types typing flow → Takes types other flow
+  pub takes_more : (typing other : CodeTypes) → IsAtMost types typing other → (flow : Flow) → Takes types typing flow
+      → Takes types other flow
   takes_more typing other h flow t =
       let u = h flow.to t.there t.is_there in
       record { there = u.there; is_there = u.is_there; wide = frame_trans flow.frame t.there u.there t.wide u.wide }
 
   -- a narrower frame is taken where a wider one is
-  pub takes_narrower : (typing : CodeTypes) (to : ℕ) (narrow wide : PlaceTypes) → IsFrameWithin types narrow wide → Takes types typing (record { to = to; frame = wide }) → Takes types typing (record { to = to; frame = narrow })
-  takes_narrower typing to narrow wide h t = record { there = t.there; is_there = t.is_there; wide = frame_trans narrow wide t.there h t.wide }
+  pub takes_narrower : (typing : CodeTypes) (to : ℕ) (narrow wide : PlaceTypes) → IsFrameWithin types narrow wide
+      → Takes types typing (record { to = to; frame = wide }) → Takes types typing (record { to = to; frame = narrow })
+  takes_narrower typing to narrow wide h t = record {
+    there = t.there;
+    is_there = t.is_there;
+    wide = frame_trans narrow wide t.there
+        h t.wide;
+  }
 
-  pub at_most_itself : (max_locals max_stack : ℕ) (typing : CodeTypes) → ((place : ℕ) (frame : PlaceTypes) → typing place ≡ Some frame → IsFrame types max_locals max_stack frame) → IsAtMost types typing typing
+  pub at_most_itself : (max_locals max_stack : ℕ) (typing : CodeTypes)
+      → ((place : ℕ) (frame : PlaceTypes) → typing place ≡ Some frame → IsFrame types max_locals max_stack frame)
+      → IsAtMost types typing typing
   at_most_itself max_locals max_stack typing frames place frame e =
       record { there = frame; is_there = e; wide = frame_refl max_locals frame (frames place frame e).proper }
 
@@ -126,7 +137,8 @@ module _ (types : WorldTypes) (laws : AreLawful types) where
   -- ---- growth
 
   -- a table that takes the flows need not grow
-  pub grown_taken : (flows : List Flow) (table : Table) → IsTable types table → All (Takes types (types_at table.types)) flows → IsGrown types flows table table
+  pub grown_taken : (flows : List Flow) (table : Table) → IsTable types table → All (Takes types (types_at table.types)) flows
+      → IsGrown types flows table table
   grown_taken flows table h t = record {
     table = h;
     max_locals = refl;
@@ -144,7 +156,8 @@ module _ (types : WorldTypes) (laws : AreLawful types) where
   grown_none table h = grown_taken [] table h (λ k d l. absurd (omega arith))
 
   -- what has grown does not come back
-  pub grown_on : (a b c : CodeTypes) → IsAtMost types a b → IsAtMost types b c → (place : ℕ) → (x y : Option PlaceTypes) → a place ≡ x → b place ≡ y → c place ≡ x → y ≡ x
+  pub grown_on : (a b c : CodeTypes) → IsAtMost types a b → IsAtMost types b c → (place : ℕ) → (x y : Option PlaceTypes)
+      → a place ≡ x → b place ≡ y → c place ≡ x → y ≡ x
   grown_on a b c p q place None None e f g = refl
   grown_on a b c p q place (Some before) None e f g = let t = p place before e in absurd (none-some t.there (sym f ∙ t.is_there))
   grown_on a b c p q place None (Some frame) e f g = let t = q place frame f in absurd (none-some t.there (sym g ∙ t.is_there))
@@ -153,9 +166,11 @@ module _ (types : WorldTypes) (laws : AreLawful types) where
       let u = q place frame f in
       let same : t.there ≡ frame = some_is (sym t.is_there ∙ f) in
       let back : u.there ≡ before = some_is (sym u.is_there ∙ g) in
-      ap Some (sym (frame_antisym types laws before frame (subst (IsFrameWithin types before) same t.wide) (subst (IsFrameWithin types frame) back u.wide)))
+      ap Some (sym (frame_antisym types laws before frame (subst (IsFrameWithin types before) same t.wide)
+      (subst (IsFrameWithin types frame) back u.wide)))
 
-  other_frames : (a b : Table) → b.max_locals ≡ a.max_locals → b.max_stack ≡ a.max_stack → (other : CodeTypes) → AreFrames types a other → AreFrames types b other
+  other_frames : (a b : Table) → b.max_locals ≡ a.max_locals → b.max_stack ≡ a.max_stack → (other : CodeTypes)
+      → AreFrames types a other → AreFrames types b other
   other_frames a b e f other h place frame g =
       let h2 : IsFrame types b.max_locals a.max_stack frame = subst (λ n. IsFrame types n a.max_stack frame) (sym e) (h place frame g) in
       subst (λ n. IsFrame types b.max_locals n frame) (sym f) h2
@@ -167,7 +182,8 @@ module _ (types : WorldTypes) (laws : AreLawful types) where
     max_stack = q.max_stack ∙ p.max_stack;
     kept = at_most_trans (types_at a.types) (types_at b.types) (types_at c.types) p.kept q.kept;
     taken = All-append (Takes types (types_at c.types)) fs gs
-        (all_map (Takes types (types_at b.types)) (Takes types (types_at c.types)) fs (takes_more (types_at b.types) (types_at c.types) q.kept) p.taken)
+        (all_map (Takes types (types_at b.types)) (Takes types (types_at c.types)) fs
+        (takes_more (types_at b.types) (types_at c.types) q.kept) p.taken)
         q.taken;
     least = λ other frames below all.
         q.least other (other_frames a b p.max_locals p.max_stack other frames)
@@ -185,9 +201,12 @@ module _ (types : WorldTypes) (laws : AreLawful types) where
     begun = λ place w. elim (q.begun place w) [
       | inl v ↦ elim (p.begun place v) [
         | inl u ↦ inl u
-        | inr h ↦ inr (λ e. h (grown_on (types_at a.types) (types_at b.types) (types_at c.types) p.kept q.kept place (types_at a.types place) (types_at b.types place) refl refl e))
+        | inr h ↦ inr (λ e. h (grown_on (types_at a.types) (types_at b.types) (types_at c.types) p.kept q.kept place
+            (types_at a.types place) (types_at b.types place) refl refl e))
       ]
-      | inr h ↦ inr (λ e. h (e ∙ sym (grown_on (types_at a.types) (types_at b.types) (types_at c.types) p.kept q.kept place (types_at a.types place) (types_at b.types place) refl refl e)))
+      | inr h ↦ inr (λ e. h
+          (e ∙ sym (grown_on (types_at a.types) (types_at b.types) (types_at c.types) p.kept q.kept place (types_at a.types place)
+          (types_at b.types place) refl refl e)))
     ];
   }
 

@@ -1,5 +1,6 @@
 -- Laws of heights: types that grow come nearer to the widest ones.
-use Rattle.std.proofs.Common.{◌≡◌, ℕ, zero, suc, ◌+◌, ◌<◌, ◌≤◌, Bool, true, false, cond, List, [], ◌∷◌, ◌++◌, length, map, ◌⊎◌, inl, inr, refl, sym, ap, subst, ◌∙◌, arith}
+use Rattle.std.proofs.Common.{◌≡◌, ℕ, zero, suc, ◌+◌, ◌<◌, ◌≤◌, Bool, true, false, cond, List, [], ◌∷◌, ◌++◌, length, map, ◌⊎◌, inl}
+use Rattle.std.proofs.Common.{inr, refl, sym, ap, subst, ◌∙◌, arith}
 use Rattle.std.specs.Prelude.{IsTrue}
 use Rattle.std.specs.List.{AllZip}
 use Rattle.std.proofs.lemmas.Bool.{false≢true, cases_lt}
@@ -81,12 +82,15 @@ count_up p q [] h = omega arith
 count_up p q (x ∷ xs) h =
     add_up (one_or_none (p x)) (one_or_none (q x)) (count p xs) (count q xs) (less_of (p x) (q x) (h x)) (count_up p q xs h)
 
-count_fewer : {A : Type 0} (p q : A → Bool) (y : A) (xs : List A) → ((x : A) → IsTrue (p x) → IsTrue (q x)) → Among y xs → p y ≡ false → IsTrue (q y) → count p xs < count q xs
+count_fewer : {A : Type 0} (p q : A → Bool) (y : A) (xs : List A) → ((x : A) → IsTrue (p x) → IsTrue (q x)) → Among y xs
+    → p y ≡ false → IsTrue (q y) → count p xs < count q xs
 count_fewer p q y [] h m e t = absurd m
 count_fewer p q y (x ∷ xs) h (inl s) e t =
-    add_less (one_or_none (p x)) (one_or_none (q x)) (count p xs) (count q xs) (fewer_of (p x) (q x) (ap p (sym s) ∙ e) (ap q (sym s) ∙ t)) (count_up p q xs h)
+    add_less (one_or_none (p x)) (one_or_none (q x)) (count p xs) (count q xs)
+    (fewer_of (p x) (q x) (ap p (sym s) ∙ e) (ap q (sym s) ∙ t)) (count_up p q xs h)
 count_fewer p q y (x ∷ xs) h (inr m) e t =
-    add_up_less (one_or_none (p x)) (one_or_none (q x)) (count p xs) (count q xs) (less_of (p x) (q x) (h x)) (count_fewer p q y xs h m e t)
+    add_up_less (one_or_none (p x)) (one_or_none (q x)) (count p xs) (count q xs) (less_of (p x) (q x) (h x))
+    (count_fewer p q y xs h m e t)
 
 count_most : {A : Type 0} (p : A → Bool) (xs : List A) → count p xs ≤ length xs
 count_most p [] = omega arith
@@ -140,7 +144,8 @@ module _ (types : WorldTypes) (laws : AreLawful types) where
 
   fewer_above : (s t : Ty) → IsTrue (types.sub s t) → types.sub t s ≡ false → height types t < height types s
   unfolding height
-  fewer_above s t h e = count_fewer (types.sub t) (types.sub s) s (all_types types) (λ x k. laws.transitive s t x h k) (among_all types s (laws.of_world s t h).0) e (laws.reflexive s (laws.of_world s t h).0)
+  fewer_above s t h e = count_fewer (types.sub t) (types.sub s) s (all_types types) (λ x k. laws.transitive s t x h k)
+      (among_all types s (laws.of_world s t h).0) e (laws.reflexive s (laws.of_world s t h).0)
 
   pub higher : (s t : Ty) → IsTrue (types.sub s t) → (s ≡ t) ⊎ (height types t < height types s)
   higher s t h = elim (below_or_not (types.sub t s)) [
@@ -158,7 +163,8 @@ module _ (types : WorldTypes) (laws : AreLawful types) where
   rank_most places.Null = omega arith
   rank_most (places.Ref t) = let h = height_most t in omega (arith, h)
 
-  ref_rank : (s t : Ty) → (s ≡ t) ⊎ (height types t < height types s) → (places.Ref s ≡ places.Ref t) ⊎ (rank types (places.Ref t) < rank types (places.Ref s))
+  ref_rank : (s t : Ty) → (s ≡ t) ⊎ (height types t < height types s) → (places.Ref s ≡ places.Ref t)
+      ⊎ (rank types (places.Ref t) < rank types (places.Ref s))
   ref_rank s t (inl e) = inl (ap places.Ref e)
   ref_rank s t (inr l) = inr (omega (arith, l))
 
@@ -181,11 +187,17 @@ module _ (types : WorldTypes) (laws : AreLawful types) where
   lower_rank (places.Ref s) places.Null h = absurd h
 
   -- the same of lists, place by place
-  both_lower : (a b : PlaceType) (xs bs : List PlaceType) → (a ≡ b) ⊎ (rank types b < rank types a) → (xs ≡ bs) ⊎ (ranks types bs < ranks types xs) → (a ∷ xs ≡ b ∷ bs) ⊎ (ranks types (b ∷ bs) < ranks types (a ∷ xs))
+  both_lower : (a b : PlaceType) (xs bs : List PlaceType) → (a ≡ b) ⊎ (rank types b < rank types a)
+      → (xs ≡ bs) ⊎ (ranks types bs < ranks types xs) → (a ∷ xs ≡ b ∷ bs) ⊎ (ranks types (b ∷ bs) < ranks types (a ∷ xs))
   both_lower a b xs bs (inl e) (inl f) = inl (ap (λ (x : PlaceType). x ∷ xs) e ∙ ap (λ (xs : List PlaceType). b ∷ xs) f)
-  both_lower a b xs bs (inl e) (inr l) = inr (add_up_less (rank types b) (rank types a) (ranks types bs) (ranks types xs) (same_up (rank types a) (rank types b) (ap (rank types) e)) l)
-  both_lower a b xs bs (inr l) (inl f) = inr (add_less (rank types b) (rank types a) (ranks types bs) (ranks types xs) l (same_up (ranks types xs) (ranks types bs) (ap (ranks types) f)))
-  both_lower a b xs bs (inr l) (inr m) = inr (add_less (rank types b) (rank types a) (ranks types bs) (ranks types xs) l (less_up (ranks types bs) (ranks types xs) m))
+  both_lower a b xs bs (inl e) (inr l) = inr
+      (add_up_less (rank types b) (rank types a) (ranks types bs) (ranks types xs)
+      (same_up (rank types a) (rank types b) (ap (rank types) e)) l)
+  both_lower a b xs bs (inr l) (inl f) = inr
+      (add_less (rank types b) (rank types a) (ranks types bs) (ranks types xs) l
+      (same_up (ranks types xs) (ranks types bs) (ap (ranks types) f)))
+  both_lower a b xs bs (inr l) (inr m) = inr
+      (add_less (rank types b) (rank types a) (ranks types bs) (ranks types xs) l (less_up (ranks types bs) (ranks types xs) m))
 
   pub lower_ranks : (xs bs : List PlaceType) → AllZip (IsWithin types) xs bs → (xs ≡ bs) ⊎ (ranks types bs < ranks types xs)
   lower_ranks [] [] h = inl refl
@@ -196,21 +208,28 @@ module _ (types : WorldTypes) (laws : AreLawful types) where
   pub ranks_most : (n : ℕ) (xs : List PlaceType) → length xs ≤ n → ranks types xs ≤ most types n
   ranks_most n [] l = omega arith
   ranks_most zero (a ∷ xs) l = absurd (omega arith)
-  ranks_most (suc n) (a ∷ xs) l = add_up (rank types a) (length (all_types types) + 2) (ranks types xs) (most types n) (rank_most a) (ranks_most n xs (omega arith))
+  ranks_most (suc n) (a ∷ xs) l = add_up (rank types a) (length (all_types types) + 2) (ranks types xs) (most types n) (rank_most a)
+      (ranks_most n xs (omega arith))
 
   -- ---- frames
 
   abbrev frame_rank : PlaceTypes → ℕ
   frame_rank f = ranks types f.locals + ranks types f.stack
 
-  both_same : (f g : PlaceTypes) → (f.locals ≡ g.locals) ⊎ (ranks types g.locals < ranks types f.locals) → (f.stack ≡ g.stack) ⊎ (ranks types g.stack < ranks types f.stack) → (f ≡ g) ⊎ (frame_rank g < frame_rank f)
+  both_same : (f g : PlaceTypes) → (f.locals ≡ g.locals) ⊎ (ranks types g.locals < ranks types f.locals)
+      → (f.stack ≡ g.stack) ⊎ (ranks types g.stack < ranks types f.stack) → (f ≡ g) ⊎ (frame_rank g < frame_rank f)
   both_same f g (inl p) (inl q) =
       let a : List PlaceType → PlaceTypes = λ xs. record { locals = xs; stack = f.stack } in
       let b : List PlaceType → PlaceTypes = λ xs. record { locals = g.locals; stack = xs } in
       inl (ap a p ∙ ap b q)
-  both_same f g (inl p) (inr l) = inr (add_up_less (ranks types g.locals) (ranks types f.locals) (ranks types g.stack) (ranks types f.stack) (same_up (ranks types f.locals) (ranks types g.locals) (ap (ranks types) p)) l)
-  both_same f g (inr l) (inl q) = inr (add_less (ranks types g.locals) (ranks types f.locals) (ranks types g.stack) (ranks types f.stack) l (same_up (ranks types f.stack) (ranks types g.stack) (ap (ranks types) q)))
-  both_same f g (inr l) (inr m) = inr (add_less (ranks types g.locals) (ranks types f.locals) (ranks types g.stack) (ranks types f.stack) l (less_up (ranks types g.stack) (ranks types f.stack) m))
+  both_same f g (inl p) (inr l) = inr (add_up_less (ranks types g.locals) (ranks types f.locals) (ranks types g.stack)
+      (ranks types f.stack) (same_up (ranks types f.locals) (ranks types g.locals) (ap (ranks types) p)) l)
+  both_same f g (inr l) (inl q) = inr
+      (add_less (ranks types g.locals) (ranks types f.locals) (ranks types g.stack) (ranks types f.stack) l
+      (same_up (ranks types f.stack) (ranks types g.stack) (ap (ranks types) q)))
+  both_same f g (inr l) (inr m) = inr
+      (add_less (ranks types g.locals) (ranks types f.locals) (ranks types g.stack) (ranks types f.stack) l
+      (less_up (ranks types g.stack) (ranks types f.stack) m))
 
   pub lower_frame : (f g : PlaceTypes) → IsFrameWithin types f g → (f ≡ g) ⊎ (frame_rank g < frame_rank f)
   lower_frame f g h = both_same f g (lower_ranks f.locals g.locals h.locals) (lower_ranks f.stack g.stack h.stack)

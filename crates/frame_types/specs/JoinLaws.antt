@@ -65,7 +65,8 @@ module _ (types : WorldTypes) (laws : AreLawful types) where
       let ru = (laws.of_world s u k.left).1 in
       elim (laws.chain s c u h.left k.left (is_erased c rc h.erased) (is_erased u ru k.erased)) [
         | inl l ↦ l
-        | inr l ↦ absurd (false≢true (sym e ∙ all_true (types.sub s u) (types.sub t u) (types.sub (types.erase u) u) (types.sub u c) k.left k.right k.erased l))
+        | inr l ↦ absurd (false≢true (sym e ∙ all_true (types.sub s u) (types.sub t u) (types.sub (types.erase u) u) (types.sub u c)
+            k.left k.right k.erased l))
       ]
 
   least_upper : (s t : Ty) (found : List Ty) (c : Ty) → IsUpper s t c → (best : Ty) × IsLeastUpper s t found c best
@@ -105,18 +106,22 @@ module _ (types : WorldTypes) (laws : AreLawful types) where
       record {
         left = up;
         right = laws.object_on_top t q;
-        erased = laws.object_on_top (types.erase object_type) (laws.of_world object_type (types.erase object_type) (laws.erase_up object_type o)).1;
+        erased = laws.object_on_top (types.erase object_type)
+            (laws.of_world object_type (types.erase object_type) (laws.erase_up object_type o)).1;
       }
 
   -- ---- places
 
-  least_ref : (s t best : Ty) → IsLeastUpper s t (all_types types) object_type best → (top : PlaceType) → IsOfWorld types top → IsWithin types (places.Ref s) top → IsWithin types (places.Ref t) top → IsWithin types (places.Ref best) top
+  least_ref : (s t best : Ty) → IsLeastUpper s t (all_types types) object_type best → (top : PlaceType) → IsOfWorld types top
+      → IsWithin types (places.Ref s) top → IsWithin types (places.Ref t) top → IsWithin types (places.Ref best) top
   least_ref s t best h places.Unset o a b = tt
   least_ref s t best h places.Int o a b = absurd a
   least_ref s t best h places.Null o a b = absurd a
-  least_ref s t best h (places.Ref u) o a b = h.least u (among_all types u o.0) (record { left = a; right = b; erased = subst (λ (x : Ty). IsTrue (types.sub x u)) (sym o.1) (laws.reflexive u o.0) })
+  least_ref s t best h (places.Ref u) o a b = h.least u (among_all types u o.0)
+      (record { left = a; right = b; erased = subst (λ (x : Ty). IsTrue (types.sub x u)) (sym o.1) (laws.reflexive u o.0) })
 
-  ref_join : (s t : Ty) → IsReference types.classes s → IsReference types.classes t → (join : PlaceType) × IsPlaceJoin types (places.Ref s) (places.Ref t) join
+  ref_join : (s t : Ty) → IsReference types.classes s → IsReference types.classes t
+      → (join : PlaceType) × IsPlaceJoin types (places.Ref s) (places.Ref t) join
   ref_join s t r q =
       let b = least_upper s t (all_types types) object_type (object_upper s t r q) in
       let of = (laws.of_world s b.0 b.1.upper.left).1 in (
@@ -141,13 +146,15 @@ module _ (types : WorldTypes) (laws : AreLawful types) where
   int_and_null places.Null p q = absurd p
   int_and_null (places.Ref u) p q = absurd p
 
-  int_and_ref : (t : Ty) (top : PlaceType) → IsWithin types places.Int top → IsWithin types (places.Ref t) top → IsWithin types places.Unset top
+  int_and_ref : (t : Ty) (top : PlaceType) → IsWithin types places.Int top → IsWithin types (places.Ref t) top
+      → IsWithin types places.Unset top
   int_and_ref t places.Unset p q = tt
   int_and_ref t places.Int p q = absurd q
   int_and_ref t places.Null p q = absurd p
   int_and_ref t (places.Ref u) p q = absurd p
 
-  nothing : (a b : PlaceType) → ((top : PlaceType) → IsWithin types a top → IsWithin types b top → IsWithin types places.Unset top) → IsPlaceJoin types a b places.Unset
+  nothing : (a b : PlaceType) → ((top : PlaceType) → IsWithin types a top → IsWithin types b top → IsWithin types places.Unset top)
+      → IsPlaceJoin types a b places.Unset
   nothing a b h = record { left = tt; right = tt; of_world = tt; least = λ top t p q. h top p q }
 
   pub join_exists : (a b : PlaceType) → IsOfWorld types a → IsOfWorld types b → (join : PlaceType) × IsPlaceJoin types a b join
@@ -171,14 +178,18 @@ module _ (types : WorldTypes) (laws : AreLawful types) where
     left : AllZip (IsWithin types) xs js
     right : AllZip (IsWithin types) bs js
     of_world : All (IsOfWorld types) js
-    least : (top : List PlaceType) → All (IsOfWorld types) top → AllZip (IsWithin types) xs top → AllZip (IsWithin types) bs top → AllZip (IsWithin types) js top
+    least : (top : List PlaceType) → All (IsOfWorld types) top → AllZip (IsWithin types) xs top → AllZip (IsWithin types) bs top
+        → AllZip (IsWithin types) js top
 
-  least_cons : (a b j : PlaceType) (xs bs js : List PlaceType) → IsPlaceJoin types a b j → IsListJoin xs bs js → (top : List PlaceType) → All (IsOfWorld types) top → AllZip (IsWithin types) (a ∷ xs) top → AllZip (IsWithin types) (b ∷ bs) top → AllZip (IsWithin types) (j ∷ js) top
+  least_cons : (a b j : PlaceType) (xs bs js : List PlaceType) → IsPlaceJoin types a b j → IsListJoin xs bs js
+      → (top : List PlaceType) → All (IsOfWorld types) top → AllZip (IsWithin types) (a ∷ xs) top
+      → AllZip (IsWithin types) (b ∷ bs) top → AllZip (IsWithin types) (j ∷ js) top
   least_cons a b j xs bs js h r [] o p q = absurd p
   least_cons a b j xs bs js h r (t ∷ top) o p q =
       (h.least t (All-head (IsOfWorld types) t top o) p.0 q.0, r.least top (All-tail (IsOfWorld types) t top o) p.1 q.1)
 
-  list_join : (xs bs : List PlaceType) → length xs ≡ length bs → All (IsOfWorld types) xs → All (IsOfWorld types) bs → (js : List PlaceType) × IsListJoin xs bs js
+  list_join : (xs bs : List PlaceType) → length xs ≡ length bs → All (IsOfWorld types) xs → All (IsOfWorld types) bs
+      → (js : List PlaceType) × IsListJoin xs bs js
   list_join [] [] l p q = ([], record { left = tt; right = tt; of_world = All-nil (IsOfWorld types); least = λ top o a b. a })
   list_join [] (b ∷ bs) l p q = absurd (omega (arith, l))
   list_join (a ∷ xs) [] l p q = absurd (omega (arith, l))
@@ -209,12 +220,16 @@ module _ (types : WorldTypes) (laws : AreLawful types) where
   all_set_under [] [] h s = All-nil IsSet
   all_set_under [] (b ∷ bs) h s = absurd h
   all_set_under (a ∷ xs) [] h s = absurd h
-  all_set_under (a ∷ xs) (b ∷ bs) h s = All-cons IsSet a xs (set_under a b h.0 (All-head IsSet b bs s)) (all_set_under xs bs h.1 (All-tail IsSet b bs s))
+  all_set_under (a ∷ xs) (b ∷ bs) h s = All-cons IsSet a xs (set_under a b h.0 (All-head IsSet b bs s))
+      (all_set_under xs bs h.1 (All-tail IsSet b bs s))
 
   -- two frames that one frame is as wide as have a least such one
-  pub frame_join : (max_locals : ℕ) (old more top : PlaceTypes) → IsProper types max_locals old → IsProper types max_locals more → IsProper types max_locals top → IsFrameWithin types old top → IsFrameWithin types more top → (new : PlaceTypes) × IsFrameJoin types max_locals old more new
+  pub frame_join : (max_locals : ℕ) (old more top : PlaceTypes) → IsProper types max_locals old → IsProper types max_locals more
+      → IsProper types max_locals top → IsFrameWithin types old top → IsFrameWithin types more top
+      → (new : PlaceTypes) × IsFrameJoin types max_locals old more new
   frame_join max_locals old more top p q t a b =
-      let depth = length_all_zip (IsWithin types) old.stack top.stack a.stack ∙ sym (length_all_zip (IsWithin types) more.stack top.stack b.stack) in
+      let depth = length_all_zip (IsWithin types) old.stack top.stack a.stack
+      ∙ sym (length_all_zip (IsWithin types) more.stack top.stack b.stack) in
       let l = list_join old.locals more.locals (p.count ∙ sym q.count) p.locals q.locals in
       let s = list_join old.stack more.stack depth p.stack q.stack in (
         record { locals = l.0; stack = s.0 },
@@ -227,6 +242,10 @@ module _ (types : WorldTypes) (laws : AreLawful types) where
           };
           left = record { locals = l.1.left; stack = s.1.left };
           right = record { locals = l.1.right; stack = s.1.right };
-          least = λ above h x y. record { locals = l.1.least above.locals h.locals x.locals y.locals; stack = s.1.least above.stack h.stack x.stack y.stack };
+          least = λ above h x y. record {
+            locals = l.1.least above.locals h.locals x.locals y.locals;
+            stack = s.1.least above.stack
+                h.stack x.stack y.stack;
+          };
         },
       )

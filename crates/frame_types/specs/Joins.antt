@@ -19,7 +19,8 @@ pub record IsPlaceJoin (types : WorldTypes) (a b join : PlaceType) : Type 0 wher
 -- the same of the first so many places of three lists; the others are those of the first list
 pub record AreJoinsBelow (types : WorldTypes) (count : ℕ) (old more new : List PlaceType) : Type 0 where
   pub long : length new ≡ length old
-  pub joins : (k : ℕ) → k < count → IsPlaceJoin types (slice_index_or old k places.Unset) (slice_index_or more k places.Unset) (slice_index_or new k places.Unset)
+  pub joins : (k : ℕ) → k < count → IsPlaceJoin types (slice_index_or old k places.Unset) (slice_index_or more k places.Unset)
+      (slice_index_or new k places.Unset)
   pub others : (k : ℕ) → count ≤ k → slice_index_or new k places.Unset ≡ slice_index_or old k places.Unset
 
 -- the same of all places
@@ -28,18 +29,21 @@ AreJoins types old more new = AreJoinsBelow types (length old) old more new
 
 -- no set types of the world are as wide as both lists
 abbrev pub AreApart : WorldTypes → List PlaceType → List PlaceType → Type 0
-AreApart types old more = (top : List PlaceType) → All IsSet top → All (IsOfWorld types) top → AllZip (IsWithin types) old top → AllZip (IsWithin types) more top → ⊥
+AreApart types old more = (top : List PlaceType) → All IsSet top → All (IsOfWorld types) top → AllZip (IsWithin types) old top
+    → AllZip (IsWithin types) more top → ⊥
 
 -- the least proper frame that is as wide as two
 pub record IsFrameJoin (types : WorldTypes) (max_locals : ℕ) (old more new : PlaceTypes) : Type 0 where
   pub proper : IsProper types max_locals new
   pub left : IsFrameWithin types old new
   pub right : IsFrameWithin types more new
-  pub least : (top : PlaceTypes) → IsProper types max_locals top → IsFrameWithin types old top → IsFrameWithin types more top → IsFrameWithin types new top
+  pub least : (top : PlaceTypes) → IsProper types max_locals top → IsFrameWithin types old top → IsFrameWithin types more top
+      → IsFrameWithin types new top
 
 -- no proper frame is as wide as both
 abbrev pub AreFramesApart : WorldTypes → ℕ → PlaceTypes → PlaceTypes → Type 0
-AreFramesApart types max_locals old more = (top : PlaceTypes) → IsProper types max_locals top → IsFrameWithin types old top → IsFrameWithin types more top → ⊥
+AreFramesApart types max_locals old more = (top : PlaceTypes) → IsProper types max_locals top → IsFrameWithin types old top
+    → IsFrameWithin types more top → ⊥
 
 -- what a frame becomes where another comes, by what the call answers: it grows exactly where it is not as before
 abbrev pub IsMergedAs : WorldTypes → ℕ → PlaceTypes → PlaceTypes → PlaceTypes → Coming → Type 0

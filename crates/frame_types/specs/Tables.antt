@@ -23,7 +23,8 @@ pub record Takes (types : WorldTypes) (typing : CodeTypes) (flow : Flow) : Type 
 
 -- Each place of the first is a place of the second, with types at most as wide.
 abbrev pub IsAtMost : WorldTypes → CodeTypes → CodeTypes → Type 0
-IsAtMost types typing other = (place : ℕ) (frame : PlaceTypes) → typing place ≡ Some frame → Takes types other (record { to = place; frame = frame })
+IsAtMost types typing other = (place : ℕ) (frame : PlaceTypes) → typing place ≡ Some frame
+    → Takes types other (record { to = place; frame = frame })
 
 -- the types at a place of a list by places
 abbrev pub types_at : List (Option FrameType) → CodeTypes

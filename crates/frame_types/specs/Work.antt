@@ -21,7 +21,8 @@ mark waiting = if waiting then 1 else 0
 
 -- a place can still grow so often, and then waits
 abbrev pub work_at : WorldTypes → Table → ℕ → ℕ
-work_at types table place = 2 * way_up types table.max_locals table.max_stack (types_at table.types place) + mark (waits table.waiting place)
+work_at types table place = 2 * way_up types table.max_locals table.max_stack (types_at table.types place) + mark
+    (waits table.waiting place)
 
 -- the work that is left in a table: each look at a waiting place takes some of it
 unfoldable pub work_left : WorldTypes → Table → ℕ

@@ -1,5 +1,6 @@
 -- A table that grows has less work left.
-use Rattle.std.proofs.Common.{◌≡◌, ℕ, zero, suc, ◌+◌, ◌*◌, ◌<◌, ◌≤◌, Bool, true, false, List, [], ◌∷◌, length, Option, Some, None, ◌⊎◌, inl, inr, refl, sym, ap, subst, ◌∙◌, arith}
+use Rattle.std.proofs.Common.{◌≡◌, ℕ, zero, suc, ◌+◌, ◌*◌, ◌<◌, ◌≤◌, Bool, true, false, List, [], ◌∷◌, length, Option, Some, None}
+use Rattle.std.proofs.Common.{◌⊎◌, inl, inr, refl, sym, ap, subst, ◌∙◌, arith}
 use Rattle.std.specs.Prelude.{IsTrue, slice_set}
 use Rattle.std.proofs.lemmas.Bool.{false≢true, cases_lt}
 use Rattle.jvm_values.specs.States.{PlaceTypes}
@@ -74,7 +75,8 @@ fall : (a b c d : ℕ) → a ≤ b → b ≡ c → c < d → a < d
 fall a b c d l e k = omega arith
 
 module _ (types : WorldTypes) (laws : AreLawful types) where
-  pub frame_way : (max_locals max_stack : ℕ) (frame : PlaceTypes) → IsFrame types max_locals max_stack frame → way_up types max_locals max_stack (Some frame) < way_up types max_locals max_stack None
+  pub frame_way : (max_locals max_stack : ℕ) (frame : PlaceTypes) → IsFrame types max_locals max_stack frame
+      → way_up types max_locals max_stack (Some frame) < way_up types max_locals max_stack None
   frame_way max_locals max_stack frame h =
       let c = h.proper.count in
       less_than_most (ranks types frame.locals) (most types max_locals) (ranks types frame.stack) (most types max_stack)
@@ -82,14 +84,18 @@ module _ (types : WorldTypes) (laws : AreLawful types) where
       (ranks_most types laws max_stack frame.stack h.depth)
 
   -- types that grow come nearer to the widest ones
-  pub way_down : (max_locals max_stack : ℕ) (old new : Option PlaceTypes) → ((frame : PlaceTypes) → new ≡ Some frame → IsFrame types max_locals max_stack frame) → ((frame : PlaceTypes) → old ≡ Some frame → Takes types (λ place. new) (record { to = 0; frame = frame })) → (old ≡ new) ⊎ (way_up types max_locals max_stack new < way_up types max_locals max_stack old)
+  pub way_down : (max_locals max_stack : ℕ) (old new : Option PlaceTypes)
+      → ((frame : PlaceTypes) → new ≡ Some frame → IsFrame types max_locals max_stack frame)
+      → ((frame : PlaceTypes) → old ≡ Some frame → Takes types (λ place. new) (record { to = 0; frame = frame }))
+      → (old ≡ new) ⊎ (way_up types max_locals max_stack new < way_up types max_locals max_stack old)
   way_down max_locals max_stack None None frames kept = inl refl
   way_down max_locals max_stack None (Some frame) frames kept = inr (frame_way max_locals max_stack frame (frames frame refl))
   way_down max_locals max_stack (Some before) new frames kept =
       let k = kept before refl in
       elim (lower_frame types laws before k.there k.wide) [
         | inl e ↦ inl (ap Some e ∙ sym k.is_there)
-        | inr l ↦ inr (subst (λ (x : Option PlaceTypes). way_up types max_locals max_stack x < way_up types max_locals max_stack (Some before)) (sym k.is_there) l)
+        | inr l ↦ inr (subst (λ (x : Option PlaceTypes). way_up types max_locals max_stack x < way_up types max_locals max_stack
+            (Some before)) (sym k.is_there) l)
       ]
 
   -- ---- tables
@@ -97,18 +103,23 @@ module _ (types : WorldTypes) (laws : AreLawful types) where
   same_limits : (a b c d : ℕ) (found : Option PlaceTypes) → a ≡ b → c ≡ d → way_up types a c found ≡ way_up types b d found
   same_limits a b c d found e f = ap (λ (n : ℕ). way_up types n c found) e ∙ ap (λ (n : ℕ). way_up types b n found) f
 
-  grown_at : (flows : List Flow) (old new : Table) → IsGrown types flows old new → (place : ℕ) → work_at types new place ≤ work_at types old place
+  grown_at : (flows : List Flow) (old new : Table) → IsGrown types flows old new → (place : ℕ)
+      → work_at types new place ≤ work_at types old place
   grown_at flows old new h place =
       let was = types_at old.types place in
       let now = types_at new.types place in
       let limits = same_limits new.max_locals old.max_locals new.max_stack old.max_stack was h.max_locals h.max_stack in
-      elim (way_down new.max_locals new.max_stack was now (h.table.frames place) (λ frame e. let t = h.kept place frame e in record { there = t.there; is_there = t.is_there; wide = t.wide })) [
+      elim (way_down new.max_locals new.max_stack was now (h.table.frames place)
+      (λ frame e. let t = h.kept place frame e in record { there = t.there; is_there = t.is_there; wide = t.wide })) [
         | inl e ↦
-            sum_at (way_up types new.max_locals new.max_stack now) (way_up types new.max_locals new.max_stack was) (way_up types old.max_locals old.max_stack was) (mark (waits new.waiting place)) (mark (waits old.waiting place))
+            sum_at (way_up types new.max_locals new.max_stack now) (way_up types new.max_locals new.max_stack was)
+            (way_up types old.max_locals old.max_stack was) (mark (waits new.waiting place)) (mark (waits old.waiting place))
             (sym (ap (way_up types new.max_locals new.max_stack) e)) limits
-            (mark_up (waits new.waiting place) (waits old.waiting place) (λ w. elim (h.begun place w) [ inl v ↦ v | inr n ↦ absurd (n (sym e)) ]))
+            (mark_up (waits new.waiting place) (waits old.waiting place)
+            (λ w. elim (h.begun place w) [ inl v ↦ v | inr n ↦ absurd (n (sym e)) ]))
         | inr l ↦
-            sum_under (way_up types new.max_locals new.max_stack now) (way_up types new.max_locals new.max_stack was) (way_up types old.max_locals old.max_stack was) (mark (waits new.waiting place)) (mark (waits old.waiting place))
+            sum_under (way_up types new.max_locals new.max_stack now) (way_up types new.max_locals new.max_stack was)
+            (way_up types old.max_locals old.max_stack was) (mark (waits new.waiting place)) (mark (waits old.waiting place))
             l limits (mark_most (waits new.waiting place))
       ]
 
@@ -124,12 +135,14 @@ module _ (types : WorldTypes) (laws : AreLawful types) where
 
     taken_at : (k : ℕ) → work_at types mid k ≤ work_at types old k
     taken_at k =
-        twice_up (way_up types old.max_locals old.max_stack (types_at old.types k)) (mark (waits mid.waiting k)) (mark (waits old.waiting k))
+        twice_up (way_up types old.max_locals old.max_stack (types_at old.types k)) (mark (waits mid.waiting k))
+        (mark (waits old.waiting k))
         (mark_up (waits mid.waiting k) (waits old.waiting k) (unmark old.waiting place k))
 
     taken_there : work_at types mid place < work_at types old place
     taken_there =
-        twice_less (way_up types old.max_locals old.max_stack (types_at old.types place)) (mark (waits mid.waiting place)) (mark (waits old.waiting place))
+        twice_less (way_up types old.max_locals old.max_stack (types_at old.types place)) (mark (waits mid.waiting place))
+        (mark (waits old.waiting place))
         (ap mark (unmarked old.waiting place)) (ap mark w)
 
     pub taken_work : work_left types mid < work_left types old
@@ -138,7 +151,10 @@ module _ (types : WorldTypes) (laws : AreLawful types) where
         let l = is_inside old.waiting place w in
         sum_less 65536 (work_at types mid) (work_at types old) place (omega (arith, l, t.even, t.small)) taken_at taken_there
 
-  pub looked_work : (flows : List Flow) (old mid new : Table) (place : ℕ) → IsTable types old → IsTrue (waits old.waiting place) → mid ≡ record old { waiting = slice_set old.waiting place false; low = place + 1 } → IsGrown types flows mid new → work_left types new < work_left types old
+  pub looked_work : (flows : List Flow) (old mid new : Table) (place : ℕ) → IsTable types old → IsTrue (waits old.waiting place)
+      → mid ≡ record old { waiting = slice_set old.waiting place false; low = place + 1 } → IsGrown types flows mid new
+      → work_left types new < work_left types old
   looked_work flows old mid new place t w e h =
-      fall (work_left types new) (work_left types mid) (work_left types (record old { waiting = slice_set old.waiting place false; low = place + 1 })) (work_left types old)
+      fall (work_left types new) (work_left types mid)
+      (work_left types (record old { waiting = slice_set old.waiting place false; low = place + 1 })) (work_left types old)
       (grown_work flows mid new h) (ap (work_left types) e) (taken_work old place t w)

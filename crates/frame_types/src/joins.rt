@@ -7,9 +7,12 @@ use jvm_values::{PlaceType, Ty, Types, join};
 
 /// The join of two reference types, which are often one.
 fn join_types<T: Types>(types: &T, a: Ty, b: Ty) -> PlaceType
-    requires left { IsOfWorld (world_types (T.sub types.now) (T.erase types.now) (T.classes types.now) (T.fields types.now) (T.can_be_made types.now)) (PlaceType.Ref a) }
-    requires right { IsOfWorld (world_types (T.sub types.now) (T.erase types.now) (T.classes types.now) (T.fields types.now) (T.can_be_made types.now)) (PlaceType.Ref b) }
-    ensures { IsPlaceJoin (world_types (T.sub types.now) (T.erase types.now) (T.classes types.now) (T.fields types.now) (T.can_be_made types.now)) (PlaceType.Ref a) (PlaceType.Ref b) result }
+    requires left { IsOfWorld (world_types (T.sub types.now) (T.erase types.now) (T.classes types.now) (T.fields types.now)
+        (T.can_be_made types.now)) (PlaceType.Ref a) }
+    requires right { IsOfWorld (world_types (T.sub types.now) (T.erase types.now) (T.classes types.now) (T.fields types.now)
+        (T.can_be_made types.now)) (PlaceType.Ref b) }
+    ensures { IsPlaceJoin (world_types (T.sub types.now) (T.erase types.now) (T.classes types.now) (T.fields types.now)
+        (T.can_be_made types.now)) (PlaceType.Ref a) (PlaceType.Ref b) result }
 {
     PlaceType::Ref(join(types, a, b))
 }
@@ -19,9 +22,12 @@ fn join_types<T: Types>(types: &T, a: Ty, b: Ty) -> PlaceType
 ///
 /// It costs what [`join`] costs where two different reference types meet.
 pub fn join_places<T: Types>(types: &T, a: PlaceType, b: PlaceType) -> PlaceType
-    requires left { IsOfWorld (world_types (T.sub types.now) (T.erase types.now) (T.classes types.now) (T.fields types.now) (T.can_be_made types.now)) a }
-    requires right { IsOfWorld (world_types (T.sub types.now) (T.erase types.now) (T.classes types.now) (T.fields types.now) (T.can_be_made types.now)) b }
-    ensures { IsPlaceJoin (world_types (T.sub types.now) (T.erase types.now) (T.classes types.now) (T.fields types.now) (T.can_be_made types.now)) a b result }
+    requires left { IsOfWorld (world_types (T.sub types.now) (T.erase types.now) (T.classes types.now) (T.fields types.now)
+        (T.can_be_made types.now)) a }
+    requires right { IsOfWorld (world_types (T.sub types.now) (T.erase types.now) (T.classes types.now) (T.fields types.now)
+        (T.can_be_made types.now)) b }
+    ensures { IsPlaceJoin (world_types (T.sub types.now) (T.erase types.now) (T.classes types.now) (T.fields types.now)
+        (T.can_be_made types.now)) a b result }
 {
     match (a, b) {
         (PlaceType::Int, PlaceType::Int) => PlaceType::Int,

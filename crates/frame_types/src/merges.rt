@@ -19,9 +19,12 @@ fn is_same(a: PlaceType, b: PlaceType) -> bool
 /// Makes each local as wide as those that come, and says whether one has grown.
 fn merge_locals<T: Types>(types: &T, locals: &mut Seq<PlaceType>, more: &[PlaceType]) -> bool
     requires long { length more.now ≡ length locals.old }
-    requires old { All (IsOfWorld (world_types (T.sub types.now) (T.erase types.now) (T.classes types.now) (T.fields types.now) (T.can_be_made types.now))) locals.old }
-    requires more { All (IsOfWorld (world_types (T.sub types.now) (T.erase types.now) (T.classes types.now) (T.fields types.now) (T.can_be_made types.now))) more.now }
-    ensures joins { AreJoins (world_types (T.sub types.now) (T.erase types.now) (T.classes types.now) (T.fields types.now) (T.can_be_made types.now)) locals.old more.now locals.new }
+    requires old { All (IsOfWorld (world_types (T.sub types.now) (T.erase types.now) (T.classes types.now) (T.fields types.now)
+        (T.can_be_made types.now))) locals.old }
+    requires more { All (IsOfWorld (world_types (T.sub types.now) (T.erase types.now) (T.classes types.now) (T.fields types.now)
+        (T.can_be_made types.now))) more.now }
+    ensures joins { AreJoins (world_types (T.sub types.now) (T.erase types.now) (T.classes types.now) (T.fields types.now)
+        (T.can_be_made types.now)) locals.old more.now locals.new }
     ensures same { result ≡ false → locals.new ≡ locals.old }
     ensures grew { result ≡ true → locals.new ≡ locals.old → ⊥ }
 {
@@ -46,10 +49,16 @@ fn merge_stack<T: Types>(
     more: &Stack<PlaceType>,
 ) -> Option<bool>
     requires long { length more.now.0 ≡ length stack.old.0 }
-    requires old { All (IsOfWorld (world_types (T.sub types.now) (T.erase types.now) (T.classes types.now) (T.fields types.now) (T.can_be_made types.now))) stack.old.0 }
-    requires more { All (IsOfWorld (world_types (T.sub types.now) (T.erase types.now) (T.classes types.now) (T.fields types.now) (T.can_be_made types.now))) more.now.0 }
+    requires old { All (IsOfWorld (world_types (T.sub types.now) (T.erase types.now) (T.classes types.now) (T.fields types.now)
+        (T.can_be_made types.now))) stack.old.0 }
+    requires more { All (IsOfWorld (world_types (T.sub types.now) (T.erase types.now) (T.classes types.now) (T.fields types.now)
+        (T.can_be_made types.now))) more.now.0 }
     requires set { All IsSet stack.old.0 }
-    ensures joins { MatchOption result (AreApart (world_types (T.sub types.now) (T.erase types.now) (T.classes types.now) (T.fields types.now) (T.can_be_made types.now)) stack.old.0 more.now.0) (λ grew. AreJoins (world_types (T.sub types.now) (T.erase types.now) (T.classes types.now) (T.fields types.now) (T.can_be_made types.now)) stack.old.0 more.now.0 stack.new.0) }
+    ensures joins { MatchOption result
+        (AreApart (world_types (T.sub types.now) (T.erase types.now) (T.classes types.now) (T.fields types.now)
+        (T.can_be_made types.now)) stack.old.0 more.now.0)
+        (λ grew. AreJoins (world_types (T.sub types.now) (T.erase types.now) (T.classes types.now) (T.fields types.now)
+        (T.can_be_made types.now)) stack.old.0 more.now.0 stack.new.0) }
     ensures set { MatchOption result (Unit {0}) (λ grew. All IsSet stack.new.0) }
     ensures same { result ≡ Some false → stack.new.0 ≡ stack.old.0 }
     ensures grew { result ≡ Some true → stack.new.0 ≡ stack.old.0 → ⊥ }
@@ -84,9 +93,12 @@ pub(crate) enum Coming {
 
 /// Makes a frame as wide as one that comes to the same place.
 pub(crate) fn merge_frames<T: Types>(types: &T, frame: &mut FrameType, more: &FrameType) -> Coming
-    requires old { IsProper (world_types (T.sub types.now) (T.erase types.now) (T.classes types.now) (T.fields types.now) (T.can_be_made types.now)) (length more.now.locals) (types_of frame.old) }
-    requires more { IsProper (world_types (T.sub types.now) (T.erase types.now) (T.classes types.now) (T.fields types.now) (T.can_be_made types.now)) (length more.now.locals) (types_of more.now) }
-    ensures { IsMergedAs (world_types (T.sub types.now) (T.erase types.now) (T.classes types.now) (T.fields types.now) (T.can_be_made types.now)) (length more.now.locals) (types_of frame.old) (types_of more.now) (types_of frame.new) result }
+    requires old { IsProper (world_types (T.sub types.now) (T.erase types.now) (T.classes types.now) (T.fields types.now)
+        (T.can_be_made types.now)) (length more.now.locals) (types_of frame.old) }
+    requires more { IsProper (world_types (T.sub types.now) (T.erase types.now) (T.classes types.now) (T.fields types.now)
+        (T.can_be_made types.now)) (length more.now.locals) (types_of more.now) }
+    ensures { IsMergedAs (world_types (T.sub types.now) (T.erase types.now) (T.classes types.now) (T.fields types.now)
+        (T.can_be_made types.now)) (length more.now.locals) (types_of frame.old) (types_of more.now) (types_of frame.new) result }
 {
     if frame.stack.len() != more.stack.len() {
         return Coming::Apart;

@@ -1,5 +1,6 @@
 //! The types at the places of a code, while they grow.
-ghost use Rattle.std.specs.Prelude.{◌≡◌, ◌<◌, ◌≤◌, ◌+◌, ℕ, [], ◌∷◌, length, slice_set, min, IfOk, OnOk, MatchBool, MatchOption, true, false, Some, IsTrue};
+ghost use Rattle.std.specs.Prelude.{◌≡◌, ◌<◌, ◌≤◌, ◌+◌, ℕ, [], ◌∷◌, length, slice_set, min, IfOk, OnOk, MatchBool, MatchOption};
+ghost use Rattle.std.specs.Prelude.{true, false, Some, IsTrue};
 ghost use Rattle.std.specs.Option.{option_map};
 ghost use Rattle.jvm_values.specs.TypedHeaps.{world_types};
 ghost use Rattle.jvm_values.specs.States.{types_of};
@@ -34,9 +35,15 @@ fn come<T: Types>(
     there: &mut Option<FrameType>,
     frame: &FrameType,
 ) -> Result<Coming, AllocError>
-    requires old { (before : _) → option_map types_of there.old ≡ Some before → IsProper (world_types (T.sub types.now) (T.erase types.now) (T.classes types.now) (T.fields types.now) (T.can_be_made types.now)) (length frame.now.locals) before }
-    requires more { IsProper (world_types (T.sub types.now) (T.erase types.now) (T.classes types.now) (T.fields types.now) (T.can_be_made types.now)) (length frame.now.locals) (types_of frame.now) }
-    ensures { IfOk result (λ coming. IsComing (world_types (T.sub types.now) (T.erase types.now) (T.classes types.now) (T.fields types.now) (T.can_be_made types.now)) (length frame.now.locals) (option_map types_of there.old) (types_of frame.now) (option_map types_of there.new) coming) }
+    requires old { (before : _) → option_map types_of there.old ≡ Some before
+        → IsProper (world_types (T.sub types.now) (T.erase types.now) (T.classes types.now) (T.fields types.now)
+        (T.can_be_made types.now)) (length frame.now.locals) before }
+    requires more { IsProper (world_types (T.sub types.now) (T.erase types.now) (T.classes types.now) (T.fields types.now)
+        (T.can_be_made types.now)) (length frame.now.locals) (types_of frame.now) }
+    ensures { IfOk result
+        (λ coming. IsComing (world_types (T.sub types.now) (T.erase types.now) (T.classes types.now) (T.fields types.now)
+        (T.can_be_made types.now)) (length frame.now.locals) (option_map types_of there.old) (types_of frame.now)
+        (option_map types_of there.new) coming) }
 {
     match there {
         Some(old) => Ok(merge_frames(types, old, frame)),
@@ -105,10 +112,17 @@ impl Table {
         frame: &FrameType,
     ) -> Result<bool, AllocError>
         requires place { place < 65536 }
-        requires table { IsTable (world_types (T.sub types.now) (T.erase types.now) (T.classes types.now) (T.fields types.now) (T.can_be_made types.now)) self.old }
-        requires proper { IsProper (world_types (T.sub types.now) (T.erase types.now) (T.classes types.now) (T.fields types.now) (T.can_be_made types.now)) self.old.max_locals (types_of frame.now) }
+        requires table { IsTable (world_types (T.sub types.now) (T.erase types.now) (T.classes types.now) (T.fields types.now)
+            (T.can_be_made types.now)) self.old }
+        requires proper { IsProper (world_types (T.sub types.now) (T.erase types.now) (T.classes types.now) (T.fields types.now)
+            (T.can_be_made types.now)) self.old.max_locals (types_of frame.now) }
         requires depth { length frame.now.stack.0 ≤ self.old.max_stack }
-        ensures { IfOk result (λ ok. MatchBool ok (IsGrown (world_types (T.sub types.now) (T.erase types.now) (T.classes types.now) (T.fields types.now) (T.can_be_made types.now)) (record { to = place; frame = types_of frame.now } ∷ []) self.old self.new) (AreRefused (world_types (T.sub types.now) (T.erase types.now) (T.classes types.now) (T.fields types.now) (T.can_be_made types.now)) (record { to = place; frame = types_of frame.now } ∷ []) self.old)) }
+        ensures { IfOk result
+            (λ ok. MatchBool ok (IsGrown
+            (world_types (T.sub types.now) (T.erase types.now) (T.classes types.now) (T.fields types.now)
+            (T.can_be_made types.now)) (record { to = place; frame = types_of frame.now } ∷ []) self.old self.new)
+            (AreRefused (world_types (T.sub types.now) (T.erase types.now) (T.classes types.now) (T.fields types.now)
+            (T.can_be_made types.now)) (record { to = place; frame = types_of frame.now } ∷ []) self.old)) }
     {
         self.make_room(place)?;
         let there = self.types.at_mut(place);
@@ -137,9 +151,16 @@ impl Table {
         to: u16,
         frame: &FrameType,
     ) -> Result<bool, AllocError>
-        requires table { IsTable (world_types (T.sub types.now) (T.erase types.now) (T.classes types.now) (T.fields types.now) (T.can_be_made types.now)) self.old }
-        requires proper { IsProper (world_types (T.sub types.now) (T.erase types.now) (T.classes types.now) (T.fields types.now) (T.can_be_made types.now)) self.old.max_locals (types_of frame.now) }
-        ensures { IfOk result (λ ok. MatchBool ok (IsGrown (world_types (T.sub types.now) (T.erase types.now) (T.classes types.now) (T.fields types.now) (T.can_be_made types.now)) (record { to = to; frame = types_of frame.now } ∷ []) self.old self.new) (AreRefused (world_types (T.sub types.now) (T.erase types.now) (T.classes types.now) (T.fields types.now) (T.can_be_made types.now)) (record { to = to; frame = types_of frame.now } ∷ []) self.old)) }
+        requires table { IsTable (world_types (T.sub types.now) (T.erase types.now) (T.classes types.now) (T.fields types.now)
+            (T.can_be_made types.now)) self.old }
+        requires proper { IsProper (world_types (T.sub types.now) (T.erase types.now) (T.classes types.now) (T.fields types.now)
+            (T.can_be_made types.now)) self.old.max_locals (types_of frame.now) }
+        ensures { IfOk result
+            (λ ok. MatchBool ok (IsGrown
+            (world_types (T.sub types.now) (T.erase types.now) (T.classes types.now) (T.fields types.now)
+            (T.can_be_made types.now)) (record { to = to; frame = types_of frame.now } ∷ []) self.old self.new)
+            (AreRefused (world_types (T.sub types.now) (T.erase types.now) (T.classes types.now) (T.fields types.now)
+            (T.can_be_made types.now)) (record { to = to; frame = types_of frame.now } ∷ []) self.old)) }
     {
         if frame.stack.len() > usize::from(self.max_stack) {
             Ok(false)
@@ -153,7 +174,10 @@ impl Table {
         requires even { length self.old.waiting ≡ length self.old.types }
         requires small { length self.old.types ≤ 65536 }
         requires done { (place : ℕ) → place < self.old.low → waits self.old.waiting place ≡ false }
-        ensures taken { MatchOption result ((place : ℕ) → waits self.old.waiting place ≡ false) (λ place. (IsTrue (waits self.old.waiting place)) × (self.new ≡ record self.old { waiting = slice_set self.old.waiting place false; low = place + 1 }) × ((k : ℕ) → k < place → waits self.old.waiting k ≡ false)) }
+        ensures taken { MatchOption result ((place : ℕ) → waits self.old.waiting place ≡ false)
+            (λ place. (IsTrue (waits self.old.waiting place))
+            × (self.new ≡ record self.old { waiting = slice_set self.old.waiting place false; low = place + 1 })
+            × ((k : ℕ) → k < place → waits self.old.waiting k ≡ false)) }
         ensures types { self.new.types ≡ self.old.types }
     {
         while self.low < self.waiting.len() {

@@ -20,7 +20,8 @@ use Rattle.abs_expand.proofs.ZipLists.{beside}
 use Rattle.graph_check.proofs.OneNode.{links_by, node_one, node_left}
 
 module _ (p : Program) (typing : ℕ → CodeTypes) (nodes : List GraphNode) where
-  zip_one : (some : List GraphNode) (a b : List (List Link)) → AllZip (IsGoodNode p typing nodes) some a → AllZip (IsGoodNode p typing nodes) some b → a ≡ b
+  zip_one : (some : List GraphNode) (a b : List (List Link)) → AllZip (IsGoodNode p typing nodes) some a
+      → AllZip (IsGoodNode p typing nodes) some b → a ≡ b
   zip_one [] [] [] g h = refl
   zip_one [] [] (y ∷ b) g h = absurd h
   zip_one [] (x ∷ a) b g h = absurd g
@@ -34,7 +35,8 @@ module _ (p : Program) (typing : ℕ → CodeTypes) (nodes : List GraphNode) whe
   pub links_one : (root : AbstractState) (a b : List (List Link)) → GraphOk p typing nodes root a → GraphOk p typing nodes root b → a ≡ b
   links_one root a b g h = zip_one nodes a b g.each h.each
 
-  good_or_bad : (k : ℕ) (node : GraphNode) (links : List Link) (what : What) → slice_get nodes k ≡ Some node → IsGoodNode p typing nodes node links → FailsAs p typing nodes node what → ⊥
+  good_or_bad : (k : ℕ) (node : GraphNode) (links : List Link) (what : What) → slice_get nodes k ≡ Some node
+      → IsGoodNode p typing nodes node links → FailsAs p typing nodes node what → ⊥
   good_or_bad k node links what at good fails = node_left p typing nodes node.state node.by links what good fails
 
   bad_node_one : (n m : ℕ) (w v : What) → IsFirstBadNode p typing nodes n w → IsFirstBadNode p typing nodes m v → (n ≡ m) × (w ≡ v)
@@ -42,8 +44,11 @@ module _ (p : Program) (typing : ℕ → CodeTypes) (nodes : List GraphNode) whe
       let number : n ≡ m = neither_below n m
       (λ low. let good = g.before n f.node low f.is in good_or_bad n f.node good.0 w f.is good.1 f.fails)
       (λ low. let good = f.before m g.node low g.is in good_or_bad m g.node good.0 v g.is good.1 g.fails) in
-      let node : f.node ≡ g.node = some_is (sym f.is ∙ (ap (λ (k : ℕ). slice_get nodes k) number ∙ g.is)) in
-      (number, node_one p typing nodes g.node.state g.node.by w v (subst (λ (x : GraphNode). FailsAs p typing nodes x w) node f.fails) g.fails)
+      let node : f.node ≡ g.node = some_is (sym f.is ∙ (ap (λ (k : ℕ). slice_get nodes k) number ∙ g.is)) in (
+        number,
+        node_one p typing nodes g.node.state g.node.by w v
+            (subst (λ (x : GraphNode). FailsAs p typing nodes x w) node f.fails) g.fails,
+      )
 
   data GraphFails (root : AbstractState) (number : ℕ) (what : What) : Type 0 where
     as_root : what ≡ whats.Root → number ≡ 0 → (IsRooted nodes root → ⊥) → GraphFails root number what
@@ -65,16 +70,19 @@ module _ (p : Program) (typing : ℕ → CodeTypes) (nodes : List GraphNode) whe
   fails_one root n m w v (as_node rooted f) (as_root d y g) = absurd (g rooted)
   fails_one root n m w v (as_node rooted f) (as_node other g) = bad_node_one n m w v f g
 
-  pub fault_one : (root : AbstractState) (n m : ℕ) (w v : What) → IsFault p typing nodes root n w → IsFault p typing nodes root m v → (n ≡ m) × (w ≡ v)
+  pub fault_one : (root : AbstractState) (n m : ℕ) (w v : What) → IsFault p typing nodes root n w → IsFault p typing nodes root m v
+      → (n ≡ m) × (w ≡ v)
   fault_one root n m w v f g = fails_one root n m w v (graph_fails root n w f) (graph_fails root m v g)
 
-  good_or_fails : (root : AbstractState) (links : List (List Link)) (number : ℕ) (what : What) → GraphOk p typing nodes root links → GraphFails root number what → ⊥
+  good_or_fails : (root : AbstractState) (links : List (List Link)) (number : ℕ) (what : What) → GraphOk p typing nodes root links
+      → GraphFails root number what → ⊥
   good_or_fails root links number what ok (as_root e z f) = f ok.rooted
   good_or_fails root links number what ok (as_node rooted bad) =
       let found = beside (IsGoodNode p typing nodes) nodes links number bad.node ok.each bad.is in
       good_or_bad number bad.node found.other what bad.is found.alike bad.fails
 
-  pub good_or_fault : (root : AbstractState) (links : List (List Link)) (number : ℕ) (what : What) → GraphOk p typing nodes root links → IsFault p typing nodes root number what → ⊥
+  pub good_or_fault : (root : AbstractState) (links : List (List Link)) (number : ℕ) (what : What)
+      → GraphOk p typing nodes root links → IsFault p typing nodes root number what → ⊥
   good_or_fault root links number what ok f = good_or_fails root links number what ok (graph_fails root number what f)
 
 -- ---- the law

@@ -17,7 +17,8 @@ use Rattle.abs_expand.specs.BadStates.{IsGoodState, IsBadState}
 use Rattle.abs_expand.specs.Expansions.{plan_of, counts_of}
 use Rattle.graph_check.specs.declared.fault.What.{What}
 use Rattle.graph_check.specs.declared.fault.What.TheVariants as whats
-use Rattle.graph_check.specs.Good.{HasChildren, HasEnded, HasTooMany, IsLeftBy, IsMiscounted, HasOtherChild, FailsToMatch, FailsBy, FailsAs}
+use Rattle.graph_check.specs.Good.{HasChildren, HasEnded, HasTooMany, IsLeftBy, IsMiscounted, HasOtherChild, FailsToMatch, FailsBy}
+use Rattle.graph_check.specs.Good.{FailsAs}
 use Rattle.one_expansion.proofs.OneAnswer.{few_or_many, not_bad, clause_same, no_children, end_few}
 use Rattle.graph_check.proofs.Excluding.{one_list, no_fault_as}
 use Rattle.graph_check.proofs.Matching.{match_one}
@@ -29,7 +30,9 @@ module _ (p : Program) (typing : ℕ → CodeTypes) (nodes : List GraphNode) (st
   -- ---- good nodes
 
   pub links_by : (by : By) (a b : List Link) → IsLeftBy p typing nodes state by a → IsLeftBy p typing nodes state by b → a ≡ b
-  links_by (Expand named) a b g h = g.links_are ∙ (ap (λ (children : List GraphChild). map (λ (child : GraphChild). child.link) children) (one g.children h.children g.are h.are) ∙ sym h.links_are)
+  links_by (Expand named) a b g h = g.links_are
+      ∙ (ap (λ (children : List GraphChild). map (λ (child : GraphChild). child.link) children)
+      (one g.children h.children g.are h.are) ∙ sym h.links_are)
   links_by (Instance target entries) a b g h = g.1 ∙ sym h.1
   links_by End a b g h = g.1 ∙ sym h.1
   links_by Todo a b g h = absurd g
@@ -51,14 +54,19 @@ module _ (p : Program) (typing : ℕ → CodeTypes) (nodes : List GraphNode) (st
 
   count_child : (named : List ℕ) (place : ℕ) → CountFails named → HasOtherChild p typing nodes state named place → ⊥
   count_child named place (inl ended) other = not_ended other.children other.are ended
-  count_child named place (inr m) other = m.counts (ap (λ (children : List GraphChild). length children) (one m.children other.children m.are other.are) ∙ other.counts)
+  count_child named place (inr m) other = m.counts
+      (ap (λ (children : List GraphChild). length children) (one m.children other.children m.are other.are) ∙ other.counts)
 
   child_one : (named : List ℕ) (k l : ℕ) → HasOtherChild p typing nodes state named k → HasOtherChild p typing nodes state named l → k ≡ l
   child_one named k l f g =
       let same = one f.children g.children f.are g.are in
       neither_below k l
-      (λ low. f.first.fails (g.first.before k f.first.child f.first.number low (ap (λ (children : List GraphChild). slice_get children k) (sym same) ∙ f.first.is_child) f.first.is_named))
-      (λ low. g.first.fails (f.first.before l g.first.child g.first.number low (ap (λ (children : List GraphChild). slice_get children l) same ∙ g.first.is_child) g.first.is_named))
+      (λ low. f.first.fails
+      (g.first.before k f.first.child f.first.number low (ap (λ (children : List GraphChild). slice_get children k) (sym same)
+      ∙ f.first.is_child) f.first.is_named))
+      (λ low. g.first.fails
+      (f.first.before l g.first.child g.first.number low (ap (λ (children : List GraphChild). slice_get children l) same
+      ∙ g.first.is_child) g.first.is_named))
 
   data ExpandFails (named : List ℕ) (what : What) : Type 0 where
     as_many : what ≡ whats.TooManyIds → HasTooMany p typing state → ExpandFails named what
@@ -90,9 +98,11 @@ module _ (p : Program) (typing : ℕ → CodeTypes) (nodes : List GraphNode) (st
 
   data InstanceFails (target : ℕ) (entries : List (ℕ × ℕ)) (what : What) : Type 0 where
     as_none : what ≡ whats.BadTarget → slice_get nodes target ≡ None → InstanceFails target entries what
-    as_match : (fault : MatchFault) → what ≡ whats.Match fault → FailsToMatch p nodes state target entries fault → InstanceFails target entries what
+    as_match : (fault : MatchFault) → what ≡ whats.Match fault → FailsToMatch p nodes state target entries fault
+        → InstanceFails target entries what
 
-  instance_fails : (target : ℕ) (entries : List (ℕ × ℕ)) (what : What) → FailsBy p typing nodes state (Instance target entries) what → InstanceFails target entries what
+  instance_fails : (target : ℕ) (entries : List (ℕ × ℕ)) (what : What) → FailsBy p typing nodes state (Instance target entries) what
+      → InstanceFails target entries what
   instance_fails target entries whats.BadTarget f = as_none refl f
   instance_fails target entries (whats.Match fault) f = as_match fault refl f
   instance_fails target entries whats.Root f = absurd f
@@ -102,13 +112,15 @@ module _ (p : Program) (typing : ℕ → CodeTypes) (nodes : List GraphNode) (st
   instance_fails target entries (whats.Child place) f = absurd f
   instance_fails target entries whats.NotEnd f = absurd f
 
-  instance_one : (target : ℕ) (entries : List (ℕ × ℕ)) (w v : What) → InstanceFails target entries w → InstanceFails target entries v → w ≡ v
+  instance_one : (target : ℕ) (entries : List (ℕ × ℕ)) (w v : What) → InstanceFails target entries w
+      → InstanceFails target entries v → w ≡ v
   instance_one target entries w v (as_none e f) (as_none d g) = e ∙ sym d
   instance_one target entries w v (as_none e f) (as_match fault d g) = absurd (none-some g.node (sym f ∙ g.is))
   instance_one target entries w v (as_match fault e f) (as_none d g) = absurd (none-some f.node (sym g ∙ f.is))
   instance_one target entries w v (as_match fault e f) (as_match other d g) =
       let node : f.node ≡ g.node = some_is (sym f.is ∙ g.is) in
-      let first = subst (λ (n : GraphNode). IsFirstFault (types_of p.world).sub state n.state entries fault.clause fault.id) node f.first in
+      let first = subst (λ (n : GraphNode). IsFirstFault (types_of p.world).sub state n.state entries fault.clause fault.id) node
+      f.first in
       e ∙ (ap whats.Match (match_one (types_of p.world).sub state g.node.state entries fault other first g.first) ∙ sym d)
 
   -- ---- nodes that are left in another way
@@ -137,7 +149,8 @@ module _ (p : Program) (typing : ℕ → CodeTypes) (nodes : List GraphNode) (st
 
   by_one : (by : By) (w v : What) → FailsBy p typing nodes state by w → FailsBy p typing nodes state by v → w ≡ v
   by_one (Expand named) w v f g = expand_one named w v (expand_fails named w f) (expand_fails named v g)
-  by_one (Instance target entries) w v f g = instance_one target entries w v (instance_fails target entries w f) (instance_fails target entries v g)
+  by_one (Instance target entries) w v f g = instance_one target entries w v (instance_fails target entries w f)
+      (instance_fails target entries v g)
   by_one End w v f g = (end_fails w f).0 ∙ sym (end_fails v g).0
   by_one Todo w v f g = todo_fails w f ∙ sym (todo_fails v g)
 
@@ -161,8 +174,10 @@ module _ (p : Program) (typing : ℕ → CodeTypes) (nodes : List GraphNode) (st
   fails_one by w v (as_good good f) (as_bad d h g) = absurd (not_bad p typing state d good g)
   fails_one by w v (as_good good f) (as_good other g) = by_one by w v f g
 
-  pub node_one : (by : By) (w v : What) → FailsAs p typing nodes (record { state = state; by = by }) w → FailsAs p typing nodes (record { state = state; by = by }) v → w ≡ v
+  pub node_one : (by : By) (w v : What) → FailsAs p typing nodes (record { state = state; by = by }) w
+      → FailsAs p typing nodes (record { state = state; by = by }) v → w ≡ v
   node_one by w v f g = fails_one by w v (node_fails by w f) (node_fails by v g)
 
-  pub node_left : (by : By) (links : List Link) (what : What) → IsLeftBy p typing nodes state by links → FailsAs p typing nodes (record { state = state; by = by }) what → ⊥
+  pub node_left : (by : By) (links : List Link) (what : What) → IsLeftBy p typing nodes state by links
+      → FailsAs p typing nodes (record { state = state; by = by }) what → ⊥
   node_left by links what left f = no_fault_as p typing nodes state by links what left f

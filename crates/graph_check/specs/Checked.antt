@@ -36,13 +36,15 @@ AreNamedOr nodes children named (Some place) = IsFirstOtherChild nodes children 
 abbrev pub LinksOr : List GraphNode → List GraphChild → List ℕ → Result (List Link) Failure → Type 0
 LinksOr nodes children named (Ok links) = AllZip (NamesChild nodes) children named × (links ≡ map (λ child. child.link) children)
 LinksOr nodes children named (Err (Fails whats.ChildCount)) = length children ≢ length named
-LinksOr nodes children named (Err (Fails (whats.Child place))) = (length children ≡ length named) × IsFirstOtherChild nodes children named place
+LinksOr nodes children named (Err (Fails (whats.Child place))) = (length children ≡ length named)
+    × IsFirstOtherChild nodes children named place
 LinksOr nodes children named (Err (Fails _)) = ⊥
 LinksOr nodes children named (Err Memory) = Unit {0}
 
 -- a state is an instance of the node of a number, or what is wrong with that
 abbrev pub MatchesOr : Program → List GraphNode → AbstractState → ℕ → List (ℕ × ℕ) → Result (List Link) Failure → Type 0
-MatchesOr p nodes state target entries (Ok links) = (node : GraphNode) × ((slice_get nodes target ≡ Some node) × (InstanceOf (types_of p.world).sub state node.state entries × (links ≡ [])))
+MatchesOr p nodes state target entries (Ok links) = (node : GraphNode)
+    × ((slice_get nodes target ≡ Some node) × (InstanceOf (types_of p.world).sub state node.state entries × (links ≡ [])))
 MatchesOr p nodes state target entries (Err (Fails whats.BadTarget)) = slice_get nodes target ≡ None
 MatchesOr p nodes state target entries (Err (Fails (whats.Match fault))) = FailsToMatch p nodes state target entries fault
 MatchesOr p nodes state target entries (Err (Fails _)) = ⊥
@@ -55,14 +57,16 @@ LeavesOr p typing nodes state by (Err (Fails what)) = FailsAs p typing nodes (re
 LeavesOr p typing nodes state by (Err Memory) = Unit {0}
 
 -- the same of the node of a number
-pub record NodeLeavesOr (p : Program) (typing : ℕ → CodeTypes) (nodes : List GraphNode) (number : ℕ) (result : Result (List Link) Failure) : Type 0 where
+pub record NodeLeavesOr (p : Program) (typing : ℕ → CodeTypes) (nodes : List GraphNode) (number : ℕ)
+    (result : Result (List Link) Failure) : Type 0 where
   pub node : GraphNode
   pub is : slice_get nodes number ≡ Some node
   pub leaves : LeavesOr p typing nodes node.state node.by result
 
 -- of the first nodes each child is that of the named node
 abbrev pub FirstNamed : List GraphNode → List GraphChild → List ℕ → ℕ → Type 0
-FirstNamed nodes children named count = (k : ℕ) (child : GraphChild) (n : ℕ) → k < count → slice_get children k ≡ Some child → slice_get named k ≡ Some n → NamesChild nodes child n
+FirstNamed nodes children named count = (k : ℕ) (child : GraphChild) (n : ℕ) → k < count → slice_get children k ≡ Some child
+    → slice_get named k ≡ Some n → NamesChild nodes child n
 
 -- the links of all nodes, each of which is good, or the first one that isn't
 abbrev pub GoodNodesOr : Program → (ℕ → CodeTypes) → List GraphNode → Result (List (List Link)) CheckFault → Type 0

@@ -22,7 +22,8 @@ pub record IsFirstNamed (nodes : List GraphNode) (namer place number : ℕ) : Ty
   pub no_earlier_place : (at : ℕ) → at < place → Names nodes namer at number → ⊥
 
 -- the state is the child at a place of a node's
-pub record IsChildAt (p : Program) (typing : ℕ → CodeTypes) (nodes : List GraphNode) (namer place : ℕ) (state : AbstractState) : Type 0 where
+pub record IsChildAt (p : Program) (typing : ℕ → CodeTypes) (nodes : List GraphNode) (namer place : ℕ)
+    (state : AbstractState) : Type 0 where
   pub node : GraphNode
   pub is : slice_get nodes namer ≡ Some node
   pub children : List GraphChild
@@ -32,7 +33,8 @@ pub record IsChildAt (p : Program) (typing : ℕ → CodeTypes) (nodes : List Gr
   pub state_is : state ≡ child.state
 
 -- no such child is there: then node 0's state stands for it, and the namer is no good node
-pub record StandsForNone (p : Program) (typing : ℕ → CodeTypes) (nodes : List GraphNode) (namer place : ℕ) (state : AbstractState) : Type 0 where
+pub record StandsForNone (p : Program) (typing : ℕ → CodeTypes) (nodes : List GraphNode) (namer place : ℕ)
+    (state : AbstractState) : Type 0 where
   pub none : (other : AbstractState) → IsChildAt p typing nodes namer place other → ⊥
   pub first : GraphNode
   pub is : slice_get nodes 0 ≡ Some first
@@ -53,7 +55,8 @@ HasStateOf p typing nodes number None state = IsTakenState p typing nodes number
 -- the filled graph: each node is left as its part says, and has the part's state, or the one that it takes
 pub record IsFilled (p : Program) (typing : ℕ → CodeTypes) (parts : List GraphPart) (nodes : List GraphNode) : Type 0 where
   pub ways : map (λ node. node.by) nodes ≡ map (λ part. part.by) parts
-  pub states : (number : ℕ) (part : GraphPart) (node : GraphNode) → slice_get parts number ≡ Some part → slice_get nodes number ≡ Some node → HasStateOf p typing nodes number part.state node.state
+  pub states : (number : ℕ) (part : GraphPart) (node : GraphNode) → slice_get parts number ≡ Some part
+      → slice_get nodes number ≡ Some node → HasStateOf p typing nodes number part.state node.state
 
 -- each node without a state is named by an expanded node of a lower number; so there is a filled graph
 pub record IsNamedBefore (parts : List GraphPart) (number : ℕ) : Type 0 where

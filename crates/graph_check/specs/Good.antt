@@ -45,14 +45,16 @@ abbrev pub NamesChild : List GraphNode → GraphChild → ℕ → Type 0
 NamesChild nodes child n = IsStateAt nodes child.state n
 
 -- the state's children are those of the named nodes, in order; the links are the children's
-pub record IsExpanded (p : Program) (typing : ℕ → CodeTypes) (nodes : List GraphNode) (state : AbstractState) (named : List ℕ) (links : List Link) : Type 0 where
+pub record IsExpanded (p : Program) (typing : ℕ → CodeTypes) (nodes : List GraphNode) (state : AbstractState) (named : List ℕ)
+    (links : List Link) : Type 0 where
   pub children : List GraphChild
   pub are : HasChildren p typing state children
   pub names : AllZip (NamesChild nodes) children named
   pub links_are : links ≡ map (λ child. child.link) children
 
 -- the state has an expansion, and is an instance of another node's by a map
-pub record IsInstance (p : Program) (typing : ℕ → CodeTypes) (nodes : List GraphNode) (state : AbstractState) (target : ℕ) (entries : List (ℕ × ℕ)) : Type 0 where
+pub record IsInstance (p : Program) (typing : ℕ → CodeTypes) (nodes : List GraphNode) (state : AbstractState) (target : ℕ)
+    (entries : List (ℕ × ℕ)) : Type 0 where
   pub good : IsGoodState p typing state
   pub node : GraphNode
   pub is : slice_get nodes target ≡ Some node
@@ -75,7 +77,8 @@ abbrev pub IsRooted : List GraphNode → AbstractState → Type 0
 IsRooted nodes root = IsStateAt nodes root 0
 
 -- node 0 has the root's state, and every node is good. The links are those of each node
-pub record GraphOk (p : Program) (typing : ℕ → CodeTypes) (nodes : List GraphNode) (root : AbstractState) (links : List (List Link)) : Type 0 where
+pub record GraphOk (p : Program) (typing : ℕ → CodeTypes) (nodes : List GraphNode) (root : AbstractState)
+    (links : List (List Link)) : Type 0 where
   pub rooted : IsRooted nodes root
   pub each : AllZip (IsGoodNode p typing nodes) nodes links
 
@@ -88,7 +91,8 @@ pub record IsFirstOtherChild (nodes : List GraphNode) (children : List GraphChil
   pub number : ℕ
   pub is_named : slice_get named place ≡ Some number
   pub fails : NamesChild nodes child number → ⊥
-  pub before : (k : ℕ) (c : GraphChild) (n : ℕ) → k < place → slice_get children k ≡ Some c → slice_get named k ≡ Some n → NamesChild nodes c n
+  pub before : (k : ℕ) (c : GraphChild) (n : ℕ) → k < place → slice_get children k ≡ Some c → slice_get named k ≡ Some n
+      → NamesChild nodes c n
 
 -- so many children are named as there aren't
 pub record IsMiscounted (p : Program) (typing : ℕ → CodeTypes) (state : AbstractState) (named : List ℕ) : Type 0 where
@@ -96,13 +100,15 @@ pub record IsMiscounted (p : Program) (typing : ℕ → CodeTypes) (state : Abst
   pub are : HasChildren p typing state children
   pub counts : length children ≢ length named
 
-pub record HasOtherChild (p : Program) (typing : ℕ → CodeTypes) (nodes : List GraphNode) (state : AbstractState) (named : List ℕ) (place : ℕ) : Type 0 where
+pub record HasOtherChild (p : Program) (typing : ℕ → CodeTypes) (nodes : List GraphNode) (state : AbstractState) (named : List ℕ)
+    (place : ℕ) : Type 0 where
   pub children : List GraphChild
   pub are : HasChildren p typing state children
   pub counts : length children ≡ length named
   pub first : IsFirstOtherChild nodes children named place
 
-pub record FailsToMatch (p : Program) (nodes : List GraphNode) (state : AbstractState) (target : ℕ) (entries : List (ℕ × ℕ)) (fault : MatchFault) : Type 0 where
+pub record FailsToMatch (p : Program) (nodes : List GraphNode) (state : AbstractState) (target : ℕ) (entries : List (ℕ × ℕ))
+    (fault : MatchFault) : Type 0 where
   pub node : GraphNode
   pub is : slice_get nodes target ≡ Some node
   pub first : IsFirstFault (types_of p.world).sub state node.state entries fault.clause fault.id
@@ -128,7 +134,8 @@ pub record IsFirstBadNode (p : Program) (typing : ℕ → CodeTypes) (nodes : Li
   pub node : GraphNode
   pub is : slice_get nodes number ≡ Some node
   pub fails : FailsAs p typing nodes node what
-  pub before : (k : ℕ) (earlier : GraphNode) → k < number → slice_get nodes k ≡ Some earlier → (links : List Link) × IsGoodNode p typing nodes earlier links
+  pub before : (k : ℕ) (earlier : GraphNode) → k < number → slice_get nodes k ≡ Some earlier
+      → (links : List Link) × IsGoodNode p typing nodes earlier links
 
 -- the root is looked at before all nodes
 abbrev pub IsFault : Program → (ℕ → CodeTypes) → List GraphNode → AbstractState → ℕ → What → Type 0

@@ -18,7 +18,8 @@ use Rattle.abs_expand.specs.Laws.{IsAfter, IsMet}
 use Rattle.graph_check.specs.Good.{GraphOk}
 
 -- the n-th of the named nodes is reached by the n-th link
-pub record GoesByChild (p : Program) (state : AbstractState) (machine : MachineState) (meaning : Meaning) (named : List ℕ) (links : List Link) (to : ℕ) (child : AbstractState) (after : MachineState) (meaning_after : Meaning) : Type 0 where
+pub record GoesByChild (p : Program) (state : AbstractState) (machine : MachineState) (meaning : Meaning) (named : List ℕ)
+    (links : List Link) (to : ℕ) (child : AbstractState) (after : MachineState) (meaning_after : Meaning) : Type 0 where
   pub n : ℕ
   pub link : Link
   pub is_link : slice_get links n ≡ Some link
@@ -26,18 +27,22 @@ pub record GoesByChild (p : Program) (state : AbstractState) (machine : MachineS
   pub is_after : IsAfter p link.step machine after
   pub edge : Edge state machine meaning link child after meaning_after
 
-pub record GoesByInstance (machine : MachineState) (meaning : Meaning) (target : ℕ) (entries : List (ℕ × ℕ)) (to : ℕ) (after : MachineState) (meaning_after : Meaning) : Type 0 where
+pub record GoesByInstance (machine : MachineState) (meaning : Meaning) (target : ℕ) (entries : List (ℕ × ℕ)) (to : ℕ)
+    (after : MachineState) (meaning_after : Meaning) : Type 0 where
   pub is_target : to ≡ target
   pub edge : InstanceEdge entries machine meaning after meaning_after
 
 -- an edge leads from a node, left in a way, to a node's state
 abbrev pub GoesBy : Program → AbstractState → MachineState → Meaning → By → List Link → ℕ → AbstractState → MachineState → Meaning → Type 0
-GoesBy p state machine meaning (Expand named) links to child after meaning_after = GoesByChild p state machine meaning named links to child after meaning_after
-GoesBy p state machine meaning (Instance target entries) links to child after meaning_after = GoesByInstance machine meaning target entries to after meaning_after
+GoesBy p state machine meaning (Expand named) links to child after meaning_after = GoesByChild p state machine meaning named links
+    to child after meaning_after
+GoesBy p state machine meaning (Instance target entries) links to child after meaning_after = GoesByInstance machine meaning target
+    entries to after meaning_after
 GoesBy p state machine meaning End links to child after meaning_after = ⊥
 GoesBy p state machine meaning Todo links to child after meaning_after = ⊥
 
-pub record GoesOn (p : Program) (nodes : List GraphNode) (node : GraphNode) (links : List Link) (machine : MachineState) (meaning : Meaning) : Type 0 where
+pub record GoesOn (p : Program) (nodes : List GraphNode) (node : GraphNode) (links : List Link) (machine : MachineState)
+    (meaning : Meaning) : Type 0 where
   pub to : ℕ
   pub successor : GraphNode
   pub is : slice_get nodes to ≡ Some successor
@@ -52,7 +57,8 @@ EndsHere p node machine = (node.by ≡ End) × IsEnd (step p machine)
 
 abbrev pub GraphsHoldRuns : Type 0
 GraphsHoldRuns =
-    (p : Program) (typing : ℕ → CodeTypes) (nodes : List GraphNode) (root : AbstractState) (links : List (List Link)) → IsClosed p → HasWidths p → GraphOk p typing nodes root links
+    (p : Program) (typing : ℕ → CodeTypes) (nodes : List GraphNode) (root : AbstractState) (links : List (List Link)) → IsClosed p
+    → HasWidths p → GraphOk p typing nodes root links
     → (n : ℕ) (node : GraphNode) (node_links : List Link) → slice_get nodes n ≡ Some node → slice_get links n ≡ Some node_links
     → (machine : MachineState) (meaning : Meaning) → IsMet p typing node.state machine meaning
     → EndsHere p node machine ⊎ GoesOn p nodes node node_links machine meaning

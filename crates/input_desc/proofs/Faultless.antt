@@ -4,7 +4,8 @@ use Rattle.std.specs.Prelude.{◌≢◌, not}
 use Rattle.std.specs.Option.{option_map, option_or}
 use Rattle.std.proofs.lemmas.Bool.{eqb-true, not-false}
 use Rattle.input_text.specs.declared.fault.DescFault.{DescFault}
-use Rattle.input_text.specs.declared.fault.DescFault.TheVariants.{Json, NoMethod, Abstract, ParamCount, ParamKind, EmptyInterval, UnknownType, BadPair, BadObject, StaticCount, Memory}
+use Rattle.input_text.specs.declared.fault.DescFault.TheVariants.{Json, NoMethod, Abstract, ParamCount, ParamKind, EmptyInterval}
+use Rattle.input_text.specs.declared.fault.DescFault.TheVariants.{UnknownType, BadPair, BadObject, StaticCount, Memory}
 use Rattle.input_desc.specs.Due.{IsFault, is_memory, fault_if}
 
 pub not_mapped : {A : Type 0} (f : A → DescFault) (o : Option A) → option_map f o ≡ None → o ≡ None

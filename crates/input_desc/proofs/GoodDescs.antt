@@ -1,5 +1,6 @@
 -- What is described without a fault: each input is there, and each pair is one.
-use Rattle.std.proofs.Common.{◌≡◌, ◌≢◌, ℕ, ◌+◌, ◌≤◌, ◌<◌, Bool, true, false, cond, eqb, List, [], ◌∷◌, ◌++◌, length, length-append, map, Option, Some, None, Ok, refl, sym, ap, subst, ◌∙◌, arith}
+use Rattle.std.proofs.Common.{◌≡◌, ◌≢◌, ℕ, ◌+◌, ◌≤◌, ◌<◌, Bool, true, false, cond, eqb, List, [], ◌∷◌, ◌++◌, length, length-append}
+use Rattle.std.proofs.Common.{map, Option, Some, None, Ok, refl, sym, ap, subst, ◌∙◌, arith}
 use Rattle.std.specs.Prelude.{All, not, ◌&&◌, slice_get, is_some}
 use Rattle.std.specs.List.{list_all, position_from}
 use Rattle.std.specs.Option.{option_map_or}
@@ -28,7 +29,8 @@ use Rattle.input_desc.proofs.Faultless.{not_mapped}
 
 -- ---- each input is there
 
-both_there : (n : ℕ) (wanted : List Slot) (found : List (Option Input)) → length found ≡ length wanted → first_unfit has_ints n wanted found ≡ None → first_unfit has_a_type n wanted found ≡ None → list_all is_some found ≡ true
+both_there : (n : ℕ) (wanted : List Slot) (found : List (Option Input)) → length found ≡ length wanted
+    → first_unfit has_ints n wanted found ≡ None → first_unfit has_a_type n wanted found ≡ None → list_all is_some found ≡ true
 both_there n wanted [] l e f = refl
 both_there n [] (input ∷ found) l e f = absurd (omega (arith, l))
 both_there n (slots.Num kind ∷ wanted) (Some input ∷ found) l e f = both_there (n + 1) wanted found (omega (arith, l)) e f
@@ -36,14 +38,18 @@ both_there n (slots.Num kind ∷ wanted) (None ∷ found) l e f = absurd (let h 
 both_there n (slots.Ref t ∷ wanted) (Some input ∷ found) l e f = both_there (n + 1) wanted found (omega (arith, l)) e f
 both_there n (slots.Ref t ∷ wanted) (None ∷ found) l e f = absurd (let h : Some n ≡ None = f in cc)
 
-inputs_count : (world : World) (wanted : List Slot) (texts' : List InputText) → length texts' ≡ length wanted → length (inputs_from world wanted texts') ≡ length wanted
+inputs_count : (world : World) (wanted : List Slot) (texts' : List InputText) → length texts' ≡ length wanted
+    → length (inputs_from world wanted texts') ≡ length wanted
 inputs_count world [] texts' l = refl
 inputs_count world (slot ∷ wanted) [] l = absurd (omega (arith, l))
-inputs_count world (slot ∷ wanted) (text ∷ texts') l = let rest = inputs_count world wanted texts' (omega (arith, l)) in omega (arith, rest)
+inputs_count world (slot ∷ wanted) (text ∷ texts') l = let rest = inputs_count world wanted texts' (omega (arith, l)) in omega
+    (arith, rest)
 
 -- as many are found as there are slots
-pub found_count : (world : World) (wanted here : List Slot) (texts' : List InputText) (found shown : List (Option Input)) → length texts' ≡ length wanted → here ≡ wanted → found ≡ inputs_from world here texts' → shown ≡ found → length shown ≡ length here
-found_count world wanted here texts' found shown l h f s = ap length s ∙ ap length f ∙ inputs_count world here texts' (l ∙ ap length (sym h))
+pub found_count : (world : World) (wanted here : List Slot) (texts' : List InputText) (found shown : List (Option Input))
+    → length texts' ≡ length wanted → here ≡ wanted → found ≡ inputs_from world here texts' → shown ≡ found → length shown ≡ length here
+found_count world wanted here texts' found shown l h f s = ap length s ∙ ap length f
+    ∙ inputs_count world here texts' (l ∙ ap length (sym h))
 
 -- what holds where nothing that was found has a fault
 record IsClean (wanted : List Slot) (found : List (Option Input)) (pairs : List (ℕ × ℕ)) : Type 0 where
@@ -51,21 +57,25 @@ record IsClean (wanted : List Slot) (found : List (Option Input)) (pairs : List 
   types : first_unfit has_a_type 0 wanted found ≡ None
   good : position_from (is_no_pair wanted) 0 pairs ≡ None
 
-clean : (wanted : List Slot) (found : List (Option Input)) (pairs : List (ℕ × ℕ)) → found_fault wanted found pairs ≡ None → IsClean wanted found pairs
+clean : (wanted : List Slot) (found : List (Option Input)) (pairs : List (ℕ × ℕ)) → found_fault wanted found pairs ≡ None
+    → IsClean wanted found pairs
 unfolding found_fault
 clean wanted found pairs e =
     let a = both_none _ _ e in
     let b = both_none _ _ a.1 in
     record { ints = not_mapped EmptyInterval _ a.0; types = not_mapped UnknownType _ b.0; good = not_mapped BadPair _ b.1 }
 
-later_clean : (p : Program) (texts' : List InputText) (pairs : List (ℕ × ℕ)) → later_fault p texts' pairs ≡ None → IsClean (slots_of p) (inputs_from p.world (slots_of p) texts') pairs
+later_clean : (p : Program) (texts' : List InputText) (pairs : List (ℕ × ℕ)) → later_fault p texts' pairs ≡ None
+    → IsClean (slots_of p) (inputs_from p.world (slots_of p) texts') pairs
 unfolding later_fault
 later_clean p texts' pairs e = clean (slots_of p) (inputs_from p.world (slots_of p) texts') pairs (both_none _ _ e).1
 
-pub found_are_there : (p : Program) (texts' : List InputText) (pairs : List (ℕ × ℕ)) (found : List (Option Input)) → length texts' ≡ length (slots_of p) → Finds p texts' pairs (Ok found) → list_all is_some found ≡ true
+pub found_are_there : (p : Program) (texts' : List InputText) (pairs : List (ℕ × ℕ)) (found : List (Option Input))
+    → length texts' ≡ length (slots_of p) → Finds p texts' pairs (Ok found) → list_all is_some found ≡ true
 found_are_there p texts' pairs found l h =
     let fine = later_clean p texts' pairs h.0 in
-    ap (list_all is_some) h.1 ∙ both_there 0 (slots_of p) (inputs_from p.world (slots_of p) texts') (inputs_count p.world (slots_of p) texts' l) fine.ints fine.types
+    ap (list_all is_some) h.1 ∙ both_there 0 (slots_of p) (inputs_from p.world (slots_of p) texts')
+    (inputs_count p.world (slots_of p) texts' l) fine.ints fine.types
 
 -- ---- pairs
 
@@ -78,21 +88,28 @@ reference_within wanted n e = go (slice_get wanted n) refl e
 
 pair_below : (wanted : List Slot) (pair : ℕ × ℕ) → is_no_pair wanted pair ≡ false → IsPairBelow (length wanted) pair
 pair_below wanted pair e =
-    let outer = and_parts (not (eqb pair.0 pair.1)) (is_reference_at wanted pair.0 && is_reference_at wanted pair.1) (not-false (is_pair wanted pair) e) in
-    let inner = and_parts (is_reference_at wanted pair.0) (is_reference_at wanted pair.1) outer.1 in
-    (eqb-false pair.0 pair.1 (not-true (eqb pair.0 pair.1) outer.0), (reference_within wanted pair.0 inner.0, reference_within wanted pair.1 inner.1))
+    let outer = and_parts (not (eqb pair.0 pair.1)) (is_reference_at wanted pair.0 && is_reference_at wanted pair.1)
+    (not-false (is_pair wanted pair) e) in
+    let inner = and_parts (is_reference_at wanted pair.0) (is_reference_at wanted pair.1) outer.1 in (
+      eqb-false pair.0 pair.1 (not-true (eqb pair.0 pair.1) outer.0),
+      (reference_within wanted pair.0 inner.0, reference_within wanted pair.1 inner.1),
+    )
 
-pairs_below : (wanted : List Slot) (n : ℕ) (pairs : List (ℕ × ℕ)) → position_from (is_no_pair wanted) n pairs ≡ None → All (IsPairBelow (length wanted)) pairs
+pairs_below : (wanted : List Slot) (n : ℕ) (pairs : List (ℕ × ℕ)) → position_from (is_no_pair wanted) n pairs ≡ None
+    → All (IsPairBelow (length wanted)) pairs
 pairs_below wanted n [] e = All-nil (IsPairBelow (length wanted))
 pairs_below wanted n (pair ∷ pairs) e = go (pairs_below wanted (n + 1) pairs) (is_no_pair wanted pair) refl e
   where
-    go : (position_from (is_no_pair wanted) (n + 1) pairs ≡ None → All (IsPairBelow (length wanted)) pairs) → (b : Bool) → is_no_pair wanted pair ≡ b → cond b (Some n) (position_from (is_no_pair wanted) (n + 1) pairs) ≡ None → All (IsPairBelow (length wanted)) (pair ∷ pairs)
+    go : (position_from (is_no_pair wanted) (n + 1) pairs ≡ None → All (IsPairBelow (length wanted)) pairs) → (b : Bool)
+        → is_no_pair wanted pair ≡ b → cond b (Some n) (position_from (is_no_pair wanted) (n + 1) pairs) ≡ None
+        → All (IsPairBelow (length wanted)) (pair ∷ pairs)
     go rest true q f = absurd (let h : Some n ≡ None = f in cc)
     go rest false q f = All-cons (IsPairBelow (length wanted)) pair pairs (pair_below wanted pair q) (rest f)
 
 -- ---- descriptions
 
-pub texts_count : (p : Program) (text : DescText) → length text.params ≡ length (params_of p) → length text.statics ≡ length (statics_of p) → length (text.params ++ text.statics) ≡ length (slots_of p)
+pub texts_count : (p : Program) (text : DescText) → length text.params ≡ length (params_of p)
+    → length text.statics ≡ length (statics_of p) → length (text.params ++ text.statics) ≡ length (slots_of p)
 texts_count p text l m =
     length-append text.params text.statics
     ∙ ap (λ n. n + length text.statics) (l ∙ sym (length-map (params_of p) argument_slot))
@@ -100,28 +117,35 @@ texts_count p text l m =
     ∙ sym (length-append (map argument_slot (params_of p)) (statics_of p))
 
 -- what is made of what was found is a good description
-pub made_is_good : (p : Program) (texts' : List InputText) (same share : List (ℕ × ℕ)) (found : List (Option Input)) (desc : Desc) → length texts' ≡ length (slots_of p) → Finds p texts' (same ++ share) (Ok found) → IsMade found same share desc → IsGoodDesc p desc
+pub made_is_good : (p : Program) (texts' : List InputText) (same share : List (ℕ × ℕ)) (found : List (Option Input)) (desc : Desc)
+    → length texts' ≡ length (slots_of p) → Finds p texts' (same ++ share) (Ok found) → IsMade found same share desc → IsGoodDesc p desc
 made_is_good p texts' same share found desc l h made =
     let fine = later_clean p texts' (same ++ share) h.0 in
-    let count : length desc.inputs ≡ length (slots_of p) = sym (length-map desc.inputs Some) ∙ ap length (made.inputs_are ∙ h.1) ∙ inputs_count p.world (slots_of p) texts' l in
+    let count : length desc.inputs ≡ length (slots_of p) = sym (length-map desc.inputs Some) ∙ ap length (made.inputs_are ∙ h.1)
+    ∙ inputs_count p.world (slots_of p) texts' l in
     let pairs : desc.same ++ desc.share ≡ same ++ share = ap (λ xs. xs ++ desc.share) made.same_is ∙ ap (λ xs. same ++ xs) made.share_is in
     let below = pairs_below (slots_of p) 0 (same ++ share) fine.good in
     record {
       count = count;
       few = made.few;
-      pairs = subst (λ xs. All (IsPairBelow (length desc.inputs)) xs) (sym pairs) (subst (λ n. All (IsPairBelow n) (same ++ share)) (sym count) below);
+      pairs = subst (λ xs. All (IsPairBelow (length desc.inputs)) xs) (sym pairs)
+          (subst (λ n. All (IsPairBelow n) (same ++ share)) (sym count) below);
     }
 
 -- each pair of a description without a fault is one of two different reference inputs
-references : (wanted : List Slot) (n : ℕ) (pairs : List (ℕ × ℕ)) → position_from (is_no_pair wanted) n pairs ≡ None → All (λ pair. is_pair wanted pair ≡ true) pairs
+references : (wanted : List Slot) (n : ℕ) (pairs : List (ℕ × ℕ)) → position_from (is_no_pair wanted) n pairs ≡ None
+    → All (λ pair. is_pair wanted pair ≡ true) pairs
 references wanted n [] e = All-nil (λ (pair : ℕ × ℕ). is_pair wanted pair ≡ true)
 references wanted n (pair ∷ pairs) e = go (references wanted (n + 1) pairs) (is_no_pair wanted pair) refl e
   where
-    go : (position_from (is_no_pair wanted) (n + 1) pairs ≡ None → All (λ pair. is_pair wanted pair ≡ true) pairs) → (b : Bool) → is_no_pair wanted pair ≡ b → cond b (Some n) (position_from (is_no_pair wanted) (n + 1) pairs) ≡ None → All (λ pair. is_pair wanted pair ≡ true) (pair ∷ pairs)
+    go : (position_from (is_no_pair wanted) (n + 1) pairs ≡ None → All (λ pair. is_pair wanted pair ≡ true) pairs) → (b : Bool)
+        → is_no_pair wanted pair ≡ b → cond b (Some n) (position_from (is_no_pair wanted) (n + 1) pairs) ≡ None
+        → All (λ pair. is_pair wanted pair ≡ true) (pair ∷ pairs)
     go rest true q f = absurd (let h : Some n ≡ None = f in cc)
     go rest false q f = All-cons (λ (pair : ℕ × ℕ). is_pair wanted pair ≡ true) pair pairs (not-false (is_pair wanted pair) q) (rest f)
 
-pub pairs_are : (p : Program) (text : DescText) → desc_fault p text ≡ None → All (λ pair. is_pair (slots_of p) pair ≡ true) (text.same ++ text.share)
+pub pairs_are : (p : Program) (text : DescText) → desc_fault p text ≡ None
+    → All (λ pair. is_pair (slots_of p) pair ≡ true) (text.same ++ text.share)
 unfolding desc_fault
 pairs_are p text e =
     let later = (both_none _ _ (both_none _ _ e).1).1 in
@@ -139,10 +163,14 @@ lower n pair l h =
     (h.0, (omega arith, omega arith))
 
 pub same_below : (p : Program) (desc : Desc) → IsGoodDesc p desc → All (IsPairBelow 2048) desc.same
-same_below p desc good = every_front (IsPairBelow 2048) desc.same desc.share (All-weaker (IsPairBelow (length desc.inputs)) (IsPairBelow 2048) (λ pair h. lower (length desc.inputs) pair good.few h) (desc.same ++ desc.share) good.pairs)
+same_below p desc good = every_front (IsPairBelow 2048) desc.same desc.share
+    (All-weaker (IsPairBelow (length desc.inputs)) (IsPairBelow 2048) (λ pair h. lower (length desc.inputs) pair good.few h)
+    (desc.same ++ desc.share) good.pairs)
 
 pub share_below : (p : Program) (desc : Desc) → IsGoodDesc p desc → All (IsPairBelow 2048) desc.share
-share_below p desc good = every_back (IsPairBelow 2048) desc.same desc.share (All-weaker (IsPairBelow (length desc.inputs)) (IsPairBelow 2048) (λ pair h. lower (length desc.inputs) pair good.few h) (desc.same ++ desc.share) good.pairs)
+share_below p desc good = every_back (IsPairBelow 2048) desc.same desc.share
+    (All-weaker (IsPairBelow (length desc.inputs)) (IsPairBelow 2048) (λ pair h. lower (length desc.inputs) pair good.few h)
+    (desc.same ++ desc.share) good.pairs)
 
 pub inputs_few : (p : Program) (desc : Desc) → IsGoodDesc p desc → length (params_of p) + length p.statics ≤ 2048
 inputs_few p desc good =

@@ -48,6 +48,7 @@ named_is world text t e = go (is_class_name text) e
     array None q f = cc
     array (Some ft) q f = array_is world ft t (whole_dims text ft q) f
 
-    go : (b : Bool) → cond b (option_map class_type (class_of world text)) (option_and_then (array_of_type world) (field_type text)) ≡ Some t → IsReference (length world) t
+    go : (b : Bool) → cond b (option_map class_type (class_of world text)) (option_and_then (array_of_type world) (field_type text))
+        ≡ Some t → IsReference (length world) t
     go true f = class (class_of world text) refl f
     go false f = array (field_type text) refl f

@@ -22,7 +22,8 @@ use Rattle.input_desc.specs.Given.{statics_of}
 -- an int of the interval; or a reference, null only where allowed, of the erased type and the shape
 abbrev pub FitsInput : WorldTypes → Heap → Input → Value → Type 0
 FitsInput types heap (Int interval) value = (n : ℤ) × ((value ≡ values.Int n) × IsIn n interval)
-FitsInput types heap (Ref ty null shape) value = (value ≡ values.Null → IsTrue null) × (HasType types heap value ty × HasShape shape heap value)
+FitsInput types heap (Ref ty null shape) value = (value ≡ values.Null → IsTrue null)
+    × (HasType types heap value ty × HasShape shape heap value)
 
 -- ---- pairs
 
@@ -56,5 +57,8 @@ pub record FitsDescription (p : Program) (desc : Desc) (state : MachineState) : 
   pub statics : AllZip (Holds (types_of p.world) state.heap) (statics_of p) state.statics
   pub typed : IsTypedHeap (types_of p.world) state.heap
   pub inputs : AllZip (FitsInput (types_of p.world) state.heap) desc.inputs (args ++ state.statics)
-  pub same : (i j o : ℕ) (v w : Value) → i ≢ j → slice_get (args ++ state.statics) i ≡ Some v → slice_get (args ++ state.statics) j ≡ Some w → target v ≡ Some o → target w ≡ Some o → IsListed i j desc.same
-  pub share : (i j o : ℕ) (v w : Value) → i ≢ j → slice_get (args ++ state.statics) i ≡ Some v → slice_get (args ++ state.statics) j ≡ Some w → Region state.heap v o → Region state.heap w o → IsListed i j (desc.same ++ desc.share)
+  pub same : (i j o : ℕ) (v w : Value) → i ≢ j → slice_get (args ++ state.statics) i ≡ Some v
+      → slice_get (args ++ state.statics) j ≡ Some w → target v ≡ Some o → target w ≡ Some o → IsListed i j desc.same
+  pub share : (i j o : ℕ) (v w : Value) → i ≢ j → slice_get (args ++ state.statics) i ≡ Some v
+      → slice_get (args ++ state.statics) j ≡ Some w → Region state.heap v o → Region state.heap w o
+      → IsListed i j (desc.same ++ desc.share)

@@ -31,7 +31,8 @@ with_pairs pairs (pair ∷ more) = with_pairs (added pair.0 pair.1 pairs) more
 
 -- two inputs may be one object, by their types
 abbrev pub are_alike : World → List Input → ℕ × ℕ → Bool
-are_alike world inputs pair = option_map_or (λ a. option_map_or (λ b. are_compatible (is_sub world) (cell_of a) (cell_of b)) (slice_get inputs pair.1) false) (slice_get inputs pair.0) false
+are_alike world inputs pair = option_map_or (λ a. option_map_or (λ b. are_compatible (is_sub world) (cell_of a) (cell_of b))
+    (slice_get inputs pair.1) false) (slice_get inputs pair.0) false
 
 -- how many locals the entry method has
 abbrev pub locals_of : Program → ℕ

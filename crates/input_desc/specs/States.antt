@@ -22,7 +22,8 @@ objects_of p text = map (object_of p.world) text.heap
 
 -- the first fault of as many values as there are inputs, and then of objects
 unfoldable pub value_fault : WorldTypes → List Slot → Objects → List Value → Option DescFault
-value_fault types inputs objects given = option_or (option_map ParamKind (first_unfit (is_held types objects) 0 inputs given)) (option_map BadObject (position_from (is_bad types objects) 0 objects))
+value_fault types inputs objects given = option_or (option_map ParamKind (first_unfit (is_held types objects) 0 inputs given))
+    (option_map BadObject (position_from (is_bad types objects) 0 objects))
 
 -- the first fault of arguments, values of static fields and objects; the counts come first
 unfoldable pub first_fault : WorldTypes → List Slot → List Slot → Objects → List Value → List Value → Option DescFault

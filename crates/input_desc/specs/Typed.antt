@@ -1,5 +1,6 @@
 -- Values and objects that a text gives, tested. Of an object that is none of the world's nothing has a type.
-use Rattle.std.specs.Prelude.{ℕ, ◌+◌, not, ◌==◌, ℤ, ◌&&◌, Bool, true, false, if◌then◌else◌, nat_le, nat_lt, int_le, List, [], ◌∷◌, length, slice_get, Option, Some, None, option_and_then, option_map, is_none}
+use Rattle.std.specs.Prelude.{ℕ, ◌+◌, not, ◌==◌, ℤ, ◌&&◌, Bool, true, false, if◌then◌else◌, nat_le, nat_lt, int_le, List, [], ◌∷◌}
+use Rattle.std.specs.Prelude.{length, slice_get, Option, Some, None, option_and_then, option_map, is_none}
 use Rattle.std.specs.List.{list_all}
 use Rattle.std.specs.Option.{option_map_or}
 use Rattle.jvm_values.specs.declared.types.Kind.{Kind}
@@ -67,9 +68,11 @@ is_held types objects (slots.Ref t) value = has_type types objects (types.erase 
 -- an instance of a class of the world that can be made, with a value for each field; an array of at most 2^31 - 1 items, each of its kind
 -- or type
 abbrev pub is_typed : WorldTypes → Objects → Object → Bool
-is_typed types objects (Instance class fields) = nat_lt class types.classes && (types.can_be_made class && all_fit (is_held types objects) (types.fields class) fields)
+is_typed types objects (Instance class fields) = nat_lt class types.classes
+    && (types.can_be_made class && all_fit (is_held types objects) (types.fields class) fields)
 is_typed types objects (Nums kind items) = nat_le (length items) 2147483647 && list_all (is_of_kind kind) items
-is_typed types objects (Refs element items) = nat_le (length items) 2147483647 && (nat_lt element.dims 255 && list_all (has_type types objects element) items)
+is_typed types objects (Refs element items) = nat_le (length items) 2147483647
+    && (nat_lt element.dims 255 && list_all (has_type types objects element) items)
 
 -- one that isn't there, or not typed
 abbrev pub is_bad : WorldTypes → Objects → Option Object → Bool

@@ -24,5 +24,6 @@ pub record IsMade (found : List (Option Input)) (same share : List (ℕ × ℕ))
 
 -- what is made of texts and pairs without a fault, or the first fault
 abbrev pub Fitted : Program → List InputText → List (ℕ × ℕ) → List (ℕ × ℕ) → Result Desc DescFault → Type 0
-Fitted p texts' same share (Ok desc) = (later_fault p texts' (same ++ share) ≡ None) × IsMade (inputs_from p.world (slots_of p) texts') same share desc
+Fitted p texts' same share (Ok desc) = (later_fault p texts' (same ++ share) ≡ None)
+    × IsMade (inputs_from p.world (slots_of p) texts') same share desc
 Fitted p texts' same share (Err fault) = IsFault is_memory fault (later_fault p texts' (same ++ share))

@@ -84,7 +84,8 @@ fn initial_frames(
     statics: usize,
 ) -> Result<Seq<AbsFrame>, AllocError>
     requires { params + statics ≤ 2048 }
-    ensures { IfOk result (λ frames. frames ≡ record { method = 0; pc = 0; locals = initial_locals places params statics; stack = [] } ∷ []) }
+    ensures { IfOk result
+        (λ frames. frames ≡ record { method = 0; pc = 0; locals = initial_locals places params statics; stack = [] } ∷ []) }
 {
     let locals = initial_locals(alloc, places, params, statics)?;
     let mut frames = Seq::new(alloc);
@@ -153,7 +154,8 @@ fn add_alike<P: Pairs>(
     more: &[(u32, u32)],
 ) -> Result<(), AllocError>
     requires { All (IsPairBelow 2048) more.now }
-    ensures { OnOk result (P.pairs pairs.new ≡ with_pairs (P.pairs pairs.old) (filter (are_alike (classes_of world.now) inputs.now) more.now)) }
+    ensures { OnOk result
+        (P.pairs pairs.new ≡ with_pairs (P.pairs pairs.old) (filter (are_alike (classes_of world.now) inputs.now) more.now)) }
 {
     for pair in more {
         if are_alike(world, inputs, *pair) {

@@ -13,11 +13,14 @@ pub record IsInput (inputs : List Input) (k : ℕ) (cell : Cell) : Type 0 where
   pub there : slice_get inputs k ≡ Some input
   pub cell_is : cell ≡ cell_of input
 
-cells_found : (n : ℕ) (inputs : List Input) (id : ℕ) (cell : Cell) → cell_in (cells_from n inputs) id ≡ Some cell → (k : ℕ) × ((id ≡ n + k) × IsInput inputs k cell)
+cells_found : (n : ℕ) (inputs : List Input) (id : ℕ) (cell : Cell) → cell_in (cells_from n inputs) id ≡ Some cell
+    → (k : ℕ) × ((id ≡ n + k) × IsInput inputs k cell)
 cells_found n [] id cell e = absurd cc
 cells_found n (input ∷ inputs) id cell e = go (cells_found (n + 1) inputs id cell) (eqb n id) refl e
   where
-    go : (cell_in (cells_from (n + 1) inputs) id ≡ Some cell → (k : ℕ) × ((id ≡ (n + 1) + k) × IsInput inputs k cell)) → (b : Bool) → eqb n id ≡ b → cond b (Some (cell_of input)) (cell_in (cells_from (n + 1) inputs) id) ≡ Some cell → (k : ℕ) × ((id ≡ n + k) × IsInput (input ∷ inputs) k cell)
+    go : (cell_in (cells_from (n + 1) inputs) id ≡ Some cell → (k : ℕ) × ((id ≡ (n + 1) + k) × IsInput inputs k cell)) → (b : Bool)
+        → eqb n id ≡ b → cond b (Some (cell_of input)) (cell_in (cells_from (n + 1) inputs) id) ≡ Some cell
+        → (k : ℕ) × ((id ≡ n + k) × IsInput (input ∷ inputs) k cell)
     go rest true q f =
         let same : cell_of input ≡ cell = cc in
         let here : n ≡ id = eqb-true n id q in

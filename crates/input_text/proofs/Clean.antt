@@ -1,5 +1,6 @@
 -- No reader of a value says that the text is no JSON.
-use Rattle.std.proofs.Common.{◌≡◌, ℕ, zero, suc, ℤ, ◌==◌, ◌&&◌, Bool, true, false, cond, List, [], ◌∷◌, Result, Ok, Err, Option, Some, None, refl, sym, subst, codes}
+use Rattle.std.proofs.Common.{◌≡◌, ℕ, zero, suc, ℤ, ◌==◌, ◌&&◌, Bool, true, false, cond, List, [], ◌∷◌, Result, Ok, Err, Option}
+use Rattle.std.proofs.Common.{Some, None, refl, sym, subst, codes}
 use Rattle.std.specs.Prelude.{option_map, int_le}
 use Rattle.std.specs.Option.{ok_or}
 use Rattle.std.specs.Str.{bytes_eq}
@@ -8,7 +9,8 @@ use Rattle.serde_json.specs.Find.{as_object, as_array, as_str, as_bool, get_memb
 use Rattle.json_view.specs.Located.{Located, root_of}
 use Rattle.json_view.specs.Answers.{Reads}
 use Rattle.json_view.specs.Names.{least_unlisted, first_missing}
-use Rattle.json_view.specs.Reading.{only_of, field_of, items_of, item_of, int_of, text_of, flag_of, first_fault, unknown_field, missing_field, at_member, at_item, within, whole_number_of, has_field}
+use Rattle.json_view.specs.Reading.{only_of, field_of, items_of, item_of, int_of, text_of, flag_of, first_fault, unknown_field}
+use Rattle.json_view.specs.Reading.{missing_field, at_member, at_item, within, whole_number_of, has_field}
 use Rattle.json_view.specs.declared.fault.JsonFault.{JsonFault}
 use Rattle.json_view.specs.declared.fault.JsonFault.TheVariants.{NotJson, WrongKind, MissingField, UnknownField, OutOfRange, Memory}
 use Rattle.jvm_values.specs.Kinds.{kind_of_code}
@@ -35,7 +37,8 @@ abbrev IsClean : {A : Type 0} → Result A JsonFault → Type 0
 IsClean (Ok value) = Unit {0}
 IsClean (Err fault) = IsOther fault
 
-bind : {A B : Type 0} (r : Result A JsonFault) (next : A → Result B JsonFault) → IsClean r → ((x : A) → IsClean (next x)) → IsClean (r >>= next)
+bind : {A B : Type 0} (r : Result A JsonFault) (next : A → Result B JsonFault) → IsClean r → ((x : A) → IsClean (next x))
+    → IsClean (r >>= next)
 bind (Ok x) next c d = d x
 bind (Err fault) next c d = c
 
@@ -47,7 +50,8 @@ kinds : {A : Type 0} (found : Option A) (fault : JsonFault) → IsOther fault �
 kinds (Some x) fault o = tt
 kinds None fault o = o
 
-firsts : (place : List ℕ) (a b : Option (List ℕ)) → IsClean (first_fault (option_map (unknown_field place) a) (option_map (missing_field place) b))
+firsts : (place : List ℕ) (a b : Option (List ℕ))
+    → IsClean (first_fault (option_map (unknown_field place) a) (option_map (missing_field place) b))
 firsts place (Some a) b = tt
 firsts place None (Some b) = tt
 firsts place None None = tt
@@ -56,7 +60,10 @@ only : (names : List ℕ) (here : Located) → IsClean (only_of names here)
 unfolding only_of
 only names here = at (as_object here.value)
   where
-    at : (found : Option Members) → IsClean (ok_or found (WrongKind here.place) >>= λ members. first_fault (option_map (unknown_field here.place) (least_unlisted names members)) (option_map (missing_field here.place) (first_missing names members)))
+    at : (found : Option Members)
+        → IsClean (ok_or found (WrongKind here.place) >>= λ members. first_fault
+        (option_map (unknown_field here.place) (least_unlisted names members))
+        (option_map (missing_field here.place) (first_missing names members)))
     at (Some members) = firsts here.place (least_unlisted names members) (first_missing names members)
     at None = tt
 
@@ -64,7 +71,9 @@ field_is : (name : List ℕ) (here : Located) → IsClean (field_of name here)
 unfolding field_of
 field_is name here = at (as_object here.value)
   where
-    at : (found : Option Members) → IsClean (ok_or found (WrongKind here.place) >>= λ members. ok_or (option_map (at_member here.place name) (get_member name members)) (missing_field here.place name))
+    at : (found : Option Members)
+        → IsClean (ok_or found (WrongKind here.place) >>= λ members. ok_or
+        (option_map (at_member here.place name) (get_member name members)) (missing_field here.place name))
     at (Some members) = kinds (option_map (at_member here.place name) (get_member name members)) (missing_field here.place name) tt
     at None = tt
 
@@ -95,7 +104,8 @@ of_field : {A : Type 0} (name : List ℕ) (reader : Reader A) → AreClean reade
 unfolding field
 of_field name reader c here = bind (field_of name here) reader (field_is name here) c
 
-from_items : {A : Type 0} (reader : Reader A) (place : List ℕ) (n : ℕ) (all : Items) → AreClean reader → IsClean (items_from reader place n all)
+from_items : {A : Type 0} (reader : Reader A) (place : List ℕ) (n : ℕ) (all : Items) → AreClean reader
+    → IsClean (items_from reader place n all)
 from_items reader place n no_items c = tt
 from_items reader place n (item value rest) c =
     bind (reader (at_item place n value)) (λ x. items_from reader place (suc n) rest >>= λ xs. Ok (x ∷ xs)) (c (at_item place n value))
@@ -103,7 +113,8 @@ from_items reader place n (item value rest) c =
 
 of_list : {A : Type 0} (reader : Reader A) → AreClean reader → AreClean (list_of reader)
 unfolding list_of
-of_list reader c here = bind (ok_or (as_array here.value) (WrongKind here.place)) (items_from reader here.place 0) (kinds (as_array here.value) (WrongKind here.place) tt) (λ all. from_items reader here.place 0 all c)
+of_list reader c here = bind (ok_or (as_array here.value) (WrongKind here.place)) (items_from reader here.place 0)
+    (kinds (as_array here.value) (WrongKind here.place) tt) (λ all. from_items reader here.place 0 all c)
 
 of_int : AreClean an_int
 unfolding an_int
@@ -167,7 +178,8 @@ of_refs here =
 
 of_object : AreClean object_of
 unfolding object_of
-of_object here = choice (has_field (codes "class") here) _ _ (of_instance here) (choice (has_field (codes "nums") here) _ _ (of_nums here) (of_refs here))
+of_object here = choice (has_field (codes "class") here) _ _ (of_instance here)
+    (choice (has_field (codes "nums") here) _ _ (of_nums here) (of_refs here))
 
 of_int_input : AreClean int_input
 unfolding int_input
@@ -178,7 +190,9 @@ of_int_input here =
 
 of_shape : AreClean shape_of
 unfolding shape_of
-of_shape here = bind _ _ (text here) (λ word. choice (bytes_eq word (codes "tree")) _ _ tt (choice (bytes_eq word (codes "dag")) _ _ tt (choice (bytes_eq word (codes "any")) _ _ tt tt)))
+of_shape here = bind _ _ (text here)
+    (λ word. choice (bytes_eq word (codes "tree")) _ _ tt
+    (choice (bytes_eq word (codes "dag")) _ _ tt (choice (bytes_eq word (codes "any")) _ _ tt tt)))
 
 of_ref_fields : AreClean ref_fields
 unfolding ref_fields
@@ -223,9 +237,12 @@ unfolding desc_fields
 of_desc_fields form here =
     bind _ _ (only _ here) (λ _.
     bind _ _ (of_entry here) (λ entry.
-    bind _ _ (of_field (codes "params") (list_of input_of) (of_list input_of of_input) here) (λ params. of_desc_end form entry params here)))
+    bind _ _ (of_field (codes "params") (list_of input_of) (of_list input_of of_input) here)
+    (λ params. of_desc_end form entry params here)))
 
-of_form : {A : Type 0} (next : ℤ → Reader A) → ((form : ℤ) → AreClean (next form)) → (here : Located) → IsClean (field (codes "form") (int_of (Rattle.std.proofs.Common.pos 1) (Rattle.std.proofs.Common.pos 2)) here >>= λ form. next form here)
+of_form : {A : Type 0} (next : ℤ → Reader A) → ((form : ℤ) → AreClean (next form)) → (here : Located)
+    → IsClean (field (codes "form") (int_of (Rattle.std.proofs.Common.pos 1) (Rattle.std.proofs.Common.pos 2)) here >>= λ form. next
+    form here)
 of_form next c here = bind _ _ (of_field (codes "form") (int_of _ _) (int _ _) here) (λ form. c form here)
 
 pub of_description : AreClean description_of
@@ -234,7 +251,8 @@ of_description here = of_form desc_fields of_desc_fields here
 
 of_static_values : (form : ℤ) → AreClean (static_values form)
 unfolding static_values
-of_static_values form here = choice (is_first_form form) _ _ tt (bind _ _ (of_field (codes "statics") (list_of value_of) (of_list value_of of_value) here) (λ _. tt))
+of_static_values form here = choice (is_first_form form) _ _ tt
+    (bind _ _ (of_field (codes "statics") (list_of value_of) (of_list value_of of_value) here) (λ _. tt))
 
 of_state_end : (form : ℤ) (entry : EntryName) → AreClean (state_end form entry)
 unfolding state_end
@@ -257,8 +275,11 @@ clean_is : {A : Type 0} (r : Result A JsonFault) → IsClean r → r ≡ Err Not
 clean_is (Ok x) c e = let no : ⊥ = cc in no
 clean_is (Err fault) c e = let same : fault ≡ NotJson = cc in subst IsOther same c
 
-pub faulty : {A : Type 0} (reader : Reader A) (bytes : List ℕ) (value : Data) (fault : JsonFault) (answer : DescFault) → AreClean reader → Reads bytes value → Says (Err fault) (reader (root_of value)) → answer ≡ described fault → AnswersText reader bytes (Err answer)
-faulty {A = A} reader bytes value fault answer c r s e = subst (λ (x : DescFault). AnswersText reader bytes (Err x)) (sym e) (by_fault fault s)
+pub faulty : {A : Type 0} (reader : Reader A) (bytes : List ℕ) (value : Data) (fault : JsonFault) (answer : DescFault)
+    → AreClean reader → Reads bytes value → Says (Err fault) (reader (root_of value)) → answer ≡ described fault
+    → AnswersText reader bytes (Err answer)
+faulty {A = A} reader bytes value fault answer c r s e = subst (λ (x : DescFault). AnswersText reader bytes (Err x)) (sym e)
+    (by_fault fault s)
   where
     by_fault : (f : JsonFault) → Says {A = A} (Err f) (reader (root_of value)) → AnswersText reader bytes (Err (described f))
     by_fault NotJson t = absurd (clean_is (reader (root_of value)) (c (root_of value)) t)

@@ -1,5 +1,6 @@
 -- Numbers that are read lie in their range, and stay the same in a narrower type.
-use Rattle.std.proofs.Common.{◌≡◌, ℕ, ℤ, pos, negsuc, ◌≤ℤ◌, ◌&&◌, Bool, true, false, cond, List, Ok, Err, Option, Some, None, refl, sym, ◌∙◌, subst, FitsSigned, to_z, of_z, to_z-of_z, w8, w32, w64, Fits, arith, T, nat_abs}
+use Rattle.std.proofs.Common.{◌≡◌, ℕ, ℤ, pos, negsuc, ◌≤ℤ◌, ◌&&◌, Bool, true, false, cond, List, Ok, Err, Option, Some, None, refl}
+use Rattle.std.proofs.Common.{sym, ◌∙◌, subst, FitsSigned, to_z, of_z, to_z-of_z, w8, w32, w64, Fits, arith, T, nat_abs}
 use Rattle.std.specs.Prelude.{int_le}
 use Rattle.std.proofs.lemmas.Bool.{and_parts}
 use Rattle.std.proofs.lemmas.Int.{ints}
@@ -17,14 +18,16 @@ pub record IsWithin (low high n : ℤ) : Type 0 where
   pub least : low ≤ℤ n
   pub greatest : n ≤ℤ high
 
-inside : (fault : JsonFault) (low high m n : ℤ) (t : Bool) → (int_le low m && int_le m high) ≡ t → cond t (Ok m) (Err fault) ≡ Ok n → IsWithin low high n
+inside : (fault : JsonFault) (low high m n : ℤ) (t : Bool) → (int_le low m && int_le m high) ≡ t → cond t (Ok m) (Err fault) ≡ Ok n
+    → IsWithin low high n
 inside fault low high m n true t e =
     let p = and_parts (int_le low m) (int_le m high) t in
     let same : m ≡ n = cc in
     subst (λ (x : ℤ). IsWithin low high x) same (record { least = int_le_true low m p.0; greatest = int_le_true m high p.1 })
 inside fault low high m n false t e = let no : ⊥ = cc in absurd no
 
-inside_kind : (place : List ℕ) (low high n : ℤ) (found : Option ℤ) → (ok_or found (WrongKind place) >>= within place low high) ≡ Ok n → IsWithin low high n
+inside_kind : (place : List ℕ) (low high n : ℤ) (found : Option ℤ)
+    → (ok_or found (WrongKind place) >>= within place low high) ≡ Ok n → IsWithin low high n
 inside_kind place low high n (Some m) e = inside (OutOfRange place) low high m n (int_le low m && int_le m high) refl e
 inside_kind place low high n None e = let no : ⊥ = cc in absurd no
 

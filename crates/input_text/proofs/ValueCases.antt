@@ -1,5 +1,6 @@
 -- What values are read as, case by case.
-use Rattle.std.proofs.Common.{◌≡◌, ℕ, ℤ, Bool, true, false, List, Result, Ok, Err, refl, sym, ap, ◌∙◌, subst, negsuc, pos, ◌&&◌, cond, to_z, of_z, w32}
+use Rattle.std.proofs.Common.{◌≡◌, ℕ, ℤ, Bool, true, false, List, Result, Ok, Err, refl, sym, ap, ◌∙◌, subst, negsuc, pos, ◌&&◌}
+use Rattle.std.proofs.Common.{cond, to_z, of_z, w32}
 use Rattle.input_text.proofs.Numbers.{int_kept}
 use Rattle.std.specs.Prelude.{int_le}
 use Rattle.std.specs.Prelude.{is_some}
@@ -31,7 +32,8 @@ pub null_is : (here : Located) → is_some (as_null here.value) ≡ true → val
 unfolding value_of
 null_is here e = null_by here.value here e
 
-field_by : (name place : List ℕ) (value : Data) → has_field name (record { value = value; place = place }) ≡ true → value_by value (record { value = value; place = place }) ≡ ref_value (record { value = value; place = place })
+field_by : (name place : List ℕ) (value : Data) → has_field name (record { value = value; place = place }) ≡ true
+    → value_by value (record { value = value; place = place }) ≡ ref_value (record { value = value; place = place })
 field_by name place null e = let no : ⊥ = cc in absurd no
 field_by name place (boolean b) e = refl
 field_by name place (number n) e = let no : ⊥ = cc in absurd no
@@ -44,7 +46,8 @@ pub ref_is : (name : List ℕ) (here : Located) → has_field name here ≡ true
 unfolding value_of
 ref_is name here e = field_by name here.place here.value e
 
-int_by : (place : List ℕ) (value : Data) (n : ℤ) → an_int (record { value = value; place = place }) ≡ Ok n → value_by value (record { value = value; place = place }) ≡ Ok (Int n)
+int_by : (place : List ℕ) (value : Data) (n : ℤ) → an_int (record { value = value; place = place }) ≡ Ok n
+    → value_by value (record { value = value; place = place }) ≡ Ok (Int n)
 unfolding an_int int_of int_value
 int_by place null n e = let no : ⊥ = cc in absurd no
 int_by place (boolean b) n e = let no : ⊥ = cc in absurd no
@@ -62,13 +65,17 @@ no_kind : (place p : List ℕ) (t : Bool) (n : ℤ) → cond t (Ok n) (Err (OutO
 no_kind place p true n e = cc
 no_kind place p false n e = cc
 
-number_by : (place p : List ℕ) (n : Num) → an_int (record { value = number n; place = place }) ≡ Err (WrongKind p) → int_value (record { value = number n; place = place }) ≡ ref_value (record { value = number n; place = place })
+number_by : (place p : List ℕ) (n : Num) → an_int (record { value = number n; place = place }) ≡ Err (WrongKind p)
+    → int_value (record { value = number n; place = place }) ≡ ref_value (record { value = number n; place = place })
 unfolding an_int int_of int_value ref_value only_of
-number_by place p (unsigned k) e = absurd (no_kind place p (int_le (negsuc 2147483647) (pos k) && int_le (pos k) (pos 2147483647)) (pos k) e)
+number_by place p (unsigned k) e = absurd (no_kind place p (int_le (negsuc 2147483647) (pos k) && int_le (pos k) (pos 2147483647))
+    (pos k) e)
 number_by place p (negative z) e = absurd (no_kind place p (int_le (negsuc 2147483647) z && int_le z (pos 2147483647)) z e)
 number_by place p (float x) e = refl
 
-kind_by : (place p : List ℕ) (value : Data) → is_some (as_null value) ≡ false → an_int (record { value = value; place = place }) ≡ Err (WrongKind p) → value_by value (record { value = value; place = place }) ≡ ref_value (record { value = value; place = place })
+kind_by : (place p : List ℕ) (value : Data) → is_some (as_null value) ≡ false
+    → an_int (record { value = value; place = place }) ≡ Err (WrongKind p)
+    → value_by value (record { value = value; place = place }) ≡ ref_value (record { value = value; place = place })
 kind_by place p null f e = let no : ⊥ = cc in absurd no
 kind_by place p (boolean b) f e = refl
 kind_by place p (number n) f e = number_by place p n e
@@ -77,7 +84,8 @@ kind_by place p (array items) f e = refl
 kind_by place p (object fields) f e = refl
 
 -- what is read as a reference
-pub wrong_kind_is : (here : Located) (p : List ℕ) → is_some (as_null here.value) ≡ false → an_int here ≡ Err (WrongKind p) → value_of here ≡ ref_value here
+pub wrong_kind_is : (here : Located) (p : List ℕ) → is_some (as_null here.value) ≡ false → an_int here ≡ Err (WrongKind p)
+    → value_of here ≡ ref_value here
 unfolding value_of
 wrong_kind_is here p f e = kind_by here.place p here.value f e
 
@@ -89,7 +97,8 @@ Other (UnknownField p) = Unit {0}
 Other (OutOfRange p) = Unit {0}
 Other Memory = Unit {0}
 
-other_by : (place : List ℕ) (value : Data) (fault : JsonFault) → Other fault → an_int (record { value = value; place = place }) ≡ Err fault → value_by value (record { value = value; place = place }) ≡ Err fault
+other_by : (place : List ℕ) (value : Data) (fault : JsonFault) → Other fault
+    → an_int (record { value = value; place = place }) ≡ Err fault → value_by value (record { value = value; place = place }) ≡ Err fault
 unfolding an_int int_of int_value
 other_by place null fault o e = absurd (subst Other (sym (err_of e)) o)
 other_by place (boolean b) fault o e = absurd (subst Other (sym (err_of e)) o)
@@ -104,7 +113,8 @@ unfolding value_of
 other_is here fault o e = other_by here.place here.value fault o e
 
 -- the fault of reading an int stands for the value, where it isn't of the wrong kind
-pub other_says : (here : Located) (fault : JsonFault) → ((p : List ℕ) → fault ≡ WrongKind p → ⊥) → Says {A = ℤ} (Err fault) (an_int here) → Says {A = Value} (Err fault) (value_of here)
+pub other_says : (here : Located) (fault : JsonFault) → ((p : List ℕ) → fault ≡ WrongKind p → ⊥)
+    → Says {A = ℤ} (Err fault) (an_int here) → Says {A = Value} (Err fault) (value_of here)
 other_says here (WrongKind p) n e = absurd (n p refl)
 other_says here NotJson n e = other_is here NotJson tt e
 other_says here (MissingField p) n e = other_is here (MissingField p) tt e
@@ -113,5 +123,6 @@ other_says here (OutOfRange p) n e = other_is here (OutOfRange p) tt e
 other_says here Memory n e = tt
 
 -- what is read as a reference, by the fault itself
-pub ref_says : (here : Located) (fault : JsonFault) (p : List ℕ) → fault ≡ WrongKind p → is_some (as_null here.value) ≡ false → Says {A = ℤ} (Err fault) (an_int here) → value_of here ≡ ref_value here
+pub ref_says : (here : Located) (fault : JsonFault) (p : List ℕ) → fault ≡ WrongKind p → is_some (as_null here.value) ≡ false
+    → Says {A = ℤ} (Err fault) (an_int here) → value_of here ≡ ref_value here
 ref_says here fault p is f e = wrong_kind_is here p f (subst (λ (x : JsonFault). Says {A = ℤ} (Err x) (an_int here)) is e)

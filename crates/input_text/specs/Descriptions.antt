@@ -16,7 +16,8 @@ abbrev pub is_first_form : ℤ → Bool
 is_first_form form = int_eq form (pos 1)
 
 abbrev pub desc_names : ℤ → List ℕ
-desc_names form = if is_first_form form then codes "form class method desc params same share" else codes "form class method desc params same share statics"
+desc_names form = if is_first_form form then codes "form class method desc params same share" else codes
+    "form class method desc params same share statics"
 
 -- a text of form 1 says nothing of static fields
 unfoldable pub static_inputs : ℤ → Reader (List InputText)

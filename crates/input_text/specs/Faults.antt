@@ -3,7 +3,8 @@ use Rattle.std.specs.Prelude.{ℕ, List, [], ◌∷◌, codes}
 use Rattle.list_views.specs.FaultWords.{joined, number_field}
 use Rattle.json_view.specs.Faults.{fault_name as json_name, fault_fields as json_fields}
 use Rattle.input_text.specs.declared.fault.DescFault.{DescFault}
-use Rattle.input_text.specs.declared.fault.DescFault.TheVariants.{Json, NoMethod, Abstract, ParamCount, ParamKind, EmptyInterval, UnknownType, BadPair, BadObject, StaticCount, Memory}
+use Rattle.input_text.specs.declared.fault.DescFault.TheVariants.{Json, NoMethod, Abstract, ParamCount, ParamKind, EmptyInterval}
+use Rattle.input_text.specs.declared.fault.DescFault.TheVariants.{UnknownType, BadPair, BadObject, StaticCount, Memory}
 
 abbrev pub fault_name : DescFault → List ℕ
 fault_name (Json fault) = json_name fault

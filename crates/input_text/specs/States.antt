@@ -14,11 +14,13 @@ use Rattle.input_text.specs.declared.texts.EntryName.{EntryName}
 use Rattle.input_text.specs.declared.texts.StateText.{StateText}
 
 abbrev pub state_names : ℤ → List ℕ
-state_names form = if is_first_form form then codes "form class method desc args heap" else codes "form class method desc args heap statics"
+state_names form = if is_first_form form then codes "form class method desc args heap" else codes
+    "form class method desc args heap statics"
 
 -- a text of form 1 says nothing of static fields
 unfoldable pub static_values : ℤ → Reader (Option (List Value))
-static_values form here = if is_first_form form then Ok None else (field (codes "statics") (list_of value_of) here >>= λ values. Ok (Some values))
+static_values form here = if is_first_form form then Ok None else
+    (field (codes "statics") (list_of value_of) here >>= λ values. Ok (Some values))
 
 -- the fields behind the method
 unfoldable pub state_end : ℤ → EntryName → Reader StateText

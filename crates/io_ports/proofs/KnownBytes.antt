@@ -1,5 +1,6 @@
 -- What a reader gave in pieces, seen whole.
-use Rattle.std.proofs.Common.{◌≡◌, ◌<◌, ◌+◌, ℕ, List, ◌++◌, length, IfSome, None, Some, sym, ap, ◌∙◌, subst, append-nil, length-append, arith, ◌-◌, take, drop, take-add}
+use Rattle.std.proofs.Common.{◌≡◌, ◌<◌, ◌+◌, ℕ, List, ◌++◌, length, IfSome, None, Some, sym, ap, ◌∙◌, subst, append-nil}
+use Rattle.std.proofs.Common.{length-append, arith, ◌-◌, take, drop, take-add}
 use Rattle.std.proofs.lemmas.List.{take_rest}
 use Rattle.std.proofs.KnownBytes.{Appends-trans}
 use Rattle.std.specs.declared.option.Option.{Option}

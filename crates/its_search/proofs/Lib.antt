@@ -1,4 +1,5 @@
 pub mod Plain
 pub mod Trying
 pub mod Asked
+pub mod Reasons
 pub mod Shown

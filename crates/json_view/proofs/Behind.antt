@@ -22,12 +22,14 @@ items_in (string s) = no_items
 items_in (object ms) = no_items
 
 -- the first of the items behind n
-first_after : (n : ℕ) (items : Items) (value : Data) → get_item n items ≡ Some value → items_after n items ≡ item value (items_after (suc n) items)
+first_after : (n : ℕ) (items : Items) (value : Data) → get_item n items ≡ Some value
+    → items_after n items ≡ item value (items_after (suc n) items)
 first_after n no_items value e = let no : ⊥ = cc in absurd no
 first_after zero (item d ds) value e = let same : d ≡ value = cc in ap (λ (x : Data). item x ds) same
 first_after (suc n) (item d ds) value e = first_after n ds value e
 
-pub nth_after : (n : ℕ) (here value : Data) → at n here ≡ Some value → items_after n (items_in here) ≡ item value (items_after (suc n) (items_in here))
+pub nth_after : (n : ℕ) (here value : Data) → at n here ≡ Some value
+    → items_after n (items_in here) ≡ item value (items_after (suc n) (items_in here))
 nth_after n null value e = let no : ⊥ = cc in absurd no
 nth_after n (boolean b) value e = let no : ⊥ = cc in absurd no
 nth_after n (number x) value e = let no : ⊥ = cc in absurd no
@@ -35,7 +37,8 @@ nth_after n (string s) value e = let no : ⊥ = cc in absurd no
 nth_after n (object ms) value e = let no : ⊥ = cc in absurd no
 nth_after n (array items) value e = first_after n items value e
 
-pub item_found : (place : List ℕ) (n : ℕ) (found : Option Data) (there : Located) → option_map (at_item place n) found ≡ Some there → (value : Data) × ((found ≡ Some value) × (at_item place n value ≡ there))
+pub item_found : (place : List ℕ) (n : ℕ) (found : Option Data) (there : Located) → option_map (at_item place n) found ≡ Some there
+    → (value : Data) × ((found ≡ Some value) × (at_item place n value ≡ there))
 item_found place n None there e = let no : ⊥ = cc in absurd no
 item_found place n (Some value) there e = (value, (refl, cc))
 

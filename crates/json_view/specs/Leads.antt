@@ -11,5 +11,7 @@ LeadsFrom root here = pointer here.place root ≡ Some here.value
 -- the root's place does, and so does each place that the readers make
 pub record PlacesLead : Type 0 where
   pub of_root : (root : Data) → LeadsFrom root (root_of root)
-  pub of_field : (root : Data) (name : List ℕ) (here there : Located) → LeadsFrom root here → field_of name here ≡ Ok there → LeadsFrom root there
-  pub of_item : (root : Data) (n : ℕ) (here there : Located) → n < 2 ^ 64 → LeadsFrom root here → item_of n here ≡ Some there → LeadsFrom root there
+  pub of_field : (root : Data) (name : List ℕ) (here there : Located) → LeadsFrom root here → field_of name here ≡ Ok there
+      → LeadsFrom root there
+  pub of_item : (root : Data) (n : ℕ) (here there : Located) → n < 2 ^ 64 → LeadsFrom root here → item_of n here ≡ Some there
+      → LeadsFrom root there

@@ -1,5 +1,6 @@
 -- What each reader of a value with its place answers: the value asked for, or the fault that is due.
-use Rattle.std.specs.Prelude.{ℕ, ℤ, List, Bool, false, is_some, Option, Some, None, option_map, option_and_then, Result, Ok, Err, ◌&&◌, if◌then◌else◌, int_le}
+use Rattle.std.specs.Prelude.{ℕ, ℤ, List, Bool, false, is_some, Option, Some, None, option_map, option_and_then, Result, Ok, Err}
+use Rattle.std.specs.Prelude.{◌&&◌, if◌then◌else◌, int_le}
 use Rattle.std.specs.Option.{ok_or, option_map_or}
 use Rattle.serde_json.specs.Data.{Data}
 use Rattle.serde_json.specs.Events.{items_len}
@@ -29,7 +30,9 @@ missing_field place name = MissingField (member_pointer place name)
 
 -- An object with exactly the listed members: the least unlisted name is a fault, and then the first missing one.
 unfoldable pub only_of : List ℕ → Located → Result (Unit {0}) JsonFault
-only_of names here = of_kind as_object here >>= λ members. first_fault (option_map (unknown_field here.place) (least_unlisted names members)) (option_map (missing_field here.place) (first_missing names members))
+only_of names here = of_kind as_object here >>= λ members. first_fault
+    (option_map (unknown_field here.place) (least_unlisted names members))
+    (option_map (missing_field here.place) (first_missing names members))
 
 -- a member's value with its place
 abbrev pub at_member : List ℕ → List ℕ → Data → Located
@@ -37,7 +40,8 @@ at_member place name value = record { value = value; place = member_pointer plac
 
 -- the value of an object's member
 unfoldable pub field_of : List ℕ → Located → Result Located JsonFault
-field_of name here = of_kind as_object here >>= λ members. ok_or (option_map (at_member here.place name) (get_member name members)) (missing_field here.place name)
+field_of name here = of_kind as_object here >>= λ members. ok_or (option_map (at_member here.place name) (get_member name members))
+    (missing_field here.place name)
 
 -- whether the value is an object that has the member
 abbrev pub has_field : List ℕ → Located → Bool

@@ -4,7 +4,8 @@ ghost use Rattle.serde_json.specs.Find.{as_null};
 ghost use Rattle.serde_json.specs.View.{view as value_of};
 ghost use Rattle.json_view.specs.Answers.{Answers, StandsFor, Parses, now_of, same, nothing};
 ghost use Rattle.json_view.specs.Located.{located, root_of};
-ghost use Rattle.json_view.specs.Reading.{only_of, field_of, items_of, item_of, item_count, int_of, text_of, flag_of, whole_number_of, has_field};
+ghost use Rattle.json_view.specs.Reading.{only_of, field_of, items_of, item_of, item_count, int_of, text_of, flag_of};
+ghost use Rattle.json_view.specs.Reading.{whole_number_of, has_field};
 
 use crate::fault::JsonFault;
 use crate::names::{first_missing, has_member, least_unlisted};

@@ -8,7 +8,8 @@ use Rattle.jvm_values.proofs.PathLaws.{joined}
 use Rattle.jvm_heaps.proofs.TreePaths.{nil_is_not_last}
 
 cycle_behind : (steps : Steps) (a i c : ℕ) (q : List ℕ) → steps a i ≡ Some c → follow steps q c ≡ Some a → IsDagFrom steps c → ⊥
-cycle_behind steps a i c q e f dag = nil_is_not_last q i (sym (dag [] c refl (q ++ i ∷ []) (joined steps q (i ∷ []) c a c f (ap (option_and_then (follow steps [])) e))))
+cycle_behind steps a i c q e f dag = nil_is_not_last q i
+    (sym (dag [] c refl (q ++ i ∷ []) (joined steps q (i ∷ []) c a c f (ap (option_and_then (follow steps [])) e))))
 
 pub dag_at : (steps : Steps) (a : ℕ) → ((i c : ℕ) → steps a i ≡ Some c → IsDagFrom steps c) → IsDagFrom steps a
 dag_at steps a h [] b e [] f = refl

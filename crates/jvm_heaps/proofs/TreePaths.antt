@@ -1,6 +1,7 @@
 -- Paths by their last steps: where each place is entered by at most one step, and the start by none, one path leads to
 -- each place.
-use Rattle.std.proofs.Common.{◌≡◌, ℕ, zero, suc, ◌<◌, ◌≤◌, List, [], ◌∷◌, ◌++◌, length, Some, ◌⊎◌, inl, inr, refl, sym, ap, ◌∙◌, arith, length-append}
+use Rattle.std.proofs.Common.{◌≡◌, ℕ, zero, suc, ◌<◌, ◌≤◌, List, [], ◌∷◌, ◌++◌, length, Some, ◌⊎◌, inl, inr, refl, sym, ap, ◌∙◌}
+use Rattle.std.proofs.Common.{arith, length-append}
 use Rattle.list_views.proofs.Options.{then_some}
 use Rattle.jvm_values.specs.Paths.{Steps, follow, Reaches, IsTreeFrom}
 use Rattle.jvm_values.proofs.PathLaws.{follow-append}
@@ -38,13 +39,15 @@ last_step steps p a i b e =
     let h = then_some (follow steps []) (steps g.0 i) b g.1.1 in
     record { place = g.0; reached = g.1.0; leads = h.1.0 ∙ h.1.1 }
 
-module _ (steps : Steps) (a : ℕ) (one : (c d i j b : ℕ) → Reaches steps a c → Reaches steps a d → steps c i ≡ Some b → steps d j ≡ Some b → (c ≡ d) × (i ≡ j)) (none : (c i : ℕ) → Reaches steps a c → steps c i ≡ Some a → ⊥) where
+module _ (steps : Steps) (a : ℕ) (one : (c d i j b : ℕ) → Reaches steps a c → Reaches steps a d → steps c i ≡ Some b
+    → steps d j ≡ Some b → (c ≡ d) × (i ≡ j)) (none : (c i : ℕ) → Reaches steps a c → steps c i ≡ Some a → ⊥) where
   no_way_back : (p : List ℕ) → HasLast p → follow steps p a ≡ Some a → ⊥
   no_way_back p h e =
       let s = last_step steps h.front a h.last a (ap (λ (q : List ℕ). follow steps q a) (sym h.is) ∙ e) in
       none s.place h.last (record { path = h.front; leads = s.reached }) s.leads
 
-  same_by : (n : ℕ) (shorter : (p q : List ℕ) (b : ℕ) → length p < n → follow steps p a ≡ Some b → follow steps q a ≡ Some b → p ≡ q) (p q : List ℕ) (b : ℕ) → length p ≤ n → follow steps p a ≡ Some b → follow steps q a ≡ Some b → p ≡ q
+  same_by : (n : ℕ) (shorter : (p q : List ℕ) (b : ℕ) → length p < n → follow steps p a ≡ Some b → follow steps q a ≡ Some b
+      → p ≡ q) (p q : List ℕ) (b : ℕ) → length p ≤ n → follow steps p a ≡ Some b → follow steps q a ≡ Some b → p ≡ q
   same_by n shorter p q b l e f = elim (last_of p) [
     | inl g ↦ elim (last_of q) [
       | inl h ↦ g ∙ sym h
@@ -55,8 +58,10 @@ module _ (steps : Steps) (a : ℕ) (one : (c d i j b : ℕ) → Reaches steps a 
       | inr h ↦
           let s = last_step steps g.front a g.last b (ap (λ (r : List ℕ). follow steps r a) (sym g.is) ∙ e) in
           let t = last_step steps h.front a h.last b (ap (λ (r : List ℕ). follow steps r a) (sym h.is) ∙ f) in
-          let u = one s.place t.place g.last h.last b (record { path = g.front; leads = s.reached }) (record { path = h.front; leads = t.reached }) s.leads t.leads in
-          let fronts : g.front ≡ h.front = shorter g.front h.front s.place (omega (arith, l, ap length g.is, length-append g.front (g.last ∷ []))) s.reached (t.reached ∙ ap Some (sym u.0)) in
+          let u = one s.place t.place g.last h.last b (record { path = g.front; leads = s.reached })
+          (record { path = h.front; leads = t.reached }) s.leads t.leads in
+          let fronts : g.front ≡ h.front = shorter g.front h.front s.place
+          (omega (arith, l, ap length g.is, length-append g.front (g.last ∷ []))) s.reached (t.reached ∙ ap Some (sym u.0)) in
           g.is ∙ ap (λ (r : List ℕ). r ++ g.last ∷ []) fronts ∙ ap (λ (i : ℕ). h.front ++ i ∷ []) u.1 ∙ sym h.is
     ]
   ]

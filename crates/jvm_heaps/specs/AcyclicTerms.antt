@@ -20,8 +20,10 @@ HasTerm heap value = (term : HeapTerm) × IsTerm heap value term
 
 -- Where no reference leads past the heap's end, a reference or null whose region has no cycle has a term.
 abbrev pub AcyclicHaveTerms : Type 0
-AcyclicHaveTerms = (heap : Heap) (value : Value) → IsClosed heap → IsInHeap (length heap.objects) value → IsNoInt value → IsDag heap value → HasTerm heap value
+AcyclicHaveTerms = (heap : Heap) (value : Value) → IsClosed heap → IsInHeap (length heap.objects) value → IsNoInt value
+    → IsDag heap value → HasTerm heap value
 
 -- And so, in a typed heap, has each value of a reference type.
 abbrev pub TypedHaveTerms : Type 0
-TypedHaveTerms = (types : WorldTypes) (heap : Heap) (value : Value) (t : Ty) → IsTypedHeap types heap → HasType types heap value t → IsDag heap value → HasTerm heap value
+TypedHaveTerms = (types : WorldTypes) (heap : Heap) (value : Value) (t : Ty) → IsTypedHeap types heap → HasType types heap value t
+    → IsDag heap value → HasTerm heap value

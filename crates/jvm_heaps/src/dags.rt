@@ -64,7 +64,8 @@ fn take_turn(
     requires place { place_of turn < length heap.now.objects }
     requires entered { length entered.old.items ≡ length heap.now.objects }
     requires left { length left.old.items ≡ length heap.now.objects }
-    ensures { IfOk result (λ on. goes_on on (record { entered = entered.new.items; left = left.new.items; todo = todo.new.0 }) ≡ turned heap.now turn (record { entered = entered.old.items; left = left.old.items; todo = todo.old.0 })) }
+    ensures { IfOk result (λ on. goes_on on (record { entered = entered.new.items; left = left.new.items; todo = todo.new.0 })
+        ≡ turned heap.now turn (record { entered = entered.old.items; left = left.old.items; todo = todo.old.0 })) }
 {
     match turn {
         Turn::Leave(a) => {

@@ -1,5 +1,6 @@
 -- What a form finds where its types are, and what is asked of its effect: typed states go on from it.
-use Rattle.std.proofs.Common.{◌≡◌, ℕ, zero, suc, ◌+◌, ◌<◌, ◌≤◌, ℤ, pos, negsuc, Bool, true, false, cond, ◌&&◌, List, [], ◌∷◌, ◌++◌, length, map, take, drop, reverse, Option, Some, None, IsTrue, refl, sym, ap, ◌∙◌, subst, arith}
+use Rattle.std.proofs.Common.{◌≡◌, ℕ, zero, suc, ◌+◌, ◌<◌, ◌≤◌, ℤ, pos, negsuc, Bool, true, false, cond, ◌&&◌, List, [], ◌∷◌, ◌++◌}
+use Rattle.std.proofs.Common.{length, map, take, drop, reverse, Option, Some, None, IsTrue, refl, sym, ap, ◌∙◌, subst, arith}
 use Rattle.std.specs.Prelude.{slice_get, All, IfSome, nat_eq}
 use Rattle.std.specs.List.{AllZip, list_any}
 use Rattle.std.specs.Option.{option_map, option_map_or, option_and_then}
@@ -107,7 +108,8 @@ pub record IsCalling (here : Here) (number count : ℕ) : Type 0 where
   pub count_is : count ≡ argument_count here.op
   pub callee : Method
   pub is_callee : slice_get here.program.methods number ≡ Some callee
-  pub arguments : AllZip (λ slot value. HasPlaceType (types_here here) here.work.heap (place_of (types_here here) slot) (Some value)) callee.params (reverse (take count here.work.frame.stack))
+  pub arguments : AllZip (λ slot value. HasPlaceType (types_here here) here.work.heap (place_of (types_here here) slot)
+      (Some value)) callee.params (reverse (take count here.work.frame.stack))
   pub below : HasStack (types_here here) here.work.heap (drop count here.before.stack) (drop count here.work.frame.stack)
 
 -- a value is returned, or none, as the method's result says
@@ -130,7 +132,8 @@ Well here Good (Some (Effect.Return value)) = IsResult (types_here here) here.wo
 
 -- ---- effects on larger things
 
-well_on : {X Y : Type 0} (here : Here) (G : X → Type 0) (H : Y → Type 0) (into : X → Y) → ((x : X) → G x → H (into x)) → (o : Option (Effect X)) → Well here G o → Well here H (option_map (effect_on into) o)
+well_on : {X Y : Type 0} (here : Here) (G : X → Type 0) (H : Y → Type 0) (into : X → Y) → ((x : X) → G x → H (into x))
+    → (o : Option (Effect X)) → Well here G o → Well here H (option_map (effect_on into) o)
 well_on here G H into f None h = absurd h
 well_on here G H into f (Some (Effect.Next x)) h = (h.0, f x h.1)
 well_on here G H into f (Some (Effect.Jump place x)) h = (h.0, f x h.1)
@@ -139,22 +142,31 @@ well_on here G H into f (Some (Effect.Throw r)) h = h
 well_on here G H into f (Some (Effect.Invoke number count)) h = h
 well_on here G H into f (Some (Effect.Return value)) h = h
 
-pub well_frame : (here : Here) → Stands here → (after : PlaceTypes) (o : Option (Effect MachineFrame)) → Well here (FrameGood here after) o → Well here (WorkGood here after) (on_frame here.work o)
-well_frame here s after o h = well_on here (FrameGood here after) (WorkGood here after) (λ (frame : MachineFrame). record here.work { frame = frame })
-    (λ (frame : MachineFrame) (fit : FrameGood here after frame). record { grows = grows_same here.work.heap; heap = s.heap; statics = s.statics; fits = fit }) o h
+pub well_frame : (here : Here) → Stands here → (after : PlaceTypes) (o : Option (Effect MachineFrame))
+    → Well here (FrameGood here after) o → Well here (WorkGood here after) (on_frame here.work o)
+well_frame here s after o h = well_on here (FrameGood here after) (WorkGood here after)
+    (λ (frame : MachineFrame). record here.work { frame = frame })
+    (λ (frame : MachineFrame) (fit : FrameGood here after frame). record
+    { grows = grows_same here.work.heap; heap = s.heap; statics = s.statics; fits = fit }) o h
 
-pub well_heap : (here : Here) → Stands here → (after : PlaceTypes) (o : Option (Effect (MachineFrame × Heap))) → Well here (HeapGood here after) o → Well here (WorkGood here after) (on_heap here.work o)
-well_heap here s after o h = well_on here (HeapGood here after) (WorkGood here after) (λ (x : MachineFrame × Heap). record here.work { frame = x.0; heap = x.1 })
+pub well_heap : (here : Here) → Stands here → (after : PlaceTypes) (o : Option (Effect (MachineFrame × Heap)))
+    → Well here (HeapGood here after) o → Well here (WorkGood here after) (on_heap here.work o)
+well_heap here s after o h = well_on here (HeapGood here after) (WorkGood here after)
+    (λ (x : MachineFrame × Heap). record here.work { frame = x.0; heap = x.1 })
     (λ (x : MachineFrame × Heap) (good : HeapGood here after x). record {
       grows = good.grows;
       heap = good.heap;
-      statics = zip_map _ _ (λ field value. holds_grown (types_here here) here.work.heap x.1 good.grows field.slot value) here.program.statics here.work.statics s.statics;
+      statics = zip_map _ _ (λ field value. holds_grown (types_here here) here.work.heap x.1 good.grows field.slot value)
+          here.program.statics here.work.statics s.statics;
       fits = good.fits;
     }) o h
 
-pub well_statics : (here : Here) → Stands here → (after : PlaceTypes) (o : Option (Effect (MachineFrame × List Value))) → Well here (StaticsGood here after) o → Well here (WorkGood here after) (on_statics here.work o)
-well_statics here s after o h = well_on here (StaticsGood here after) (WorkGood here after) (λ (x : MachineFrame × List Value). record here.work { frame = x.0; statics = x.1 })
-    (λ (x : MachineFrame × List Value) (good : StaticsGood here after x). record { grows = grows_same here.work.heap; heap = s.heap; statics = good.statics; fits = good.fits }) o h
+pub well_statics : (here : Here) → Stands here → (after : PlaceTypes) (o : Option (Effect (MachineFrame × List Value)))
+    → Well here (StaticsGood here after) o → Well here (WorkGood here after) (on_statics here.work o)
+well_statics here s after o h = well_on here (StaticsGood here after) (WorkGood here after)
+    (λ (x : MachineFrame × List Value). record here.work { frame = x.0; statics = x.1 })
+    (λ (x : MachineFrame × List Value) (good : StaticsGood here after x). record
+    { grows = grows_same here.work.heap; heap = s.heap; statics = good.statics; fits = good.fits }) o h
 
 -- ---- operands that leave the stack, and the result
 
@@ -163,20 +175,26 @@ pub record IsActed (types : WorldTypes) (asks : List Want) (result : Option Plac
   pub taken_is : taken types asks before.stack ≡ Some below
   pub after_is : after ≡ record { locals = before.locals; stack = with_result result below }
 
-pub acted_of : (types : WorldTypes) (asks : List Want) (result : Option PlaceType) (before after : PlaceTypes) → acted types asks result before ≡ Some after → IsActed types asks result before after
+pub acted_of : (types : WorldTypes) (asks : List Want) (result : Option PlaceType) (before after : PlaceTypes)
+    → acted types asks result before ≡ Some after → IsActed types asks result before after
 unfolding acted
 acted_of types asks result before after e =
     let g = then_some _ (taken types asks before.stack) after e in
     record { below = g.0; taken_is = g.1.0; after_is = sym (some_is g.1.1) }
 
 -- the stack is what is below the operands
-pub left : (here : Here) → Stands here → (after : PlaceTypes) (below : List PlaceType) (rest : List Value) → after ≡ record { locals = here.before.locals; stack = below } → HasStack (types_here here) here.work.heap below rest → FrameGood here after (with_stack here.work.frame rest)
+pub left : (here : Here) → Stands here → (after : PlaceTypes) (below : List PlaceType) (rest : List Value)
+    → after ≡ record { locals = here.before.locals; stack = below } → HasStack (types_here here) here.work.heap below rest
+    → FrameGood here after (with_stack here.work.frame rest)
 left here s after below rest e k =
     subst (λ (a : PlaceTypes). Fits (types_here here) here.work.heap a here.work.frame (with_stack here.work.frame rest)) (sym e)
     (record { method = refl; count = refl; locals = s.locals; references = s.references; stack = k })
 
 -- a value is pushed on it
-pub pushed : (here : Here) → Stands here → (after : PlaceTypes) (place : PlaceType) (below : List PlaceType) (value : Value) (rest : List Value) → after ≡ record { locals = here.before.locals; stack = place ∷ below } → HasPlaceType (types_here here) here.work.heap place (Some value) → HasStack (types_here here) here.work.heap below rest → FrameGood here after (with_stack here.work.frame (value ∷ rest))
+pub pushed : (here : Here) → Stands here → (after : PlaceTypes) (place : PlaceType) (below : List PlaceType) (value : Value)
+    (rest : List Value) → after ≡ record { locals = here.before.locals; stack = place ∷ below }
+    → HasPlaceType (types_here here) here.work.heap place (Some value) → HasStack (types_here here) here.work.heap below rest
+    → FrameGood here after (with_stack here.work.frame (value ∷ rest))
 pushed here s after place below value rest e h k = left here s after (place ∷ below) (value ∷ rest) e (h, k)
 
 -- ---- ints on the top
@@ -190,18 +208,21 @@ pub record TopInt (types : WorldTypes) (heap : Heap) (more : List Want) (below :
   pub has : HasStack types heap under rest
   pub others : taken types more under ≡ Some below
 
-pub top_int_of : (types : WorldTypes) (heap : Heap) (more : List Want) (below wanted : List PlaceType) (stack : List Value) → HasStack types heap wanted stack → taken types (wants.Int ∷ more) wanted ≡ Some below → TopInt types heap more below stack
+pub top_int_of : (types : WorldTypes) (heap : Heap) (more : List Want) (below wanted : List PlaceType) (stack : List Value)
+    → HasStack types heap wanted stack → taken types (wants.Int ∷ more) wanted ≡ Some below → TopInt types heap more below stack
 top_int_of types heap more below [] stack h e = absurd (none-some below e)
 top_int_of types heap more below (place ∷ under) [] h e = absurd h
 top_int_of types heap more below (places.Unset ∷ under) (value ∷ rest) h e = absurd (none-some below e)
-top_int_of types heap more below (places.Int ∷ under) (values.Int n ∷ rest) h e = record { number = n; rest = rest; under = under; is_top = refl; kind = h.0; has = h.1; others = e }
+top_int_of types heap more below (places.Int ∷ under) (values.Int n ∷ rest) h e = record
+    { number = n; rest = rest; under = under; is_top = refl; kind = h.0; has = h.1; others = e }
 top_int_of types heap more below (places.Int ∷ under) (values.Null ∷ rest) h e = absurd h.0
 top_int_of types heap more below (places.Int ∷ under) (values.Ref r ∷ rest) h e = absurd h.0
 top_int_of types heap more below (places.Null ∷ under) (value ∷ rest) h e = absurd (none-some below e)
 top_int_of types heap more below (places.Ref t ∷ under) (value ∷ rest) h e = absurd (none-some below e)
 
 -- nothing more is taken
-pub rest_has : (types : WorldTypes) (heap : Heap) (under below : List PlaceType) (rest : List Value) → taken types [] under ≡ Some below → HasStack types heap under rest → HasStack types heap below rest
+pub rest_has : (types : WorldTypes) (heap : Heap) (under below : List PlaceType) (rest : List Value)
+    → taken types [] under ≡ Some below → HasStack types heap under rest → HasStack types heap below rest
 rest_has types heap under below rest e h = subst (λ (x : List PlaceType). HasStack types heap x rest) (some_is e) h
 
 -- ---- references on the top
@@ -210,7 +231,8 @@ rest_has types heap under below rest e h = subst (λ (x : List PlaceType). HasSt
 abbrev pub AsksReference : WorldTypes → Want → Type 0
 AsksReference types want = (place : PlaceType) → fits types want place ≡ true → is_reference place ≡ true
 
-pub record TopReference (types : WorldTypes) (heap : Heap) (want : Want) (more : List Want) (below : List PlaceType) (stack : List Value) : Type 0 where
+pub record TopReference (types : WorldTypes) (heap : Heap) (want : Want) (more : List Want) (below : List PlaceType)
+    (stack : List Value) : Type 0 where
   pub place : PlaceType
   pub value : Value
   pub rest : List Value
@@ -222,7 +244,8 @@ pub record TopReference (types : WorldTypes) (heap : Heap) (want : Want) (more :
   pub has : HasStack types heap under rest
   pub others : taken types more under ≡ Some below
 
-pub reference_top : (types : WorldTypes) (heap : Heap) (place : PlaceType) (value : Value) (rest : List Value) → is_reference place ≡ true → HasPlaceType types heap place (Some value) → top_reference (value ∷ rest) ≡ Some (value, rest)
+pub reference_top : (types : WorldTypes) (heap : Heap) (place : PlaceType) (value : Value) (rest : List Value)
+    → is_reference place ≡ true → HasPlaceType types heap place (Some value) → top_reference (value ∷ rest) ≡ Some (value, rest)
 reference_top types heap places.Unset value rest r h = absurd (false≢true r)
 reference_top types heap places.Int value rest r h = absurd (false≢true r)
 reference_top types heap places.Null (values.Int n) rest r h = absurd h
@@ -232,7 +255,9 @@ reference_top types heap (places.Ref t) (values.Int n) rest r h = absurd h
 reference_top types heap (places.Ref t) values.Null rest r h = refl
 reference_top types heap (places.Ref t) (values.Ref a) rest r h = refl
 
-pub top_reference_of : (types : WorldTypes) (heap : Heap) (want : Want) (more : List Want) (below wanted : List PlaceType) (stack : List Value) → AsksReference types want → HasStack types heap wanted stack → taken types (want ∷ more) wanted ≡ Some below → TopReference types heap want more below stack
+pub top_reference_of : (types : WorldTypes) (heap : Heap) (want : Want) (more : List Want) (below wanted : List PlaceType)
+    (stack : List Value) → AsksReference types want → HasStack types heap wanted stack
+    → taken types (want ∷ more) wanted ≡ Some below → TopReference types heap want more below stack
 top_reference_of types heap want more below [] stack asks h e = absurd (none-some below e)
 top_reference_of types heap want more below (place ∷ under) [] asks h e = absurd h
 top_reference_of types heap want more below (place ∷ under) (value ∷ rest) asks h e =
@@ -293,7 +318,8 @@ pub record Named (types : WorldTypes) (heap : Heap) (place : PlaceType) (r : ℕ
   pub there : slice_get heap.objects r ≡ Some object
   pub below : IsTrue (types.sub (type_of object) t)
 
-pub named_by : (types : WorldTypes) (heap : Heap) (place : PlaceType) (r : ℕ) → is_reference place ≡ true → HasPlaceType types heap place (Some (values.Ref r)) → Named types heap place r
+pub named_by : (types : WorldTypes) (heap : Heap) (place : PlaceType) (r : ℕ) → is_reference place ≡ true
+    → HasPlaceType types heap place (Some (values.Ref r)) → Named types heap place r
 named_by types heap places.Unset r e h = absurd (false≢true e)
 named_by types heap places.Int r e h = absurd h
 named_by types heap places.Null r e h = absurd h
@@ -308,39 +334,60 @@ pub record Found (types : WorldTypes) (heap : Heap) (want : Want) (place : Place
   pub fit : fits types want (places.Ref t) ≡ true
 
 -- null throws, and what is done to an object is as is asked
-pub on_object_well : {X : Type 0} (here : Here) (G : X → Type 0) (want : Want) (place : PlaceType) (value : Value) (act : ℕ → Object → Option (Effect X)) → fits (types_here here) want place ≡ true → is_reference place ≡ true → HasPlaceType (types_here here) here.work.heap place (Some value)
-    → ((r : ℕ) (object : Object) → value ≡ values.Ref r → Found (types_here here) here.work.heap want place r object → Well here G (act r object))
+pub on_object_well : {X : Type 0} (here : Here) (G : X → Type 0) (want : Want) (place : PlaceType) (value : Value) (act : ℕ → Object
+    → Option (Effect X)) → fits (types_here here) want place ≡ true → is_reference place ≡ true
+    → HasPlaceType (types_here here) here.work.heap place (Some value)
+    → ((r : ℕ) (object : Object) → value ≡ values.Ref r → Found (types_here here) here.work.heap want place r object
+    → Well here G (act r object))
     → Well here G (on_object here.work.heap value act)
-on_object_well here G want place (values.Int n) act fit r h k = let e = reference_top (types_here here) here.work.heap place (values.Int n) [] r h in absurd (none-some _ e)
+on_object_well here G want place (values.Int n) act fit r h k = let e = reference_top (types_here here) here.work.heap place
+    (values.Int n) [] r h in absurd (none-some _ e)
 on_object_well here G want place values.Null act fit r h k = (omega arith, omega arith)
 on_object_well {X} here G want place (values.Ref a) act fit r h k =
     let n = named_by (types_here here) here.work.heap place a r h in
-    let found : Found (types_here here) here.work.heap want place a n.object = record { t = n.t; place_is = n.place_is; there = n.there; below = n.below; fit = subst (λ (x : PlaceType). fits (types_here here) want x ≡ true) n.place_is fit } in
+    let found : Found (types_here here) here.work.heap want place a n.object = record {
+      t = n.t;
+      place_is = n.place_is;
+      there = n.there;
+      below = n.below;
+      fit = subst
+          (λ (x : PlaceType). fits (types_here here) want x ≡ true) n.place_is fit;
+    } in
     subst (λ (o : Option Object). Well here G (option_and_then (act a) o)) (sym n.there) (k a n.object refl found)
 
 -- ---- one step after another
 
-pub bind_well : {X A : Type 0} (here : Here) (G : X → Type 0) (o : Option A) (act : A → Option (Effect X)) (a : A) → o ≡ Some a → Well here G (act a) → Well here G (option_and_then act o)
+pub bind_well : {X A : Type 0} (here : Here) (G : X → Type 0) (o : Option A) (act : A → Option (Effect X)) (a : A) → o ≡ Some a
+    → Well here G (act a) → Well here G (option_and_then act o)
 bind_well {X} {A} here G o act a e h = subst (λ (x : Option A). Well here G (option_and_then act x)) (sym e) h
 
-pub asked_well : {X : Type 0} (here : Here) (G : X → Type 0) (test : Bool) (act : Unit {0} → Option (Effect X)) → test ≡ true → Well here G (act tt) → Well here G (option_and_then act (asked test))
+pub asked_well : {X : Type 0} (here : Here) (G : X → Type 0) (test : Bool) (act : Unit {0} → Option (Effect X)) → test ≡ true
+    → Well here G (act tt) → Well here G (option_and_then act (asked test))
 asked_well here G test act e h = subst (λ (b : Bool). Well here G (option_and_then act (asked b))) (sym e) h
 
-pub if_well : {X : Type 0} (here : Here) (G : X → Type 0) (test : Bool) (o : Option (Effect X)) → test ≡ true → Well here G o → Well here G (cond test o None)
+pub if_well : {X : Type 0} (here : Here) (G : X → Type 0) (test : Bool) (o : Option (Effect X)) → test ≡ true → Well here G o
+    → Well here G (cond test o None)
 if_well here G test o e h = subst (λ (b : Bool). Well here G (cond b o None)) (sym e) h
 
 -- ---- frames in heaps that grow
 
-pub stack_grown : (types : WorldTypes) (old new : Heap) → Grows old new → (wanted : List PlaceType) (stack : List Value) → HasStack types old wanted stack → HasStack types new wanted stack
+pub stack_grown : (types : WorldTypes) (old new : Heap) → Grows old new → (wanted : List PlaceType) (stack : List Value)
+    → HasStack types old wanted stack → HasStack types new wanted stack
 stack_grown types old new g wanted stack h = zip_map _ _ (λ place value. place_grown types old new g place (Some value)) wanted stack h
 
-pub locals_grown : (types : WorldTypes) (old new : Heap) → Grows old new → (wanted : List PlaceType) (locals : List (Option Value)) → AllZip (HasPlaceType types old) wanted locals → AllZip (HasPlaceType types new) wanted locals
-locals_grown types old new g wanted locals h = zip_map (HasPlaceType types old) (HasPlaceType types new) (place_grown types old new g) wanted locals h
+pub locals_grown : (types : WorldTypes) (old new : Heap) → Grows old new → (wanted : List PlaceType) (locals : List (Option Value))
+    → AllZip (HasPlaceType types old) wanted locals → AllZip (HasPlaceType types new) wanted locals
+locals_grown types old new g wanted locals h = zip_map (HasPlaceType types old) (HasPlaceType types new)
+    (place_grown types old new g) wanted locals h
 
-pub references_grown : (old new : Heap) → Grows old new → (locals : List (Option Value)) → All (λ local. IfSome local (IsInHeap (length old.objects))) locals → All (λ local. IfSome local (IsInHeap (length new.objects))) locals
-references_grown old new g locals h = All-weaker (λ local. IfSome local (IsInHeap (length old.objects))) (λ local. IfSome local (IsInHeap (length new.objects))) (local_grown old new g) locals h
+pub references_grown : (old new : Heap) → Grows old new → (locals : List (Option Value))
+    → All (λ local. IfSome local (IsInHeap (length old.objects))) locals
+    → All (λ local. IfSome local (IsInHeap (length new.objects))) locals
+references_grown old new g locals h = All-weaker (λ local. IfSome local (IsInHeap (length old.objects)))
+    (λ local. IfSome local (IsInHeap (length new.objects))) (local_grown old new g) locals h
 
-pub fits_grown : (types : WorldTypes) (old new : Heap) → Grows old new → (there : PlaceTypes) (before frame : MachineFrame) → Fits types old there before frame → Fits types new there before frame
+pub fits_grown : (types : WorldTypes) (old new : Heap) → Grows old new → (there : PlaceTypes) (before frame : MachineFrame)
+    → Fits types old there before frame → Fits types new there before frame
 fits_grown types old new g there before frame f = record {
   method = f.method;
   count = f.count;
@@ -351,18 +398,23 @@ fits_grown types old new g there before frame f = record {
 
 -- ---- what is passed
 
-pub of_type_by : (types : WorldTypes) (heap : Heap) (t : Ty) (value : Value) → HasType types heap value (types.erase t) → is_of_type types heap t value ≡ true
+pub of_type_by : (types : WorldTypes) (heap : Heap) (t : Ty) (value : Value) → HasType types heap value (types.erase t)
+    → is_of_type types heap t value ≡ true
 of_type_by types heap t (values.Int n) h = absurd h
 of_type_by types heap t values.Null h = refl
-of_type_by types heap t (values.Ref r) h = subst (λ (o : Option Object). option_map_or (λ object. types.sub (type_of object) (types.erase t)) o false ≡ true) (sym h.1.0) h.1.1
+of_type_by types heap t (values.Ref r) h = subst
+    (λ (o : Option Object). option_map_or (λ object. types.sub (type_of object) (types.erase t)) o false ≡ true) (sym h.1.0) h.1.1
 
-pub passed_by : (types : WorldTypes) (heap : Heap) (slot : Slot) (value : Value) → HasPlaceType types heap (place_of types slot) (Some value) → is_passed types heap slot value ≡ true
+pub passed_by : (types : WorldTypes) (heap : Heap) (slot : Slot) (value : Value)
+    → HasPlaceType types heap (place_of types slot) (Some value) → is_passed types heap slot value ≡ true
 passed_by types heap (slots.Num kind) (values.Int n) h = refl
 passed_by types heap (slots.Num kind) values.Null h = absurd h
 passed_by types heap (slots.Num kind) (values.Ref r) h = absurd h
 passed_by types heap (slots.Ref t) value h = of_type_by types heap t value h
 
-pub fits_slot : (types : WorldTypes) → AreLawful types → (heap : Heap) (slot : Slot) (place : PlaceType) (value : Value) → fits types (want_of slot) place ≡ true → HasPlaceType types heap place (Some value) → HasPlaceType types heap (place_of types slot) (Some value)
+pub fits_slot : (types : WorldTypes) → AreLawful types → (heap : Heap) (slot : Slot) (place : PlaceType) (value : Value)
+    → fits types (want_of slot) place ≡ true → HasPlaceType types heap place (Some value)
+    → HasPlaceType types heap (place_of types slot) (Some value)
 fits_slot types laws heap (slots.Num kind) places.Unset value f h = absurd (false≢true f)
 fits_slot types laws heap (slots.Num kind) places.Int value f h = h
 fits_slot types laws heap (slots.Num kind) places.Null value f h = absurd (false≢true f)
@@ -375,7 +427,8 @@ fits_slot types laws heap (slots.Ref t) places.Null (values.Ref r) f h = absurd 
 fits_slot types laws heap (slots.Ref t) (places.Ref s) value f h = type_wider types laws heap value s (types.erase t) f h
 
 -- a value of a slot on the top
-pub record TopPassed (types : WorldTypes) (heap : Heap) (slot : Slot) (more : List Want) (below : List PlaceType) (stack : List Value) : Type 0 where
+pub record TopPassed (types : WorldTypes) (heap : Heap) (slot : Slot) (more : List Want) (below : List PlaceType)
+    (stack : List Value) : Type 0 where
   pub value : Value
   pub rest : List Value
   pub under : List PlaceType
@@ -384,9 +437,19 @@ pub record TopPassed (types : WorldTypes) (heap : Heap) (slot : Slot) (more : Li
   pub has : HasStack types heap under rest
   pub others : taken types more under ≡ Some below
 
-pub top_passed_of : (types : WorldTypes) → AreLawful types → (heap : Heap) (slot : Slot) (more : List Want) (below wanted : List PlaceType) (stack : List Value) → HasStack types heap wanted stack → taken types (want_of slot ∷ more) wanted ≡ Some below → TopPassed types heap slot more below stack
+pub top_passed_of : (types : WorldTypes) → AreLawful types
+    → (heap : Heap) (slot : Slot) (more : List Want) (below wanted : List PlaceType) (stack : List Value)
+    → HasStack types heap wanted stack → taken types (want_of slot ∷ more) wanted ≡ Some below → TopPassed types heap slot more below stack
 top_passed_of types laws heap slot more below [] stack h e = absurd (none-some below e)
 top_passed_of types laws heap slot more below (place ∷ under) [] h e = absurd h
 top_passed_of types laws heap slot more below (place ∷ under) (value ∷ rest) h e =
     let g = cond_guarded (fits types (want_of slot) place) (taken types more under) below e in
-    record { value = value; rest = rest; under = under; is_top = refl; typed = fits_slot types laws heap slot place value g.0 h.0; has = h.1; others = g.1 }
+    record {
+      value = value;
+      rest = rest;
+      under = under;
+      is_top = refl;
+      typed = fits_slot types laws heap slot place value g.0 h.0;
+      has = h.1;
+      others = g.1;
+    }

@@ -1,5 +1,6 @@
 -- Lists whose items are alike place by place.
-use Rattle.std.proofs.Common.{◌≡◌, ℕ, zero, suc, ◌+◌, ◌<◌, ◌≤◌, Bool, true, false, cond, eqb, List, [], ◌∷◌, ◌++◌, length, get_or, set, take, drop, replicate, map, reverse, filter, Some, inl, inr, refl, sym, ◌∙◌, subst, arith}
+use Rattle.std.proofs.Common.{◌≡◌, ℕ, zero, suc, ◌+◌, ◌<◌, ◌≤◌, Bool, true, false, cond, eqb, List, [], ◌∷◌, ◌++◌, length, get_or}
+use Rattle.std.proofs.Common.{set, take, drop, replicate, map, reverse, filter, Some, inl, inr, refl, sym, ◌∙◌, subst, arith}
 use Rattle.std.specs.Prelude.{slice_get, All, find}
 use Rattle.std.specs.List.{AllZip, list_any}
 use Rattle.std.proofs.lemmas.List.{reverse-append, length-append}
@@ -32,13 +33,15 @@ module _ {A B : Type 0} (R : A → B → Type 0) where
   zip_set (a ∷ xs) (b ∷ ys) zero x y h r = (r, h.1)
   zip_set (a ∷ xs) (b ∷ ys) (suc i) x y h r = (h.0, zip_set xs ys i x y h.1 r)
 
-  pub zip_set_right : (xs : List A) (ys : List B) (i : ℕ) (x : A) (y : B) → AllZip R xs ys → slice_get xs i ≡ Some x → R x y → AllZip R xs (set ys i y)
+  pub zip_set_right : (xs : List A) (ys : List B) (i : ℕ) (x : A) (y : B) → AllZip R xs ys → slice_get xs i ≡ Some x → R x y
+      → AllZip R xs (set ys i y)
   zip_set_right [] ys i x y h e r = absurd (none-some x e)
   zip_set_right (a ∷ xs) [] i x y h e r = absurd h
   zip_set_right (a ∷ xs) (b ∷ ys) zero x y h e r = (subst (λ (z : A). R z y) (sym (some_is e)) r, h.1)
   zip_set_right (a ∷ xs) (b ∷ ys) (suc i) x y h e r = (h.0, zip_set_right xs ys i x y h.1 e r)
 
-  pub zip_append : (xs : List A) (ys : List B) (us : List A) (vs : List B) → AllZip R xs ys → AllZip R us vs → AllZip R (xs ++ us) (ys ++ vs)
+  pub zip_append : (xs : List A) (ys : List B) (us : List A) (vs : List B) → AllZip R xs ys → AllZip R us vs
+      → AllZip R (xs ++ us) (ys ++ vs)
   zip_append [] [] us vs h k = k
   zip_append [] (y ∷ ys) us vs h k = absurd h
   zip_append (x ∷ xs) [] us vs h k = absurd h
@@ -56,19 +59,24 @@ module _ {A B : Type 0} (R : A → B → Type 0) where
   zip_reverse [] (y ∷ ys) h = absurd h
   zip_reverse (x ∷ xs) [] h = absurd h
   zip_reverse (x ∷ xs) (y ∷ ys) h =
-      let whole : AllZip R (reverse xs ++ x ∷ []) (reverse ys ++ y ∷ []) = zip_append (reverse xs) (reverse ys) (x ∷ []) (y ∷ []) (zip_reverse xs ys h.1) (h.0, tt) in
-      let left : AllZip R (reverse (x ∷ xs)) (reverse ys ++ y ∷ []) = subst (λ (zs : List A). AllZip R zs (reverse ys ++ y ∷ [])) (sym (reverse-append (x ∷ []) xs)) whole in
+      let whole : AllZip R (reverse xs ++ x ∷ []) (reverse ys ++ y ∷ []) = zip_append (reverse xs) (reverse ys) (x ∷ []) (y ∷ [])
+      (zip_reverse xs ys h.1) (h.0, tt) in
+      let left : AllZip R (reverse (x ∷ xs)) (reverse ys ++ y ∷ []) = subst (λ (zs : List A). AllZip R zs (reverse ys ++ y ∷ []))
+      (sym (reverse-append (x ∷ []) xs)) whole in
       subst (λ (zs : List B). AllZip R (reverse (x ∷ xs)) zs) (sym (reverse-append (y ∷ []) ys)) left
 
 -- what is alike in one way is so in another
-pub zip_map : {A B : Type 0} (R S : A → B → Type 0) → ((a : A) (b : B) → R a b → S a b) → (xs : List A) (ys : List B) → AllZip R xs ys → AllZip S xs ys
+pub zip_map : {A B : Type 0} (R S : A → B → Type 0) → ((a : A) (b : B) → R a b → S a b) → (xs : List A) (ys : List B)
+    → AllZip R xs ys → AllZip S xs ys
 zip_map R S f [] [] h = tt
 zip_map R S f [] (y ∷ ys) h = absurd h
 zip_map R S f (x ∷ xs) [] h = absurd h
 zip_map R S f (x ∷ xs) (y ∷ ys) h = (f x y h.0, zip_map R S f xs ys h.1)
 
 -- from one list through another to a third
-pub zip_through : {A B C : Type 0} (Q : A → B → Type 0) (R : A → C → Type 0) (S : B → C → Type 0) → ((a : A) (b : B) (c : C) → Q a b → R a c → S b c) → (xs : List A) (ys : List B) (zs : List C) → AllZip Q xs ys → AllZip R xs zs → AllZip S ys zs
+pub zip_through : {A B C : Type 0} (Q : A → B → Type 0) (R : A → C → Type 0) (S : B → C → Type 0)
+    → ((a : A) (b : B) (c : C) → Q a b → R a c → S b c) → (xs : List A) (ys : List B) (zs : List C) → AllZip Q xs ys
+    → AllZip R xs zs → AllZip S ys zs
 zip_through Q R S f [] [] [] h k = tt
 zip_through Q R S f [] [] (z ∷ zs) h k = absurd k
 zip_through Q R S f [] (y ∷ ys) zs h k = absurd h
@@ -94,7 +102,8 @@ all_among P f (y ∷ xs) x h e = elim (or_cases (eqb x y) (list_any (eqb x) xs) 
 ]
 
 -- the first that passes one test, where what passes it passes another, by which the list is filtered
-pub all_found : {A B : Type 0} (P : B → Type 0) (f : A → B) (test other : A → Bool) → ((x : A) → test x ≡ true → other x ≡ true) → (xs : List A) (x : A) → All P (map f (filter other xs)) → find test xs ≡ Some x → P (f x)
+pub all_found : {A B : Type 0} (P : B → Type 0) (f : A → B) (test other : A → Bool) → ((x : A) → test x ≡ true → other x ≡ true)
+    → (xs : List A) (x : A) → All P (map f (filter other xs)) → find test xs ≡ Some x → P (f x)
 all_found P f test other k [] x h e = absurd (none-some x e)
 all_found {A} P f test other k (y ∷ xs) x h e = go (test y) refl e (all_found P f test other k xs x)
   where
@@ -106,6 +115,7 @@ all_found {A} P f test other k (y ∷ xs) x h e = go (test y) refl e (all_found 
     rest true all = All-tail P (f y) (map f (filter other xs)) all
     rest false all = all
 
-    go : (b : Bool) → test y ≡ b → cond b (Some y) (find test xs) ≡ Some x → (All P (map f (filter other xs)) → find test xs ≡ Some x → P (f x)) → P (f x)
+    go : (b : Bool) → test y ≡ b → cond b (Some y) (find test xs) ≡ Some x
+        → (All P (map f (filter other xs)) → find test xs ≡ Some x → P (f x)) → P (f x)
     go true p q more = subst (λ (z : A). P (f z)) (some_is q) (passed (other y) (k y p) h)
     go false p q more = more (rest (other y) h) q

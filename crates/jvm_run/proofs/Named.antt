@@ -13,7 +13,8 @@ use Rattle.class_program.specs.declared.op.Op.TheVariants as ops
 use Rattle.class_program.specs.Programs.{Program}
 use Rattle.class_program.specs.Good.{IsGoodName, IsGoodField, IsGoodStatic, IsGoodSpecial, IsGoodSelecting, IsGoodNew}
 use Rattle.op_forms.specs.Forms.{Form, form_of, form_of_insn}
-use Rattle.op_forms.specs.Forms.Form.{Getfield, Putfield, Invokevirtual, Invokespecial, Invokestatic, Invokeinterface, New, Newarray, Anewarray, Checkcast, Instanceof}
+use Rattle.op_forms.specs.Forms.Form.{Getfield, Putfield, Invokevirtual, Invokespecial, Invokestatic, Invokeinterface, New}
+use Rattle.op_forms.specs.Forms.Form.{Newarray, Anewarray, Checkcast, Instanceof}
 
 -- what a form names is good
 abbrev pub IsNamed : Program → ℕ → Op → Form → Type 0
@@ -151,8 +152,10 @@ plain_named p current op (insns.WideIstore a) = tt
 plain_named p current op (insns.WideAstore a) = tt
 plain_named p current op (insns.WideIinc a b) = tt
 
-pub named_of : (p : Program) (current : ℕ) (op : Op) (form : Form) → IsGoodName p current op → form_of op ≡ Some form → IsNamed p current op form
-named_of p current (ops.Plain insn) form good e = some_then (form_of_insn insn) (IsNamed p current (ops.Plain insn)) form (plain_named p current (ops.Plain insn) insn) e
+pub named_of : (p : Program) (current : ℕ) (op : Op) (form : Form) → IsGoodName p current op → form_of op ≡ Some form
+    → IsNamed p current op form
+named_of p current (ops.Plain insn) form good e = some_then (form_of_insn insn) (IsNamed p current (ops.Plain insn)) form
+    (plain_named p current (ops.Plain insn) insn) e
 named_of p current (ops.Constant x) form good e = subst (IsNamed p current (ops.Constant x)) (some_is e) tt
 named_of p current (ops.Getstatic x) form good e = subst (IsNamed p current (ops.Getstatic x)) (some_is e) tt
 named_of p current (ops.Putstatic x) form good e = subst (IsNamed p current (ops.Putstatic x)) (some_is e) tt

@@ -1,5 +1,6 @@
 -- What operators over ints give, and what kinds of numbers keep, lies in the ranges of ints and of these kinds.
-use Rattle.std.proofs.Common.{◌≡◌, ℕ, zero, suc, ◌/◌, ◌^◌, ◌<◌, ◌≤◌, ℤ, pos, negsuc, ◌+ℤ◌, ◌-ℤ◌, ◌*ℤ◌, ◌≤ℤ◌, Bool, true, false, cond, Option, Some, None, FitsSigned, to_z, of_z, w8, w16, w32, refl, sym, subst, arith}
+use Rattle.std.proofs.Common.{◌≡◌, ℕ, zero, suc, ◌/◌, ◌^◌, ◌<◌, ◌≤◌, ℤ, pos, negsuc, ◌+ℤ◌, ◌-ℤ◌, ◌*ℤ◌, ◌≤ℤ◌, Bool, true, false}
+use Rattle.std.proofs.Common.{cond, Option, Some, None, FitsSigned, to_z, of_z, w8, w16, w32, refl, sym, subst, arith}
 use Rattle.std.specs.Prelude.{IfSome, int_div, int_rem, unsigned_abs, bit_and, bit_or, bit_xor}
 use Rattle.std.specs.Int.{int_wrap, int_rem_euclid, int_shr, int_min, int_max}
 use Rattle.std.specs.Ordering.{int_eq}

@@ -33,9 +33,12 @@ known p typing closed widths t = record {
 
 pub steps_typed : StepsAreTyped
 unfolding step
-steps_typed p typing closed widths t state h = step_typed p typing (known p typing closed widths t) state.frames state.heap state.mode state.statics h
+steps_typed p typing closed widths t state h = step_typed p typing (known p typing closed widths t) state.frames state.heap
+    state.mode state.statics h
 
-goes_on_typed : (p : Program) (typing : ℕ → CodeTypes) → ((state : MachineState) → IsTypedState p typing state → GoesTyped p typing (step p state)) → (s : Step) → GoesTyped p typing s → GoesTyped p typing (step_on p s)
+goes_on_typed : (p : Program) (typing : ℕ → CodeTypes)
+    → ((state : MachineState) → IsTypedState p typing state → GoesTyped p typing (step p state)) → (s : Step) → GoesTyped p typing s
+    → GoesTyped p typing (step_on p s)
 unfolding step_on
 goes_on_typed p typing f (Step.Going state) h = f state h
 goes_on_typed p typing f (Step.Returned value) h = tt
@@ -44,20 +47,25 @@ goes_on_typed p typing f Step.Stuck h = absurd h
 
 pub runs_typed : RunsAreTyped
 runs_typed p typing closed widths t state h zero = h
-runs_typed p typing closed widths t state h (suc count) = goes_on_typed p typing (steps_typed p typing closed widths t) (run p count state) (runs_typed p typing closed widths t state h count)
+runs_typed p typing closed widths t state h (suc count) = goes_on_typed p typing (steps_typed p typing closed widths t)
+    (run p count state) (runs_typed p typing closed widths t state h count)
 
 pub never_stuck : RunsAreNeverStuck
 never_stuck p typing closed widths t state h count e = subst (GoesTyped p typing) e (runs_typed p typing closed widths t state h count)
 
 -- ---- starts
 
-start_is : (p : Program) (arguments statics : List Value) (heap : Heap) (m : Method) → slice_get p.methods 0 ≡ Some m → start p arguments statics heap ≡ Some (record { frames = new_frame 0 m arguments ∷ []; heap = heap; mode = Normal; statics = statics })
+start_is : (p : Program) (arguments statics : List Value) (heap : Heap) (m : Method) → slice_get p.methods 0 ≡ Some m
+    → start p arguments statics heap ≡ Some
+    (record { frames = new_frame 0 m arguments ∷ []; heap = heap; mode = Normal; statics = statics })
 unfolding start entered
 start_is p arguments statics heap m e = rw e refl
 
 pub starts_typed : StartsAreTyped
 starts_typed p typing closed t arguments statics heap h state e =
     let laws = world_laws p.world closed.known.linked in
-    let same : record { frames = new_frame 0 h.entry arguments ∷ []; heap = heap; mode = Normal; statics = statics } ≡ state = some_is (sym (start_is p arguments statics heap h.entry h.is_entry) ∙ e) in
-    let running = entered_running p typing laws heap h.entry 0 arguments h.is_entry (t.each 0 h.entry h.is_entry).is_typing h.arguments_typed in
+    let same : record { frames = new_frame 0 h.entry arguments ∷ []; heap = heap; mode = Normal; statics = statics } ≡ state =
+    some_is (sym (start_is p arguments statics heap h.entry h.is_entry) ∙ e) in
+    let running = entered_running p typing laws heap h.entry 0 arguments h.is_entry (t.each 0 h.entry h.is_entry).is_typing
+    h.arguments_typed in
     subst (IsTypedState p typing) same (record { heap = h.heap_typed; statics = h.statics_typed; frames = (running, tt) })

@@ -45,7 +45,8 @@ RunsAreNeverStuck =
 pub record AreInputs (p : Program) (arguments statics : List Value) (heap : Heap) : Type 0 where
   pub entry : Method
   pub is_entry : slice_get p.methods 0 ≡ Some entry
-  pub arguments_typed : AllZip (λ slot value. HasPlaceType (types_of p.world) heap (place_of (types_of p.world) slot) (Some value)) entry.params arguments
+  pub arguments_typed : AllZip (λ slot value. HasPlaceType (types_of p.world) heap (place_of (types_of p.world) slot) (Some value))
+      entry.params arguments
   pub statics_typed : AllZip (λ field value. Holds (types_of p.world) heap field.slot value) p.statics statics
   pub heap_typed : IsTypedHeap (types_of p.world) heap
 

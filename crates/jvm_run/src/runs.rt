@@ -26,7 +26,8 @@ pub fn run(
     state: &mut State,
     fuel: u64,
 ) -> Result<Ended, AllocError>
-    ensures run { IsNeverStuck (program_of program.now) (state_of state.old) → Ran (program_of program.now) (state_of state.old) fuel result (state_of state.new) }
+    ensures run { IsNeverStuck (program_of program.now) (state_of state.old)
+        → Ran (program_of program.now) (state_of state.old) fuel result (state_of state.new) }
 {
     for count in 0..fuel {
         match step(alloc, program, state) {

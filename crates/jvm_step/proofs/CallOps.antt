@@ -29,7 +29,8 @@ virtual_op_of (ops.Anewarray a) call e = cc
 virtual_op_of (ops.Checkcast a) call e = cc
 virtual_op_of (ops.Instanceof a) call e = cc
 
-pub virtual_op : (op : Option Op) (call : Call) → option_and_then form_of op ≡ Some (Form.Invokevirtual call) → op ≡ Some (ops.Invokevirtual call)
+pub virtual_op : (op : Option Op) (call : Call) → option_and_then form_of op ≡ Some (Form.Invokevirtual call)
+    → op ≡ Some (ops.Invokevirtual call)
 virtual_op (Some op) call e = ap Some (virtual_op_of op call e)
 virtual_op None call e = absurd (none-some _ e)
 
@@ -49,6 +50,7 @@ interface_op_of (ops.Anewarray a) call e = cc
 interface_op_of (ops.Checkcast a) call e = cc
 interface_op_of (ops.Instanceof a) call e = cc
 
-pub interface_op : (op : Option Op) (call : Call) → option_and_then form_of op ≡ Some (Form.Invokeinterface call) → op ≡ Some (ops.Invokeinterface call)
+pub interface_op : (op : Option Op) (call : Call) → option_and_then form_of op ≡ Some (Form.Invokeinterface call)
+    → op ≡ Some (ops.Invokeinterface call)
 interface_op (Some op) call e = ap Some (interface_op_of op call e)
 interface_op None call e = absurd (none-some _ e)

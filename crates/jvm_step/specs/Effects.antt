@@ -5,7 +5,9 @@
 -- What a row does not name has no effect, and a machine that comes there is stuck: an operand that is missing or of
 -- another kind, a local that is unset or not there, a reference whose object is not there or not of the type that is asked for.
 -- Of several throws the first that is written comes.
-use Rattle.std.specs.Prelude.{ℕ, zero, suc, ◌+◌, ◌&&◌, not, nat_lt, Bool, true, false, if◌then◌else◌, List, [], ◌∷◌, ◌++◌, length, map, reverse, take, drop, replicate, slice_get, slice_set, Option, Some, None, option_and_then, unwrap_or, ℤ, pos, negsuc, ◌+ℤ◌, ◌-ℤ◌}
+use Rattle.std.specs.Prelude.{ℕ, zero, suc, ◌+◌, ◌&&◌, not, nat_lt, Bool, true, false, if◌then◌else◌, List, [], ◌∷◌, ◌++◌, length}
+use Rattle.std.specs.Prelude.{map, reverse, take, drop, replicate, slice_get, slice_set, Option, Some, None, option_and_then}
+use Rattle.std.specs.Prelude.{unwrap_or, ℤ, pos, negsuc, ◌+ℤ◌, ◌-ℤ◌}
 use Rattle.std.specs.Option.{option_map_or}
 use Rattle.std.specs.Ordering.{int_eq}
 use Rattle.std.specs.Int.{w32, int_wrap}
@@ -35,7 +37,9 @@ use Rattle.jvm_values.specs.Writes.{with_value}
 use Rattle.class_world.specs.World.{World}
 pub use Rattle.class_world.specs.WorldTypes.{types_of}
 use Rattle.class_world.specs.Resolve.{method_at}
-use Rattle.class_world.specs.BuiltIns.{throwable, null_pointer_exception, arithmetic_exception, array_index_out_of_bounds_exception, negative_array_size_exception, class_cast_exception, array_store_exception, incompatible_class_change_error, abstract_method_error}
+use Rattle.class_world.specs.BuiltIns.{throwable, null_pointer_exception, arithmetic_exception, array_index_out_of_bounds_exception}
+use Rattle.class_world.specs.BuiltIns.{negative_array_size_exception, class_cast_exception, array_store_exception}
+use Rattle.class_world.specs.BuiltIns.{incompatible_class_change_error, abstract_method_error}
 use Rattle.class_program.specs.Ops.{constructor_name}
 use Rattle.class_program.specs.declared.op.Call.{Call}
 use Rattle.class_program.specs.declared.op.FieldUse.{FieldUse}
@@ -50,7 +54,8 @@ use Rattle.op_forms.specs.declared.form.ItemKind.TheVariants as item_kinds
 use Rattle.op_forms.specs.declared.form.Shuffle.{Shuffle}
 use Rattle.op_forms.specs.Forms.{shuffled}
 use Rattle.jvm_values.specs.Slots.{initial_value}
-use Rattle.jvm_step.specs.Operands.{int_of, reference_of, same_reference, is_null, top, top_int, top_reference, object_at, is_assignable, is_of_type, is_passed, is_null_or_below, is_below, kept}
+use Rattle.jvm_step.specs.Operands.{int_of, reference_of, same_reference, is_null, top, top_int, top_reference, object_at}
+use Rattle.jvm_step.specs.Operands.{is_assignable, is_of_type, is_passed, is_null_or_below, is_below, kept}
 
 -- ---- effects
 
@@ -359,7 +364,8 @@ getstatic_effect place statics frame = do
   Some (pushes value frame.stack frame)
 
 -- putstatic: the field's slot says what is taken and kept
-unfoldable pub putstatic_effect : WorldTypes → List StaticField → ℕ → Heap → MachineFrame → List Value → Option (Effect (MachineFrame × List Value))
+unfoldable pub putstatic_effect : WorldTypes → List StaticField → ℕ → Heap → MachineFrame → List Value
+    → Option (Effect (MachineFrame × List Value))
 putstatic_effect types fields place heap frame statics = do
   field ← slice_get fields place
   value ← top frame.stack
@@ -523,7 +529,8 @@ index_below count (negsuc i) = None
 
 -- the heap with an int put into an item of an array of numbers, which has this kind and these items
 abbrev pub with_number : Heap → ℕ → Kind × List ℤ → ℕ → ℤ → Heap
-with_number heap r numbers i value = record { objects = slice_set heap.objects r (Nums numbers.0 (slice_set numbers.1 i (narrowed numbers.0 value))) }
+with_number heap r numbers i value = record
+    { objects = slice_set heap.objects r (Nums numbers.0 (slice_set numbers.1 i (narrowed numbers.0 value))) }
 
 -- iastore, bastore, castore, sastore: the array keeps what its own kind keeps of the int
 unfoldable pub number_store_effect : ItemKind → MachineFrame → Heap → Option (Effect (MachineFrame × Heap))

@@ -37,7 +37,8 @@ TakesNone methods frames old Step.Stuck = ⊥
 -- an effect makes an object or a frame, or a stack that is longer than its room; nothing is said where there is none
 abbrev pub Wants : ℕ → Work → Option (Effect Work) → Type 0
 Wants room old None = Unit {0}
-Wants room old (Some (Effect.Next work)) = (length old.heap.objects < length work.heap.objects) ⊎ ((work.frame.method ≡ old.frame.method) × (room < length work.frame.stack))
+Wants room old (Some (Effect.Next work)) = (length old.heap.objects < length work.heap.objects)
+    ⊎ ((work.frame.method ≡ old.frame.method) × (room < length work.frame.stack))
 Wants room old (Some (Effect.Jump place work)) = ⊥
 Wants room old (Some (Effect.Raise class)) = Unit {0}
 Wants room old (Some (Effect.Throw r)) = ⊥
@@ -47,7 +48,8 @@ Wants room old (Some (Effect.Return value)) = ⊥
 -- the same of the running frame's instruction
 abbrev pub WantsIn : Program → Method → Form → List Value → Heap → List Frame → Type 0
 WantsIn p m form statics heap [] = ⊥
-WantsIn p m form statics heap (frame ∷ below) = Wants frame.stack.1 (work_seen frame statics heap) (effect_of p m form (work_seen frame statics heap))
+WantsIn p m form statics heap (frame ∷ below) = Wants frame.stack.1 (work_seen frame statics heap)
+    (effect_of p m form (work_seen frame statics heap))
 
 -- the running frame's caller has no room for the result
 abbrev pub CallerLacks : Option Value → List Frame → Type 0

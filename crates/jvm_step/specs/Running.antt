@@ -1,5 +1,6 @@
 -- One step of the machine, and the run of many (JVM specification, sections 2.6, 2.10 and 2.11).
-use Rattle.std.specs.Prelude.{◌≡◌, ℕ, zero, suc, ◌&&◌, nat_le, nat_lt, Bool, true, List, [], ◌∷◌, ◌++◌, length, reverse, take, drop, slice_get, Option, Some, None, unwrap_or}
+use Rattle.std.specs.Prelude.{◌≡◌, ℕ, zero, suc, ◌&&◌, nat_le, nat_lt, Bool, true, List, [], ◌∷◌, ◌++◌, length, reverse, take, drop}
+use Rattle.std.specs.Prelude.{slice_get, Option, Some, None, unwrap_or}
 use Rattle.std.specs.List.{find}
 use Rattle.std.specs.Option.{option_map, option_map_or}
 use Rattle.list_views.specs.Options.{◌>>=◌}
@@ -35,11 +36,13 @@ pub data Step : Type 0 where
 -- the state after the running frame, the static fields and the heap have changed, where the frame's next instruction is that
 -- at a place; `below` are the frames of its callers
 abbrev pub goes_on : List MachineFrame → ℕ → Work → Step
-goes_on below place work = Going (record { frames = record work.frame { pc = place } ∷ below; heap = work.heap; mode = Normal; statics = work.statics })
+goes_on below place work = Going
+    (record { frames = record work.frame { pc = place } ∷ below; heap = work.heap; mode = Normal; statics = work.statics })
 
 -- an object is thrown: the frame's stack is emptied, and the next step looks for a handler
 abbrev pub throws : List MachineFrame → ℕ → Work → Step
-throws below r work = Going (record { frames = record work.frame { stack = [] } ∷ below; heap = work.heap; mode = Throwing r; statics = work.statics })
+throws below r work = Going
+    (record { frames = record work.frame { stack = [] } ∷ below; heap = work.heap; mode = Throwing r; statics = work.statics })
 
 -- the heap with an object at its end
 abbrev pub with_object : Heap → Object → Heap
@@ -89,7 +92,8 @@ returns p (caller ∷ below) value work = do
 abbrev pub applied : Program → List MachineFrame → Option ℕ → Work → Effect Work → Option Step
 applied p below next work (Effect.Next after) = option_map (λ place. goes_on below place after) next
 applied p below next work (Effect.Jump place after) = Some (goes_on below place after)
-applied p below next work (Effect.Raise class) = Some (throws below (length work.heap.objects) (record work { heap = with_object work.heap (new_instance (types_of p.world) class) }))
+applied p below next work (Effect.Raise class) = Some
+    (throws below (length work.heap.objects) (record work { heap = with_object work.heap (new_instance (types_of p.world) class) }))
 applied p below next work (Effect.Throw r) = Some (throws below r work)
 applied p below next work (Effect.Invoke number count) = invokes p below number count work
 applied p below next work (Effect.Return value) = returns p below value work
@@ -126,7 +130,8 @@ unwound state r (caller ∷ below) = Going (record state { frames = record calle
 
 -- the first entry that takes the object gives the place to go on at, with the object alone on the stack
 abbrev pub handled : MachineState → ℕ → MachineFrame → List MachineFrame → Option CatchRange → Step
-handled state r frame below (Some range) = Going (record state { frames = record frame { pc = range.handler; stack = values.Ref r ∷ [] } ∷ below; mode = Normal })
+handled state r frame below (Some range) = Going
+    (record state { frames = record frame { pc = range.handler; stack = values.Ref r ∷ [] } ∷ below; mode = Normal })
 handled state r frame below None = unwound state r below
 
 unfoldable pub throwing_step : Program → MachineState → ℕ → List MachineFrame → Option Step

@@ -1,5 +1,6 @@
 -- What the calls that run the machine answer and leave, beside the written step.
-use Rattle.std.specs.Prelude.{◌≡◌, ℕ, ◌≤◌, List, [], ◌∷◌, length, drop, slice_get, Option, Some, None, Result, Ok, Err, option_and_then, unwrap_or}
+use Rattle.std.specs.Prelude.{◌≡◌, ℕ, ◌≤◌, List, [], ◌∷◌, length, drop, slice_get, Option, Some, None, Result, Ok, Err}
+use Rattle.std.specs.Prelude.{option_and_then, unwrap_or}
 use Rattle.std.specs.Option.{option_map}
 use Rattle.jvm_values.specs.declared.heap.Value.{Value}
 use Rattle.jvm_values.specs.declared.heap.Value.TheVariants as values
@@ -96,7 +97,8 @@ effect_in p m form state (frame ∷ below) = option_map (effect_on (with_work st
 -- what is left to do, done to a state whose next instruction is at a place, if there is one
 abbrev pub applied_in : Program → Option ℕ → After → MachineState → List MachineFrame → Step
 applied_in p next after state [] = Step.Stuck
-applied_in p next after state (frame ∷ below) = unwrap_or (applied p below next (work_of state frame) (left_to_do after (work_of state frame))) Step.Stuck
+applied_in p next after state (frame ∷ below) = unwrap_or
+    (applied p below next (work_of state frame) (left_to_do after (work_of state frame))) Step.Stuck
 
 -- ---- changes of frames
 
@@ -131,27 +133,63 @@ handling place r frame = record frame { pc = place; stack = values.Ref r ∷ [] 
 -- ---- changes of states
 
 abbrev pub going_at : ℕ → MachineState → MachineState
-going_at place state = record { frames = frames_with (at_place place) state.frames; heap = state.heap; mode = Normal; statics = state.statics }
+going_at place state = record {
+  frames = frames_with (at_place place) state.frames;
+  heap = state.heap;
+  mode = Normal;
+  statics =
+      state.statics;
+}
 
 abbrev pub thrown_in : ℕ → MachineState → MachineState
 thrown_in r state = record { frames = frames_with emptied state.frames; heap = state.heap; mode = Throwing r; statics = state.statics }
 
 -- a new object is at the heap's end, and is thrown
 abbrev pub raised_in : Object → MachineState → MachineState
-raised_in object state = record { frames = frames_with emptied state.frames; heap = with_object state.heap object; mode = Throwing (length state.heap.objects); statics = state.statics }
+raised_in object state = record {
+  frames = frames_with emptied state.frames;
+  heap = with_object state.heap object;
+  mode = Throwing
+      (length state.heap.objects);
+  statics = state.statics;
+}
 
 -- a frame runs whose arguments so many values were on its caller's stack
 abbrev pub called_in : MachineFrame → ℕ → MachineState → MachineState
-called_in frame count state = record { frames = frame ∷ frames_with (without_top count) state.frames; heap = state.heap; mode = Normal; statics = state.statics }
+called_in frame count state = record {
+  frames = frame ∷ frames_with (without_top count) state.frames;
+  heap = state.heap;
+  mode =
+      Normal;
+  statics = state.statics;
+}
 
 abbrev pub returned_in : ℕ → Option Value → MachineState → MachineState
-returned_in place value state = record { frames = below_of (callers_with (given place value) state.frames); heap = state.heap; mode = Normal; statics = state.statics }
+returned_in place value state = record {
+  frames = below_of (callers_with (given place value) state.frames);
+  heap = state.heap;
+  mode
+      = Normal;
+  statics = state.statics;
+}
 
 abbrev pub handled_at : ℕ → ℕ → MachineState → MachineState
-handled_at place r state = record { frames = frames_with (handling place r) state.frames; heap = state.heap; mode = Normal; statics = state.statics }
+handled_at place r state = record {
+  frames = frames_with (handling place r) state.frames;
+  heap = state.heap;
+  mode = Normal;
+  statics
+      = state.statics;
+}
 
 abbrev pub unwound_in : MachineState → MachineState
-unwound_in state = record { frames = frames_with emptied (below_of state.frames); heap = state.heap; mode = state.mode; statics = state.statics }
+unwound_in state = record {
+  frames = frames_with emptied (below_of state.frames);
+  heap = state.heap;
+  mode = state.mode;
+  statics =
+      state.statics;
+}
 
 -- what a handler that was found, or none, makes of a state; nothing where no frame runs
 abbrev pub handled_in : MachineState → ℕ → Option CatchRange → List MachineFrame → Step

@@ -8,9 +8,20 @@ use Rattle.jvm_values.specs.States.{MachineFrame}
 use Rattle.class_program.specs.declared.op.Op.TheVariants as ops
 use Rattle.class_program.specs.declared.program.Method.{Method}
 use Rattle.op_forms.specs.Forms.{Form}
-use Rattle.op_forms.specs.Forms.Form.{Nop, AconstNull, Iconst, Iload, Aload, Istore, Astore, Iinc, Shuffle, Arith, Ineg, Narrow, If, IfIcmp, IfAcmpeq, IfAcmpne, Ifnull, Ifnonnull, Goto, Tableswitch, Lookupswitch, Ireturn, Areturn, Return, Getstatic, Putstatic, Getfield, Putfield, Invokevirtual, Invokespecial, Invokestatic, Invokeinterface, New, Newarray, Anewarray, Arraylength, NumberLoad, Aaload, NumberStore, Aastore, Athrow, Checkcast, Instanceof}
+use Rattle.op_forms.specs.Forms.Form.{Nop, AconstNull, Iconst, Iload, Aload, Istore, Astore, Iinc, Shuffle, Arith, Ineg, Narrow, If}
+use Rattle.op_forms.specs.Forms.Form.{IfIcmp, IfAcmpeq, IfAcmpne, Ifnull, Ifnonnull, Goto, Tableswitch, Lookupswitch, Ireturn}
+use Rattle.op_forms.specs.Forms.Form.{Areturn, Return, Getstatic, Putstatic, Getfield, Putfield, Invokevirtual, Invokespecial}
+use Rattle.op_forms.specs.Forms.Form.{Invokestatic, Invokeinterface, New, Newarray, Anewarray, Arraylength, NumberLoad, Aaload}
+use Rattle.op_forms.specs.Forms.Form.{NumberStore, Aastore, Athrow, Checkcast, Instanceof}
 use Rattle.class_program.specs.Programs.{Program}
-use Rattle.jvm_step.specs.Effects.{Effect, effect_on, types_of, constant_effect, iload_effect, aload_effect, istore_effect, astore_effect, iinc_effect, shuffle_effect, arith_effect, ineg_effect, narrow_effect, if_effect, if_icmp_effect, if_acmp_effect, if_null_effect, goto_effect, tableswitch_effect, lookupswitch_effect, invokestatic_effect, invokespecial_effect, selecting_effect, ireturn_effect, areturn_effect, return_effect, athrow_effect, getstatic_effect, putstatic_effect, getfield_effect, putfield_effect, new_effect, newarray_effect, anewarray_effect, arraylength_effect, number_load_effect, aaload_effect, number_store_effect, aastore_effect, checkcast_effect, instanceof_effect}
+use Rattle.jvm_step.specs.Effects.{Effect, effect_on, types_of, constant_effect, iload_effect, aload_effect, istore_effect}
+use Rattle.jvm_step.specs.Effects.{astore_effect, iinc_effect, shuffle_effect, arith_effect, ineg_effect, narrow_effect, if_effect}
+use Rattle.jvm_step.specs.Effects.{if_icmp_effect, if_acmp_effect, if_null_effect, goto_effect, tableswitch_effect}
+use Rattle.jvm_step.specs.Effects.{lookupswitch_effect, invokestatic_effect, invokespecial_effect, selecting_effect, ireturn_effect}
+use Rattle.jvm_step.specs.Effects.{areturn_effect, return_effect, athrow_effect, getstatic_effect, putstatic_effect}
+use Rattle.jvm_step.specs.Effects.{getfield_effect, putfield_effect, new_effect, newarray_effect, anewarray_effect}
+use Rattle.jvm_step.specs.Effects.{arraylength_effect, number_load_effect, aaload_effect, number_store_effect, aastore_effect}
+use Rattle.jvm_step.specs.Effects.{checkcast_effect, instanceof_effect}
 
 -- what an instruction works on: the frame that runs it, the values of the static fields, and the heap
 pub record Work : Type 0 where
@@ -55,7 +66,8 @@ effect_of p m Ireturn work = on_frame work (ireturn_effect m.result work.frame)
 effect_of p m Areturn work = on_frame work (areturn_effect (types_of p.world) m.result work.heap work.frame)
 effect_of p m Return work = on_frame work (return_effect m.result work.frame)
 effect_of p m (Getstatic place) work = on_frame work (getstatic_effect place work.statics work.frame)
-effect_of p m (Putstatic place) work = on_statics work (putstatic_effect (types_of p.world) p.statics place work.heap work.frame work.statics)
+effect_of p m (Putstatic place) work = on_statics work
+    (putstatic_effect (types_of p.world) p.statics place work.heap work.frame work.statics)
 effect_of p m (Getfield used) work = on_frame work (getfield_effect (types_of p.world) used work.heap work.frame)
 effect_of p m (Putfield used) work = on_heap work (putfield_effect (types_of p.world) used work.frame work.heap)
 effect_of p m (Invokevirtual call) work = on_frame work (selecting_effect p (ops.Invokevirtual call) call work.heap work.frame)

@@ -1,5 +1,6 @@
 //! What is left to do after an instruction, done to the state.
-ghost use Rattle.std.specs.Prelude.{◌≡◌, ◌<◌, ◌∷◌, ℕ, List, All, OnErr, IsOk, Option, Some, length, MatchResult, IfOk, reverse, slice_get, take, option_and_then};
+ghost use Rattle.std.specs.Prelude.{◌≡◌, ◌<◌, ◌∷◌, ℕ, List, All, OnErr, IsOk, Option, Some, length, MatchResult, IfOk, reverse};
+ghost use Rattle.std.specs.Prelude.{slice_get, take, option_and_then};
 ghost use Rattle.jvm_values.specs.States.{MachineFrame, state_of};
 ghost use Rattle.class_world.specs.Worlds.{classes_of};
 ghost use Rattle.class_program.specs.Views.{program_of};
@@ -58,7 +59,8 @@ fn new_object_of(alloc: Global, world: &World<'_>, class: u32) -> Result<Object,
 /// A new object is thrown.
 fn raise_object(state: &mut State, object: Object) -> Result<(), AllocError>
     requires { 0 < length state.old.frames.0 }
-    ensures state { MatchResult result (λ _. state_of state.new ≡ raised_in object (state_of state.old)) (λ _. state_of state.new ≡ state_of state.old) }
+    ensures state { MatchResult result (λ _. state_of state.new ≡ raised_in object (state_of state.old))
+        (λ _. state_of state.new ≡ state_of state.old) }
     ensures room { (methods : List MethodSeen) → All (HasRoom methods) state.old.frames.0 → All (HasRoom methods) state.new.frames.0 }
 {
     let number = next_number(&state.heap)?;
@@ -70,7 +72,8 @@ fn raise_object(state: &mut State, object: Object) -> Result<(), AllocError>
 /// A new object of a class is thrown.
 fn raise(alloc: Global, world: &World<'_>, state: &mut State, class: u32) -> Result<(), AllocError>
     requires { 0 < length state.old.frames.0 }
-    ensures state { MatchResult result (λ _. state_of state.new ≡ raised_in (new_instance (types_of (classes_of world.now)) class) (state_of state.old)) (λ _. state_of state.new ≡ state_of state.old) }
+    ensures state { MatchResult result (λ _. state_of state.new ≡ raised_in (new_instance (types_of (classes_of world.now)) class)
+        (state_of state.old)) (λ _. state_of state.new ≡ state_of state.old) }
     ensures room { (methods : List MethodSeen) → All (HasRoom methods) state.old.frames.0 → All (HasRoom methods) state.new.frames.0 }
 {
     let object = new_object_of(alloc, world, class)?;
@@ -87,8 +90,11 @@ fn invoke(
     count: usize,
 ) -> Result<(), AllocError>
     requires { 0 < length state.old.frames.0 }
-    ensures state { (frame : MachineFrame) (below : List MachineFrame) → (state_of state.old).frames ≡ frame ∷ below → MatchResult result (λ _. state_of state.new ≡ called_in (new_frame number method.now (reverse (take count frame.stack))) count (state_of state.old)) (λ _. state_of state.new ≡ state_of state.old) }
-    ensures room { (methods : List MethodSeen) → slice_get methods number ≡ Some method.now → All (HasRoom methods) state.old.frames.0 → All (HasRoom methods) state.new.frames.0 }
+    ensures state { (frame : MachineFrame) (below : List MachineFrame) → (state_of state.old).frames ≡ frame ∷ below
+        → MatchResult result (λ _. state_of state.new ≡ called_in (new_frame number method.now (reverse (take count frame.stack)))
+        count (state_of state.old)) (λ _. state_of state.new ≡ state_of state.old) }
+    ensures room { (methods : List MethodSeen) → slice_get methods number ≡ Some method.now
+        → All (HasRoom methods) state.old.frames.0 → All (HasRoom methods) state.new.frames.0 }
 {
     let frame = called_frame(alloc, number, method, &state.frames.at(0).stack, count)?;
     state.frames.push(frame)?;
@@ -100,7 +106,8 @@ fn invoke(
 /// The running frame goes, and its caller goes on at a place with the result.
 fn give_back(state: &mut State, place: u16, value: Option<Value>) -> Result<(), AllocError>
     requires { 1 < length state.old.frames.0 }
-    ensures state { MatchResult result (λ _. state_of state.new ≡ returned_in place value (state_of state.old)) (λ _. state_of state.new ≡ state_of state.old) }
+    ensures state { MatchResult result (λ _. state_of state.new ≡ returned_in place value (state_of state.old))
+        (λ _. state_of state.new ≡ state_of state.old) }
     ensures room { (methods : List MethodSeen) → All (HasRoom methods) state.old.frames.0 → All (HasRoom methods) state.new.frames.0 }
     ensures memory { OnErr result (CallerLacks value state.old.frames.0) }
 {
@@ -119,9 +126,14 @@ fn call(
     count: usize,
 ) -> Result<Outcome, AllocError>
     requires { 0 < length state.old.frames.0 }
-    ensures state { (next : Option ℕ) → Does (applied_in (program_of program.now) next (afters.Invoke number count) (state_of state.old) (state_of state.old).frames) result (state_of state.old) (state_of state.new) }
-    ensures room { All (HasRoom (program_of program.now).methods) state.old.frames.0 → All (HasRoom (program_of program.now).methods) state.new.frames.0 }
-    ensures memory { (next : Option ℕ) → TakesNone (program_of program.now).methods state.old.frames.0 (state_of state.old) (applied_in (program_of program.now) next (afters.Invoke number count) (state_of state.old) (state_of state.old).frames) → IsOk result }
+    ensures state { (next : Option ℕ)
+        → Does (applied_in (program_of program.now) next (afters.Invoke number count) (state_of state.old)
+        (state_of state.old).frames) result (state_of state.old) (state_of state.new) }
+    ensures room { All (HasRoom (program_of program.now).methods) state.old.frames.0
+        → All (HasRoom (program_of program.now).methods) state.new.frames.0 }
+    ensures memory { (next : Option ℕ) → TakesNone (program_of program.now).methods state.old.frames.0 (state_of state.old)
+        (applied_in (program_of program.now) next (afters.Invoke number count) (state_of state.old) (state_of state.old).frames)
+        → IsOk result }
 {
     match program.methods.get(number as usize) {
         Some(method) => {
@@ -149,9 +161,13 @@ fn return_to_caller(
     value: Option<Value>,
 ) -> Result<Outcome, AllocError>
     requires { 1 < length state.old.frames.0 }
-    ensures state { (next : Option ℕ) → Does (applied_in (program_of program.now) next (afters.Return value) (state_of state.old) (state_of state.old).frames) result (state_of state.old) (state_of state.new) }
-    ensures room { All (HasRoom (program_of program.now).methods) state.old.frames.0 → All (HasRoom (program_of program.now).methods) state.new.frames.0 }
-    ensures memory { (next : Option ℕ) → TakesNone (program_of program.now).methods state.old.frames.0 (state_of state.old) (applied_in (program_of program.now) next (afters.Return value) (state_of state.old) (state_of state.old).frames) → IsOk result }
+    ensures state { (next : Option ℕ)
+        → Does (applied_in (program_of program.now) next (afters.Return value) (state_of state.old) (state_of state.old).frames)
+        result (state_of state.old) (state_of state.new) }
+    ensures room { All (HasRoom (program_of program.now).methods) state.old.frames.0
+        → All (HasRoom (program_of program.now).methods) state.new.frames.0 }
+    ensures memory { (next : Option ℕ) → TakesNone (program_of program.now).methods state.old.frames.0 (state_of state.old)
+        (applied_in (program_of program.now) next (afters.Return value) (state_of state.old) (state_of state.old).frames) → IsOk result }
 {
     match place_behind(program, state.frames.at(1)) {
         Some(place) => {
@@ -168,9 +184,13 @@ fn return_from(
     state: &mut State,
     value: Option<Value>,
 ) -> Result<Outcome, AllocError>
-    ensures state { (next : Option ℕ) → Does (applied_in (program_of program.now) next (afters.Return value) (state_of state.old) (state_of state.old).frames) result (state_of state.old) (state_of state.new) }
-    ensures room { All (HasRoom (program_of program.now).methods) state.old.frames.0 → All (HasRoom (program_of program.now).methods) state.new.frames.0 }
-    ensures memory { (next : Option ℕ) → TakesNone (program_of program.now).methods state.old.frames.0 (state_of state.old) (applied_in (program_of program.now) next (afters.Return value) (state_of state.old) (state_of state.old).frames) → IsOk result }
+    ensures state { (next : Option ℕ)
+        → Does (applied_in (program_of program.now) next (afters.Return value) (state_of state.old) (state_of state.old).frames)
+        result (state_of state.old) (state_of state.new) }
+    ensures room { All (HasRoom (program_of program.now).methods) state.old.frames.0
+        → All (HasRoom (program_of program.now).methods) state.new.frames.0 }
+    ensures memory { (next : Option ℕ) → TakesNone (program_of program.now).methods state.old.frames.0 (state_of state.old)
+        (applied_in (program_of program.now) next (afters.Return value) (state_of state.old) (state_of state.old).frames) → IsOk result }
 {
     if state.frames.len() < 2 {
         Ok(Outcome::Returned(value))
@@ -187,10 +207,13 @@ pub(crate) fn apply(
     next: Option<u16>,
     after: After,
 ) -> Result<Outcome, AllocError>
-    ensures state { Does (applied_in (program_of program.now) next after (state_of state.old) (state_of state.old).frames) result (state_of state.old) (state_of state.new) }
-    ensures room { All (HasRoom (program_of program.now).methods) state.old.frames.0 → All (HasRoom (program_of program.now).methods) state.new.frames.0 }
+    ensures state { Does (applied_in (program_of program.now) next after (state_of state.old) (state_of state.old).frames) result
+        (state_of state.old) (state_of state.new) }
+    ensures room { All (HasRoom (program_of program.now).methods) state.old.frames.0
+        → All (HasRoom (program_of program.now).methods) state.new.frames.0 }
     ensures fails { OnErr result (MayFail after) }
-    ensures memory { TakesNone (program_of program.now).methods state.old.frames.0 (state_of state.old) (applied_in (program_of program.now) next after (state_of state.old) (state_of state.old).frames) → IsOk result }
+    ensures memory { TakesNone (program_of program.now).methods state.old.frames.0 (state_of state.old)
+        (applied_in (program_of program.now) next after (state_of state.old) (state_of state.old).frames) → IsOk result }
 {
     if state.frames.is_empty() {
         return Ok(Outcome::Going);

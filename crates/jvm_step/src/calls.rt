@@ -26,7 +26,8 @@ use list_views::Stack;
 /// Calls a static method.
 #[tactic(auto, unfolding(crate::specs::Effects::invokestatic_effect, crate::specs::Effects::below_arguments))]
 pub fn invokestatic(frame: &Frame, call: &Call) -> After
-    ensures { (types : WorldTypes) (heap : Heap) → Acts (invokestatic_effect types call.now heap (frame_of frame.now)) result (frame_of frame.now) (frame_of frame.now) }
+    ensures { (types : WorldTypes) (heap : Heap)
+        → Acts (invokestatic_effect types call.now heap (frame_of frame.now)) result (frame_of frame.now) (frame_of frame.now) }
 {
     match call.target {
         Some(number) => After::Invoke(number, call.params.len()),
@@ -52,7 +53,8 @@ fn receiver_under(stack: &Stack<Value>, count: usize) -> Option<(Value, usize)>
 /// Calls a method on the receiver below its arguments; a method without a body throws.
 #[tactic(auto, unfolding(crate::specs::Effects::invokespecial_effect, crate::specs::Effects::below_arguments))]
 pub fn invokespecial(frame: &Frame, call: &Call) -> After
-    ensures { (world : World) (current : ℕ) (heap : Heap) → Acts (invokespecial_effect world current call.now heap (frame_of frame.now)) result (frame_of frame.now) (frame_of frame.now) }
+    ensures { (world : World) (current : ℕ) (heap : Heap)
+        → Acts (invokespecial_effect world current call.now heap (frame_of frame.now)) result (frame_of frame.now) (frame_of frame.now) }
 {
     let Some((receiver, taken)) = receiver_under(&frame.stack, call.params.len()) else {
         return After::Next;
@@ -85,7 +87,9 @@ fn class_of_object(object: &Object) -> u32
 /// at the frame's place.
 #[tactic(auto, unfolding(crate::specs::Effects::selecting_effect, crate::specs::Effects::below_arguments, crate::specs::Effects::answer_of, class_program::specs::Selected::selected_at, class_program::specs::Selected::can_receive_at))]
 pub fn invoke_selected(program: &Program<'_>, frame: &Frame, heap: &Heap, call: &Call) -> After
-    ensures { (op : Op) → op_at (program_of program.now).methods frame.now.method frame.now.pc ≡ Some op → Acts (selecting_effect (program_of program.now) op call.now heap.now (frame_of frame.now)) result (frame_of frame.now) (frame_of frame.now) }
+    ensures { (op : Op) → op_at (program_of program.now).methods frame.now.method frame.now.pc ≡ Some op
+        → Acts (selecting_effect (program_of program.now) op call.now heap.now (frame_of frame.now)) result (frame_of frame.now)
+        (frame_of frame.now) }
 {
     let Some((receiver, taken)) = receiver_under(&frame.stack, call.params.len()) else {
         return After::Next;

@@ -20,7 +20,9 @@ use std::alloc::Global;
 
 /// Whether a reference is null or to an object of a type or one below it; None where its object isn't there.
 fn is_null_or_below<T: Types>(types: &T, heap: &Heap, t: Ty, reference: Value) -> Option<bool>
-    ensures { result ≡ is_null_or_below (world_types (T.sub types.now) (T.erase types.now) (T.classes types.now) (T.fields types.now) (T.can_be_made types.now)) heap.now t reference }
+    ensures { result ≡ is_null_or_below
+        (world_types (T.sub types.now) (T.erase types.now) (T.classes types.now) (T.fields types.now) (T.can_be_made types.now))
+        heap.now t reference }
 {
     match reference {
         Value::Int(_) => None,
@@ -34,7 +36,8 @@ fn is_null_or_below<T: Types>(types: &T, heap: &Heap, t: Ty, reference: Value) -
 
 /// Whether a reference is to an object of a type or one below it; None where its object isn't there.
 fn is_below<T: Types>(types: &T, heap: &Heap, t: Ty, reference: Value) -> Option<bool>
-    ensures { result ≡ is_below (world_types (T.sub types.now) (T.erase types.now) (T.classes types.now) (T.fields types.now) (T.can_be_made types.now)) heap.now t reference }
+    ensures { result ≡ is_below (world_types (T.sub types.now) (T.erase types.now) (T.classes types.now) (T.fields types.now)
+        (T.can_be_made types.now)) heap.now t reference }
 {
     match reference {
         Value::Int(_) => None,
@@ -49,7 +52,8 @@ fn is_below<T: Types>(types: &T, heap: &Heap, t: Ty, reference: Value) -> Option
 /// Lets null and references to objects of a type pass.
 #[tactic(auto, unfolding(crate::specs::Effects::checkcast_effect))]
 pub fn checkcast<T: Types>(types: &T, frame: &Frame, heap: &Heap, t: Ty) -> After
-    ensures { Acts (checkcast_effect (world_types (T.sub types.now) (T.erase types.now) (T.classes types.now) (T.fields types.now) (T.can_be_made types.now)) t heap.now (frame_of frame.now)) result (frame_of frame.now) (frame_of frame.now) }
+    ensures { Acts (checkcast_effect (world_types (T.sub types.now) (T.erase types.now) (T.classes types.now) (T.fields types.now)
+        (T.can_be_made types.now)) t heap.now (frame_of frame.now)) result (frame_of frame.now) (frame_of frame.now) }
 {
     let Some(reference) = reference_at(&frame.stack, 0) else {
         return After::Next;
@@ -71,7 +75,9 @@ fn one_or_zero(test: bool) -> i32
 /// Puts 1 in a reference's place where it is to an object of a type, else 0.
 #[tactic(auto, unfolding(crate::specs::Effects::instanceof_effect))]
 pub fn instanceof<T: Types>(types: &T, frame: &mut Frame, heap: &Heap, t: Ty) -> After
-    ensures effect { Acts (instanceof_effect (world_types (T.sub types.now) (T.erase types.now) (T.classes types.now) (T.fields types.now) (T.can_be_made types.now)) t heap.now (frame_of frame.old)) result (frame_of frame.old) (frame_of frame.new) }
+    ensures effect { Acts
+        (instanceof_effect (world_types (T.sub types.now) (T.erase types.now) (T.classes types.now) (T.fields types.now)
+        (T.can_be_made types.now)) t heap.now (frame_of frame.old)) result (frame_of frame.old) (frame_of frame.new) }
     ensures room { frame.new.stack.1 ≡ frame.old.stack.1 }
     ensures method { frame.new.method ≡ frame.old.method }
 {
@@ -87,7 +93,10 @@ pub fn instanceof<T: Types>(types: &T, frame: &mut Frame, heap: &Heap, t: Ty) ->
 /// Puts the top reference into an array of references.
 #[tactic(auto, unfolding(crate::specs::Effects::aastore_effect))]
 pub fn aastore<T: Types>(types: &T, alloc: Global, frame: &mut Frame, heap: &mut Heap) -> After
-    ensures effect { Acts (aastore_effect (world_types (T.sub types.now) (T.erase types.now) (T.classes types.now) (T.fields types.now) (T.can_be_made types.now)) (frame_of frame.old) heap.old) result (frame_of frame.old, heap.old) (frame_of frame.new, heap.new) }
+    ensures effect { Acts
+        (aastore_effect (world_types (T.sub types.now) (T.erase types.now) (T.classes types.now) (T.fields types.now)
+        (T.can_be_made types.now)) (frame_of frame.old) heap.old) result (frame_of frame.old, heap.old)
+        (frame_of frame.new, heap.new) }
     ensures room { frame.new.stack.1 ≡ frame.old.stack.1 }
     ensures method { frame.new.method ≡ frame.old.method }
 {

@@ -4,7 +4,10 @@ ghost use Rattle.jvm_values.specs.declared.heap.Value.TheVariants as values;
 ghost use Rattle.jvm_values.specs.States.{frame_of};
 ghost use Rattle.jvm_step.specs.Acts.{Acts, Tries};
 ghost use Rattle.jvm_step.specs.Operands.{same_reference, is_null};
-ghost use Rattle.jvm_step.specs.Effects.{target_at, int_of_local, reference_of_local, constant_effect, iload_effect, aload_effect, istore_effect, astore_effect, iinc_effect, arith_effect, ineg_effect, narrow_effect, if_effect, if_icmp_effect, if_acmp_effect, if_null_effect, goto_effect, target_of, tableswitch_effect, lookupswitch_effect};
+ghost use Rattle.jvm_step.specs.Effects.{target_at, int_of_local, reference_of_local, constant_effect, iload_effect, aload_effect};
+ghost use Rattle.jvm_step.specs.Effects.{istore_effect, astore_effect, iinc_effect, arith_effect, ineg_effect, narrow_effect};
+ghost use Rattle.jvm_step.specs.Effects.{if_effect, if_icmp_effect, if_acmp_effect, if_null_effect, goto_effect, target_of};
+ghost use Rattle.jvm_step.specs.Effects.{tableswitch_effect, lookupswitch_effect};
 
 use crate::after::After;
 use crate::built_ins::ARITHMETIC_EXCEPTION;
@@ -304,7 +307,8 @@ fn target_at(default: u16, targets: &[u16], i: &i64) -> u16
 /// A jump to the target of the top int.
 #[tactic(auto, unfolding(crate::specs::Effects::tableswitch_effect))]
 pub fn tableswitch(frame: &mut Frame, default: u16, low: i32, targets: &[u16]) -> After
-    ensures effect { Acts (tableswitch_effect default low targets.now (frame_of frame.old)) result (frame_of frame.old) (frame_of frame.new) }
+    ensures effect { Acts (tableswitch_effect default low targets.now (frame_of frame.old)) result (frame_of frame.old)
+        (frame_of frame.new) }
     ensures room { frame.new.stack.1 ≡ frame.old.stack.1 }
     ensures method { frame.new.method ≡ frame.old.method }
 {

@@ -15,7 +15,8 @@ use jvm_values::{Frame, Value};
 /// Throws the object of the top reference.
 #[tactic(auto, unfolding(crate::specs::Effects::athrow_effect))]
 pub fn athrow(frame: &Frame) -> After
-    ensures { (types : WorldTypes) (heap : Heap) → Acts (athrow_effect types heap (frame_of frame.now)) result (frame_of frame.now) (frame_of frame.now) }
+    ensures { (types : WorldTypes) (heap : Heap) → Acts (athrow_effect types heap (frame_of frame.now)) result (frame_of frame.now)
+        (frame_of frame.now) }
 {
     match reference_at(&frame.stack, 0) {
         None => After::Next,
@@ -39,7 +40,8 @@ pub fn ireturn(frame: &Frame) -> After
 /// Returns the top reference.
 #[tactic(auto, unfolding(crate::specs::Effects::areturn_effect))]
 pub fn areturn(frame: &Frame) -> After
-    ensures { (types : WorldTypes) (slot : Option Slot) (heap : Heap) → Acts (areturn_effect types slot heap (frame_of frame.now)) result (frame_of frame.now) (frame_of frame.now) }
+    ensures { (types : WorldTypes) (slot : Option Slot) (heap : Heap)
+        → Acts (areturn_effect types slot heap (frame_of frame.now)) result (frame_of frame.now) (frame_of frame.now) }
 {
     match reference_at(&frame.stack, 0) {
         Some(reference) => After::Return(Some(reference)),

@@ -39,9 +39,11 @@ fn perform_in(
 ) -> Result<After, AllocError>
     requires some { 0 < length state.old.frames.0 }
     requires here { form_in (program_of program.now) (state_of state.old).frames ≡ Some (form_seen form.now) }
-    ensures state { Tries (effect_in (program_of program.now) method.now (form_seen form.now) (state_of state.old) (state_of state.old).frames) result (state_of state.old) (state_of state.new) }
+    ensures state { Tries (effect_in (program_of program.now) method.now (form_seen form.now) (state_of state.old)
+        (state_of state.old).frames) result (state_of state.old) (state_of state.new) }
     ensures room { (methods : List MethodSeen) → All (HasRoom methods) state.old.frames.0 → All (HasRoom methods) state.new.frames.0 }
-    ensures memory { OnErr result (WantsIn (program_of program.now) method.now (form_seen form.now) state.old.statics state.old.heap state.old.frames.0) }
+    ensures memory { OnErr result (WantsIn (program_of program.now) method.now (form_seen form.now) state.old.statics state.old.heap
+        state.old.frames.0) }
 {
     perform(
         alloc,
@@ -65,9 +67,12 @@ fn execute(
 ) -> Result<Outcome, AllocError>
     requires some { 0 < length state.old.frames.0 }
     requires runs { IsRunning (program_of program.now) (state_of state.old).frames method.now (form_seen form.now) next }
-    ensures state { Steps (unwrap_or (normal_step (program_of program.now) (state_of state.old) (state_of state.old).frames) Step.Stuck) result (state_of state.old) (state_of state.new) }
-    ensures room { All (HasRoom (program_of program.now).methods) state.old.frames.0 → All (HasRoom (program_of program.now).methods) state.new.frames.0 }
-    ensures memory { TakesNone (program_of program.now).methods state.old.frames.0 (state_of state.old) (unwrap_or (normal_step (program_of program.now) (state_of state.old) (state_of state.old).frames) Step.Stuck) → IsOk result }
+    ensures state { Steps (unwrap_or (normal_step (program_of program.now) (state_of state.old) (state_of state.old).frames)
+        Step.Stuck) result (state_of state.old) (state_of state.new) }
+    ensures room { All (HasRoom (program_of program.now).methods) state.old.frames.0
+        → All (HasRoom (program_of program.now).methods) state.new.frames.0 }
+    ensures memory { TakesNone (program_of program.now).methods state.old.frames.0 (state_of state.old)
+        (unwrap_or (normal_step (program_of program.now) (state_of state.old) (state_of state.old).frames) Step.Stuck) → IsOk result }
 {
     match perform_in(alloc, program, method, state, form) {
         Ok(after) => apply(alloc, program, state, next, after),
@@ -81,9 +86,12 @@ pub(crate) fn normal_step(
     program: &Program<'_>,
     state: &mut State,
 ) -> Result<Outcome, AllocError>
-    ensures state { Steps (unwrap_or (normal_step (program_of program.now) (state_of state.old) (state_of state.old).frames) Step.Stuck) result (state_of state.old) (state_of state.new) }
-    ensures room { All (HasRoom (program_of program.now).methods) state.old.frames.0 → All (HasRoom (program_of program.now).methods) state.new.frames.0 }
-    ensures memory { TakesNone (program_of program.now).methods state.old.frames.0 (state_of state.old) (unwrap_or (normal_step (program_of program.now) (state_of state.old) (state_of state.old).frames) Step.Stuck) → IsOk result }
+    ensures state { Steps (unwrap_or (normal_step (program_of program.now) (state_of state.old) (state_of state.old).frames)
+        Step.Stuck) result (state_of state.old) (state_of state.new) }
+    ensures room { All (HasRoom (program_of program.now).methods) state.old.frames.0
+        → All (HasRoom (program_of program.now).methods) state.new.frames.0 }
+    ensures memory { TakesNone (program_of program.now).methods state.old.frames.0 (state_of state.old)
+        (unwrap_or (normal_step (program_of program.now) (state_of state.old) (state_of state.old).frames) Step.Stuck) → IsOk result }
 {
     if state.frames.is_empty() {
         return Ok(Outcome::Going);

@@ -65,7 +65,8 @@ pub(crate) fn next_number(heap: &Heap) -> Result<u32, AllocError>
 /// Puts an object at the heap's end, and a reference to it in the place of the top value.
 fn put(frame: &mut Frame, heap: &mut Heap, object: Object) -> Result<After, AllocError>
     requires top { 0 < length frame.old.stack.0 }
-    ensures effect { Tries (Some (makes object (drop 1 frame.old.stack.0) (frame_of frame.old) heap.old)) result (frame_of frame.old, heap.old) (frame_of frame.new, heap.new) }
+    ensures effect { Tries (Some (makes object (drop 1 frame.old.stack.0) (frame_of frame.old) heap.old)) result
+        (frame_of frame.old, heap.old) (frame_of frame.new, heap.new) }
     ensures room { frame.new.stack.1 ≡ frame.old.stack.1 }
     ensures method { frame.new.method ≡ frame.old.method }
 {
@@ -87,7 +88,8 @@ pub fn newarray(
     heap: &mut Heap,
     kind: Kind,
 ) -> Result<After, AllocError>
-    ensures effect { Tries (newarray_effect kind (frame_of frame.old) heap.old) result (frame_of frame.old, heap.old) (frame_of frame.new, heap.new) }
+    ensures effect { Tries (newarray_effect kind (frame_of frame.old) heap.old) result (frame_of frame.old, heap.old)
+        (frame_of frame.new, heap.new) }
     ensures room { frame.new.stack.1 ≡ frame.old.stack.1 }
     ensures method { frame.new.method ≡ frame.old.method }
 {
@@ -108,7 +110,8 @@ pub fn anewarray(
     heap: &mut Heap,
     element: Ty,
 ) -> Result<After, AllocError>
-    ensures effect { Tries (anewarray_effect element (frame_of frame.old) heap.old) result (frame_of frame.old, heap.old) (frame_of frame.new, heap.new) }
+    ensures effect { Tries (anewarray_effect element (frame_of frame.old) heap.old) result (frame_of frame.old, heap.old)
+        (frame_of frame.new, heap.new) }
     ensures room { frame.new.stack.1 ≡ frame.old.stack.1 }
     ensures method { frame.new.method ≡ frame.old.method }
 {
@@ -153,7 +156,8 @@ pub fn new_object(
     heap: &mut Heap,
     t: Ty,
 ) -> Result<After, AllocError>
-    ensures effect { Tries (new_effect (types_of (classes_of world.now)) t (frame_of frame.old) heap.old) result (frame_of frame.old, heap.old) (frame_of frame.new, heap.new) }
+    ensures effect { Tries (new_effect (types_of (classes_of world.now)) t (frame_of frame.old) heap.old) result
+        (frame_of frame.old, heap.old) (frame_of frame.new, heap.new) }
     ensures room { frame.old.stack.1 ≤ frame.new.stack.1 }
     ensures method { frame.new.method ≡ frame.old.method }
 {

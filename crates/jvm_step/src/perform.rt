@@ -49,7 +49,8 @@ fn add_to_local(frame: &mut Frame, n: u16, by: &i16) -> After
 
 /// A jump to the target of the top int, in a table that begins with an int.
 fn switch_from(frame: &mut Frame, default: u16, low: &i32, targets: &[u16]) -> After
-    ensures effect { Acts (tableswitch_effect default low.now targets.now (frame_of frame.old)) result (frame_of frame.old) (frame_of frame.new) }
+    ensures effect { Acts (tableswitch_effect default low.now targets.now (frame_of frame.old)) result (frame_of frame.old)
+        (frame_of frame.new) }
     ensures room { frame.new.stack.1 ≡ frame.old.stack.1 }
     ensures method { frame.new.method ≡ frame.old.method }
 {
@@ -67,10 +68,14 @@ pub(crate) fn perform(
     form: &Form<'_>,
 ) -> Result<After, AllocError>
     requires here { form_at (program_of program.now) frame.old.method frame.old.pc ≡ Some (form_seen form.now) }
-    ensures effect { Tries (effect_of (program_of program.now) method.now (form_seen form.now) (work_seen frame.old statics.old heap.old)) result (work_seen frame.old statics.old heap.old) (work_seen frame.new statics.new heap.new) }
+    ensures effect { Tries
+        (effect_of (program_of program.now) method.now (form_seen form.now) (work_seen frame.old statics.old heap.old)) result
+        (work_seen frame.old statics.old heap.old) (work_seen frame.new statics.new heap.new) }
     ensures room { frame.old.stack.1 ≤ frame.new.stack.1 }
     ensures method { frame.new.method ≡ frame.old.method }
-    ensures memory { OnErr result (Wants frame.old.stack.1 (work_seen frame.old statics.old heap.old) (effect_of (program_of program.now) method.now (form_seen form.now) (work_seen frame.old statics.old heap.old))) }
+    ensures memory { OnErr result
+        (Wants frame.old.stack.1 (work_seen frame.old statics.old heap.old)
+        (effect_of (program_of program.now) method.now (form_seen form.now) (work_seen frame.old statics.old heap.old))) }
 {
     match form {
         Form::Nop => Ok(After::Next),

@@ -5,7 +5,8 @@ ghost use Rattle.jvm_values.specs.States.{frame_of};
 ghost use Rattle.jvm_values.specs.TypedHeaps.{WorldTypes};
 ghost use Rattle.jvm_step.specs.Acts.{Acts, Tries};
 ghost use Rattle.jvm_step.specs.Operands.{object_at};
-ghost use Rattle.jvm_step.specs.Effects.{fields_in, length_of, item_at, is_for, numbers_in, references_in, constant_effect, getfield_effect, arraylength_effect, number_load_effect, aaload_effect, getstatic_effect};
+ghost use Rattle.jvm_step.specs.Effects.{fields_in, length_of, item_at, is_for, numbers_in, references_in, constant_effect};
+ghost use Rattle.jvm_step.specs.Effects.{getfield_effect, arraylength_effect, number_load_effect, aaload_effect, getstatic_effect};
 
 use crate::after::After;
 use crate::built_ins::{ARRAY_INDEX_OUT_OF_BOUNDS_EXCEPTION, NULL_POINTER_EXCEPTION};
@@ -41,7 +42,8 @@ fn field_in(object: &Object, place: u32) -> Option<Value>
 /// Puts the field of a reference's object in the reference's place.
 #[tactic(auto, unfolding(crate::specs::Effects::getfield_effect))]
 pub fn getfield(frame: &mut Frame, heap: &Heap, used: FieldUse) -> After
-    ensures effect { (types : WorldTypes) → Acts (getfield_effect types used heap.now (frame_of frame.old)) result (frame_of frame.old) (frame_of frame.new) }
+    ensures effect { (types : WorldTypes)
+        → Acts (getfield_effect types used heap.now (frame_of frame.old)) result (frame_of frame.old) (frame_of frame.new) }
     ensures room { frame.new.stack.1 ≡ frame.old.stack.1 }
     ensures method { frame.new.method ≡ frame.old.method }
 {

@@ -198,7 +198,8 @@ pub fn shuffle(frame: &mut Frame, shuffle: Shuffle) -> Result<After, AllocError>
     ensures room { frame.old.stack.1 ≤ frame.new.stack.1 }
     ensures method { frame.new.method ≡ frame.old.method }
     ensures memory { OnErr result (frame.old.stack.1 ≤ length frame.old.stack.0 + 1) }
-    ensures full { OnErr result ((after : List ValueSeen) → shuffled shuffle frame.old.stack.0 ≡ Some after → frame.old.stack.1 < length after) }
+    ensures full { OnErr result ((after : List ValueSeen) → shuffled shuffle frame.old.stack.0 ≡ Some after
+        → frame.old.stack.1 < length after) }
 {
     match shuffle {
         Shuffle::Pop => Ok(pop(frame)),

@@ -28,8 +28,10 @@ use std::alloc::{AllocError, Global};
 #[tactic(auto, unfolding(crate::specs::Running::step))]
 pub fn step(alloc: Global, program: &Program<'_>, state: &mut State) -> Result<Outcome, AllocError>
     ensures step { Steps (running.step (program_of program.now) (state_of state.old)) result (state_of state.old) (state_of state.new) }
-    ensures room { All (HasRoom (program_of program.now).methods) state.old.frames.0 → All (HasRoom (program_of program.now).methods) state.new.frames.0 }
-    ensures memory { TakesNone (program_of program.now).methods state.old.frames.0 (state_of state.old) (running.step (program_of program.now) (state_of state.old)) → IsOk result }
+    ensures room { All (HasRoom (program_of program.now).methods) state.old.frames.0
+        → All (HasRoom (program_of program.now).methods) state.new.frames.0 }
+    ensures memory { TakesNone (program_of program.now).methods state.old.frames.0 (state_of state.old)
+        (running.step (program_of program.now) (state_of state.old)) → IsOk result }
 {
     match state.mode {
         Mode::Normal => normal_step(alloc, program, state),

@@ -62,7 +62,8 @@ fn handler(world: &World<'_>, object: &Object, pc: u16, table: &[CatchRange]) ->
 /// A handler of the running frame begins.
 fn catch_at(state: &mut State, place: u16, r: u32) -> Result<(), AllocError>
     requires { 0 < length state.old.frames.0 }
-    ensures state { MatchResult result (λ _. state_of state.new ≡ handled_at place r (state_of state.old)) (λ _. state_of state.new ≡ state_of state.old) }
+    ensures state { MatchResult result (λ _. state_of state.new ≡ handled_at place r (state_of state.old))
+        (λ _. state_of state.new ≡ state_of state.old) }
     ensures room { (methods : List MethodSeen) → All (HasRoom methods) state.old.frames.0 → All (HasRoom methods) state.new.frames.0 }
     ensures memory { OnErr result (TopLacks state.old.frames.0) }
 {
@@ -84,7 +85,8 @@ fn unwind(state: &mut State)
 /// What is done with the entry that was found, or with none.
 fn handle(state: &mut State, r: u32, found: Option<CatchRange>) -> Result<Outcome, AllocError>
     requires { 0 < length state.old.frames.0 }
-    ensures state { Does (handled_in (state_of state.old) r found (state_of state.old).frames) result (state_of state.old) (state_of state.new) }
+    ensures state { Does (handled_in (state_of state.old) r found (state_of state.old).frames) result (state_of state.old)
+        (state_of state.new) }
     ensures room { (methods : List MethodSeen) → All (HasRoom methods) state.old.frames.0 → All (HasRoom methods) state.new.frames.0 }
     ensures memory { OnErr result (CatchLacks found state.old.frames.0) }
 {
@@ -138,9 +140,13 @@ pub(crate) fn throwing_step(
     state: &mut State,
     r: u32,
 ) -> Result<Outcome, AllocError>
-    ensures state { Does (unwrap_or (throwing_step (program_of program.now) (state_of state.old) r (state_of state.old).frames) Step.Stuck) result (state_of state.old) (state_of state.new) }
-    ensures room { All (HasRoom (program_of program.now).methods) state.old.frames.0 → All (HasRoom (program_of program.now).methods) state.new.frames.0 }
-    ensures memory { TakesNone (program_of program.now).methods state.old.frames.0 (state_of state.old) (unwrap_or (throwing_step (program_of program.now) (state_of state.old) r (state_of state.old).frames) Step.Stuck) → IsOk result }
+    ensures state { Does (unwrap_or (throwing_step (program_of program.now) (state_of state.old) r (state_of state.old).frames)
+        Step.Stuck) result (state_of state.old) (state_of state.new) }
+    ensures room { All (HasRoom (program_of program.now).methods) state.old.frames.0
+        → All (HasRoom (program_of program.now).methods) state.new.frames.0 }
+    ensures memory { TakesNone (program_of program.now).methods state.old.frames.0 (state_of state.old)
+        (unwrap_or (throwing_step (program_of program.now) (state_of state.old) r (state_of state.old).frames) Step.Stuck)
+        → IsOk result }
 {
     if state.frames.is_empty() {
         return Ok(Outcome::Going);

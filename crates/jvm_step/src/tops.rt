@@ -41,7 +41,8 @@ fn take_values(frame: &mut Frame, count: usize)
 
 /// Lets a frame go on at a place, with the result of its call on its stack.
 fn give(frame: &mut Frame, place: u16, value: Option<Value>) -> Result<(), AllocError>
-    ensures frame { MatchResult result (λ _. frame_of frame.new ≡ given place value (frame_of frame.old)) (λ _. frame_of frame.new ≡ frame_of frame.old) }
+    ensures frame { MatchResult result (λ _. frame_of frame.new ≡ given place value (frame_of frame.old))
+        (λ _. frame_of frame.new ≡ frame_of frame.old) }
     ensures room { frame.old.stack.1 ≤ frame.new.stack.1 }
     ensures memory { OnErr result (frame.old.stack.1 < length (given place value (frame_of frame.old)).stack) }
 {
@@ -59,7 +60,8 @@ fn give(frame: &mut Frame, place: u16, value: Option<Value>) -> Result<(), Alloc
 
 /// Lets a handler of a frame begin at a place with the thrown object.
 fn begin_handler(frame: &mut Frame, place: u16, r: u32) -> Result<(), AllocError>
-    ensures frame { MatchResult result (λ _. frame_of frame.new ≡ handling place r (frame_of frame.old)) (λ _. frame_of frame.new ≡ frame_of frame.old) }
+    ensures frame { MatchResult result (λ _. frame_of frame.new ≡ handling place r (frame_of frame.old))
+        (λ _. frame_of frame.new ≡ frame_of frame.old) }
     ensures room { frame.old.stack.1 ≤ frame.new.stack.1 }
     ensures memory { OnErr result (frame.old.stack.1 ≡ 0) }
 {
@@ -112,7 +114,9 @@ pub(crate) fn give_to_caller(
     value: Option<Value>,
 ) -> Result<(), AllocError>
     requires { 1 < length frames.old.0 }
-    ensures frames { MatchResult result (λ _. map frame_of frames.new.0 ≡ callers_with (given place value) (map frame_of frames.old.0)) (λ _. map frame_of frames.new.0 ≡ map frame_of frames.old.0) }
+    ensures frames { MatchResult result
+        (λ _. map frame_of frames.new.0 ≡ callers_with (given place value) (map frame_of frames.old.0))
+        (λ _. map frame_of frames.new.0 ≡ map frame_of frames.old.0) }
     ensures room { (methods : List Method) → All (HasRoom methods) frames.old.0 → All (HasRoom methods) frames.new.0 }
     ensures count { length frames.new.0 ≡ length frames.old.0 }
     ensures memory { OnErr result (CallerLacks value frames.old.0) }
@@ -123,7 +127,9 @@ pub(crate) fn give_to_caller(
 /// Lets a handler of the running frame begin at a place with the thrown object.
 pub(crate) fn handle_in_top(frames: &mut Stack<Frame>, place: u16, r: u32) -> Result<(), AllocError>
     requires { 0 < length frames.old.0 }
-    ensures frames { MatchResult result (λ _. map frame_of frames.new.0 ≡ frames_with (handling place r) (map frame_of frames.old.0)) (λ _. map frame_of frames.new.0 ≡ map frame_of frames.old.0) }
+    ensures frames { MatchResult result
+        (λ _. map frame_of frames.new.0 ≡ frames_with (handling place r) (map frame_of frames.old.0))
+        (λ _. map frame_of frames.new.0 ≡ map frame_of frames.old.0) }
     ensures room { (methods : List Method) → All (HasRoom methods) frames.old.0 → All (HasRoom methods) frames.new.0 }
     ensures count { length frames.new.0 ≡ length frames.old.0 }
     ensures memory { OnErr result (TopLacks frames.old.0) }

@@ -95,7 +95,9 @@ fn set_number_of(alloc: Global, heap: &mut Heap, r: u32, i: usize, n: i32)
 /// Puts the top value into the field of a reference's object.
 #[tactic(auto, unfolding(crate::specs::Effects::putfield_effect))]
 pub fn putfield(alloc: Global, frame: &mut Frame, heap: &mut Heap, used: FieldUse) -> After
-    ensures effect { (types : WorldTypes) → Acts (putfield_effect types used (frame_of frame.old) heap.old) result (frame_of frame.old, heap.old) (frame_of frame.new, heap.new) }
+    ensures effect { (types : WorldTypes)
+        → Acts (putfield_effect types used (frame_of frame.old) heap.old) result (frame_of frame.old, heap.old)
+        (frame_of frame.new, heap.new) }
     ensures room { frame.new.stack.1 ≡ frame.old.stack.1 }
     ensures method { frame.new.method ≡ frame.old.method }
 {
@@ -124,7 +126,9 @@ pub fn putstatic(
     fields: &[StaticField<'_>],
     place: u32,
 ) -> After
-    ensures effect { (types : WorldTypes) (heap : Heap) → Acts (putstatic_effect types fields.now place heap (frame_of frame.old) statics.old) result (frame_of frame.old, statics.old) (frame_of frame.new, statics.new) }
+    ensures effect { (types : WorldTypes) (heap : Heap)
+        → Acts (putstatic_effect types fields.now place heap (frame_of frame.old) statics.old) result
+        (frame_of frame.old, statics.old) (frame_of frame.new, statics.new) }
     ensures room { frame.new.stack.1 ≡ frame.old.stack.1 }
     ensures method { frame.new.method ≡ frame.old.method }
 {
@@ -179,7 +183,8 @@ pub(crate) fn index_below(count: usize, i: &i32) -> Option<usize>
 /// Puts the top int into an array of numbers.
 #[tactic(auto, unfolding(crate::specs::Effects::number_store_effect))]
 pub fn number_store(alloc: Global, frame: &mut Frame, heap: &mut Heap, kinds: ItemKind) -> After
-    ensures effect { Acts (number_store_effect kinds (frame_of frame.old) heap.old) result (frame_of frame.old, heap.old) (frame_of frame.new, heap.new) }
+    ensures effect { Acts (number_store_effect kinds (frame_of frame.old) heap.old) result (frame_of frame.old, heap.old)
+        (frame_of frame.new, heap.new) }
     ensures room { frame.new.stack.1 ≡ frame.old.stack.1 }
     ensures method { frame.new.method ≡ frame.old.method }
 {

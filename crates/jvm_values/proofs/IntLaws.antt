@@ -1,5 +1,6 @@
 -- What the library's operations on 32 bits give, as numbers; and where narrowed numbers lie.
-use Rattle.std.proofs.Common.{◌≡◌, ℕ, suc, ◌*◌, ◌%◌, ◌^◌, ◌<◌, ◌≤◌, ℤ, pos, negsuc, ◌*ℤ◌, ◌≤ℤ◌, Bool, true, false, Some, FitsSigned, to_z, of_z, w8, w16, w32, to_z-of_z, ◌∙◌, ap, sym, refl, lit<, arith}
+use Rattle.std.proofs.Common.{◌≡◌, ℕ, suc, ◌*◌, ◌%◌, ◌^◌, ◌<◌, ◌≤◌, ℤ, pos, negsuc, ◌*ℤ◌, ◌≤ℤ◌, Bool, true, false, Some, FitsSigned}
+use Rattle.std.proofs.Common.{to_z, of_z, w8, w16, w32, to_z-of_z, ◌∙◌, ap, sym, refl, lit<, arith}
 use Rattle.std.proofs.lemmas.Int.{ints, SFits-int_wrap, wrapping_mul-bits, int_wrap-mul_right}
 use Rattle.std.specs.Int.{int_rem_euclid, int_wrap, int_shl}
 use Rattle.std.specs.Ordering.{int_eq}
@@ -38,26 +39,35 @@ pub shifted : (a : ℤ) (k : ℕ) → FitsSigned w32 a → k < 32 → to_z w32 (
 shifted a k f h =
     let q = power_below k h in
     let p : of_z w32 a < 4294967296 = omega (arith, ints, f) in
-    wrapping_mul-bits w32 (of_z w32 a) (2 ^ k) p q ∙ ap (λ (z : ℤ). int_wrap w32 (z *ℤ to_z w32 (2 ^ k))) (to_z-of_z f) ∙ ap (λ (z : ℤ). int_wrap w32 (a *ℤ z)) (wrapped (pos (2 ^ k)) q) ∙ int_wrap-mul_right w32 a (pos (2 ^ k))
+    wrapping_mul-bits w32 (of_z w32 a) (2 ^ k) p q ∙ ap (λ (z : ℤ). int_wrap w32 (z *ℤ to_z w32 (2 ^ k))) (to_z-of_z f)
+    ∙ ap (λ (z : ℤ). int_wrap w32 (a *ℤ z)) (wrapped (pos (2 ^ k)) q) ∙ int_wrap-mul_right w32 a (pos (2 ^ k))
 
-pub shift_left_is : (a b r : ℤ) (n : ℕ) → FitsSigned w32 a → FitsSigned w32 b → n ≡ of_z w32 (to_z w32 (of_z w32 b)) → r ≡ int_shl w32 (to_z w32 (of_z w32 a)) (n % 32) → to_z w32 (of_z w32 r) ≡ int_shifted_left a b
+pub shift_left_is : (a b r : ℤ) (n : ℕ) → FitsSigned w32 a → FitsSigned w32 b → n ≡ of_z w32 (to_z w32 (of_z w32 b))
+    → r ≡ int_shl w32 (to_z w32 (of_z w32 a)) (n % 32) → to_z w32 (of_z w32 r) ≡ int_shifted_left a b
 shift_left_is a b r n f g count e =
     let bits : of_z w32 (to_z w32 (of_z w32 b)) ≡ of_z w32 b = ap (of_z w32) (to_z-of_z g) in
-    let is : r ≡ int_shifted_left a b = e ∙ ap (λ (z : ℤ). int_shl w32 z (n % 32)) (to_z-of_z f) ∙ ap (λ (k : ℕ). int_shl w32 a (k % 32)) (count ∙ bits) ∙ shifted a (of_z w32 b % 32) f (mod-lt _ (lit< tt)) in
+    let is : r ≡ int_shifted_left a b = e ∙ ap (λ (z : ℤ). int_shl w32 z (n % 32)) (to_z-of_z f)
+    ∙ ap (λ (k : ℕ). int_shl w32 a (k % 32)) (count ∙ bits) ∙ shifted a (of_z w32 b % 32) f (mod-lt _ (lit< tt)) in
     ap (λ (z : ℤ). to_z w32 (of_z w32 z)) is ∙ to_z-of_z (SFits-int_wrap w32 (a *ℤ pos (2 ^ (of_z w32 b % 32)))) ∙ refl
 
 -- what `rem_euclid` leaves of an int, read with a sign
-pub byte_is : (v low signed r : ℤ) → FitsSigned w32 v → FitsSigned w32 low → FitsSigned w8 signed → low ≡ int_rem_euclid (to_z w32 (of_z w32 v)) (pos 256) → signed ≡ to_z w8 (unsigned_abs (to_z w32 (of_z w32 low))) → r ≡ to_z w8 (of_z w8 signed) → to_z w32 (of_z w32 r) ≡ int_wrap w8 v
+pub byte_is : (v low signed r : ℤ) → FitsSigned w32 v → FitsSigned w32 low → FitsSigned w8 signed
+    → low ≡ int_rem_euclid (to_z w32 (of_z w32 v)) (pos 256) → signed ≡ to_z w8 (unsigned_abs (to_z w32 (of_z w32 low)))
+    → r ≡ to_z w8 (of_z w8 signed) → to_z w32 (of_z w32 r) ≡ int_wrap w8 v
 unfolding int_wrap
 byte_is v low signed r f g h e k l =
-    let is : r ≡ int_wrap w8 v = l ∙ to_z-of_z h ∙ k ∙ ap (λ (z : ℤ). to_z w8 (unsigned_abs z)) (to_z-of_z g ∙ e ∙ ap (λ (z : ℤ). int_rem_euclid z (pos 256)) (to_z-of_z f)) in
+    let is : r ≡ int_wrap w8 v = l ∙ to_z-of_z h ∙ k
+    ∙ ap (λ (z : ℤ). to_z w8 (unsigned_abs z)) (to_z-of_z g ∙ e ∙ ap (λ (z : ℤ). int_rem_euclid z (pos 256)) (to_z-of_z f)) in
     let fits : FitsSigned w8 (int_wrap w8 v) = SFits-int_wrap w8 v in
     ap (λ (z : ℤ). to_z w32 (of_z w32 z)) is ∙ (omega (arith, ints, fits))
 
-pub short_is : (v low signed r : ℤ) → FitsSigned w32 v → FitsSigned w32 low → FitsSigned w16 signed → low ≡ int_rem_euclid (to_z w32 (of_z w32 v)) (pos 65536) → signed ≡ to_z w16 (unsigned_abs (to_z w32 (of_z w32 low))) → r ≡ to_z w16 (of_z w16 signed) → to_z w32 (of_z w32 r) ≡ int_wrap w16 v
+pub short_is : (v low signed r : ℤ) → FitsSigned w32 v → FitsSigned w32 low → FitsSigned w16 signed
+    → low ≡ int_rem_euclid (to_z w32 (of_z w32 v)) (pos 65536) → signed ≡ to_z w16 (unsigned_abs (to_z w32 (of_z w32 low)))
+    → r ≡ to_z w16 (of_z w16 signed) → to_z w32 (of_z w32 r) ≡ int_wrap w16 v
 unfolding int_wrap
 short_is v low signed r f g h e k l =
-    let is : r ≡ int_wrap w16 v = l ∙ to_z-of_z h ∙ k ∙ ap (λ (z : ℤ). to_z w16 (unsigned_abs z)) (to_z-of_z g ∙ e ∙ ap (λ (z : ℤ). int_rem_euclid z (pos 65536)) (to_z-of_z f)) in
+    let is : r ≡ int_wrap w16 v = l ∙ to_z-of_z h ∙ k
+    ∙ ap (λ (z : ℤ). to_z w16 (unsigned_abs z)) (to_z-of_z g ∙ e ∙ ap (λ (z : ℤ). int_rem_euclid z (pos 65536)) (to_z-of_z f)) in
     let fits : FitsSigned w16 (int_wrap w16 v) = SFits-int_wrap w16 v in
     ap (λ (z : ℤ). to_z w32 (of_z w32 z)) is ∙ (omega (arith, ints, fits))
 
@@ -69,8 +79,11 @@ pub short_in_range : (v r : ℤ) → r ≡ int_wrap w16 v → (negsuc 32767 ≤�
 short_in_range v r e = let f : FitsSigned w16 r = rw e (SFits-int_wrap w16 v) in (omega (arith, ints, f), omega (arith, ints, f))
 
 -- what the library divides, as the quotient
-pub quotient_is : (a b r : ℤ) → FitsSigned w32 a → FitsSigned w32 b → FitsSigned w32 r → r ≡ to_z w32 (of_z w32 (int_div (to_z w32 (of_z w32 a)) (to_z w32 (of_z w32 b)))) → to_z w32 (of_z w32 r) ≡ int_wrap w32 (int_div a b)
-quotient_is a b r f g h e = to_z-of_z h ∙ e ∙ ap (λ (z : ℤ). to_z w32 (of_z w32 (int_div z (to_z w32 (of_z w32 b))))) (to_z-of_z f) ∙ ap (λ (z : ℤ). to_z w32 (of_z w32 (int_div a z))) (to_z-of_z g) ∙ quotient_wrapped a b f
+pub quotient_is : (a b r : ℤ) → FitsSigned w32 a → FitsSigned w32 b → FitsSigned w32 r
+    → r ≡ to_z w32 (of_z w32 (int_div (to_z w32 (of_z w32 a)) (to_z w32 (of_z w32 b))))
+    → to_z w32 (of_z w32 r) ≡ int_wrap w32 (int_div a b)
+quotient_is a b r f g h e = to_z-of_z h ∙ e ∙ ap (λ (z : ℤ). to_z w32 (of_z w32 (int_div z (to_z w32 (of_z w32 b))))) (to_z-of_z f)
+    ∙ ap (λ (z : ℤ). to_z w32 (of_z w32 (int_div a z))) (to_z-of_z g) ∙ quotient_wrapped a b f
 
 -- the answer where the divisor is not 0
 pub given_quotient : (a b z : ℤ) → (of_z w32 b ≡ 0 → ⊥) → z ≡ int_wrap w32 (int_div a b) → Some z ≡ int_quotient a b

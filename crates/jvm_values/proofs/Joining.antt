@@ -1,5 +1,6 @@
 -- The join of two types, from the laws of subtypes and erasure.
-use Rattle.std.proofs.Common.{◌≡◌, ℕ, zero, suc, ◌+◌, ◌-◌, ◌<◌, ◌≤◌, Bool, true, false, cond, ltb, List, Option, Some, None, ◌⊎◌, inl, inr, refl, sym, ap, subst, ◌∙◌, arith}
+use Rattle.std.proofs.Common.{◌≡◌, ℕ, zero, suc, ◌+◌, ◌-◌, ◌<◌, ◌≤◌, Bool, true, false, cond, ltb, List, Option, Some, None, ◌⊎◌}
+use Rattle.std.proofs.Common.{inl, inr, refl, sym, ap, subst, ◌∙◌, arith}
 use Rattle.std.specs.Prelude.{IsTrue}
 use Rattle.std.proofs.lemmas.Bool.{ltb-true, ltb-false, cases_lt}
 use Rattle.std.proofs.lemmas.Option.{none-some}
@@ -27,10 +28,12 @@ pub no_dims : (t item : Ty) → t.dims ≡ 0 → t ≡ array_of item → ⊥
 no_dims t item z e = let d : t.dims ≡ item.dims + 1 = ap (λ (x : Ty). x.dims) e in omega arith
 
 -- the items' type: what it is, and that the array is the array of it
-item_is : (dims : ℕ) (base : Base) (item : Ty) → item_under dims base ≡ Some item → (dims ≡ item.dims + 1) × ((base ≡ item.base) × ((k : Kind) → base ≡ Num k → 0 < item.dims))
+item_is : (dims : ℕ) (base : Base) (item : Ty) → item_under dims base ≡ Some item
+    → (dims ≡ item.dims + 1) × ((base ≡ item.base) × ((k : Kind) → base ≡ Num k → 0 < item.dims))
 item_is dims (Class class) item e = by_test (ltb 0 dims) refl e
   where
-    by_test : (t : Bool) → ltb 0 dims ≡ t → cond t (Some (record { dims = dims - 1; base = Class class })) None ≡ Some item → (dims ≡ item.dims + 1) × ((Class class ≡ item.base) × ((k : Kind) → Class class ≡ Num k → 0 < item.dims))
+    by_test : (t : Bool) → ltb 0 dims ≡ t → cond t (Some (record { dims = dims - 1; base = Class class })) None ≡ Some item
+        → (dims ≡ item.dims + 1) × ((Class class ≡ item.base) × ((k : Kind) → Class class ≡ Num k → 0 < item.dims))
     by_test true h f =
         let is = some_is f in
         let d : dims - 1 ≡ item.dims = ap (λ (x : Ty). x.dims) is in
@@ -39,7 +42,8 @@ item_is dims (Class class) item e = by_test (ltb 0 dims) refl e
     by_test false h f = absurd (none-some item f)
 item_is dims (Num kind) item e = by_test (ltb 1 dims) refl e
   where
-    by_test : (t : Bool) → ltb 1 dims ≡ t → cond t (Some (record { dims = dims - 1; base = Num kind })) None ≡ Some item → (dims ≡ item.dims + 1) × ((Num kind ≡ item.base) × ((k : Kind) → Num kind ≡ Num k → 0 < item.dims))
+    by_test : (t : Bool) → ltb 1 dims ≡ t → cond t (Some (record { dims = dims - 1; base = Num kind })) None ≡ Some item
+        → (dims ≡ item.dims + 1) × ((Num kind ≡ item.base) × ((k : Kind) → Num kind ≡ Num k → 0 < item.dims))
     by_test true h f =
         let is = some_is f in
         let d : dims - 1 ≡ item.dims = ap (λ (x : Ty). x.dims) is in
@@ -52,7 +56,10 @@ narrower n d e (Class k) r h = r
 narrower n d e (Num kind) r h = h kind refl
 
 item_or_none : (t : Ty) → (item_of t ≡ None) ⊎ ((item : Ty) × (item_of t ≡ Some item))
-item_or_none t = elim (item_of t) as (λ (x : Option Ty). (x ≡ None) ⊎ ((item : Ty) × (x ≡ Some item))) [ None ↦ inl refl | Some item ↦ inr (item, refl) ]
+item_or_none t = elim (item_of t) as (λ (x : Option Ty). (x ≡ None) ⊎ ((item : Ty) × (x ≡ Some item))) [
+  | None ↦ inl refl
+  | Some item ↦ inr (item, refl)
+]
 
 pub array_of_item : (t item : Ty) → item_of t ≡ Some item → t ≡ array_of item
 array_of_item t item e = let h = item_is t.dims t.base item e in same_type t (array_of item) h.0 h.1.0
@@ -67,7 +74,8 @@ pub record IsLeastBelow (sub : Ty → Ty → Bool) (erase : Ty → Ty) (a b : Ty
   pub above : IsErasedAbove sub erase a b least
   pub so_far : (k : ℕ) → k < count → IsErasedAbove sub erase a b (class_type k) → IsTrue (sub least (class_type k))
 
-module _ (sub : Ty → Ty → Bool) (erase : Ty → Ty) (n : ℕ) (fields : ℕ → List Slot) (can_be_made : ℕ → Bool) (laws : SubtypeLaws sub erase n fields can_be_made) where
+module _ (sub : Ty → Ty → Bool) (erase : Ty → Ty) (n : ℕ) (fields : ℕ → List Slot) (can_be_made : ℕ → Bool)
+    (laws : SubtypeLaws sub erase n fields can_be_made) where
   abbrev Above : Ty → Ty → Ty → Type 0
   Above a b top = IsErasedAbove sub erase a b top
 
@@ -85,7 +93,8 @@ module _ (sub : Ty → Ty → Bool) (erase : Ty → Ty) (n : ℕ) (fields : ℕ 
       record {
         left = up;
         right = laws.object_on_top b s;
-        erased = laws.antisymmetric (erase object_type) object_type (laws.object_on_top (erase object_type) (laws.of_world object_type (erase object_type) e).1) e;
+        erased = laws.antisymmetric (erase object_type) object_type
+            (laws.object_on_top (erase object_type) (laws.of_world object_type (erase object_type) e).1) e;
       }
 
   -- one of the two types itself
@@ -119,30 +128,35 @@ module _ (sub : Ty → Ty → Bool) (erase : Ty → Ty) (n : ℕ) (fields : ℕ 
   below_next k i h = elim (cases_lt k i) [ inl l ↦ inl l | inr l ↦ inr (omega (arith, l, h)) ]
 
   -- the next class is taken
-  pub taken : (a b : Ty) (i : ℕ) (least : Ty) → IsLeastBelow sub erase a b i least → Above a b (class_type i) → IsTrue (sub (class_type i) least) → IsLeastBelow sub erase a b (i + 1) (class_type i)
+  pub taken : (a b : Ty) (i : ℕ) (least : Ty) → IsLeastBelow sub erase a b i least → Above a b (class_type i)
+      → IsTrue (sub (class_type i) least) → IsLeastBelow sub erase a b (i + 1) (class_type i)
   taken a b i least h t e = record {
     above = t;
     so_far = λ k l u. elim (below_next k i l) [
       | inl m ↦ laws.transitive (class_type i) least (class_type k) e (h.so_far k m u)
-      | inr m ↦ subst (λ (x : ℕ). IsTrue (sub (class_type i) (class_type x))) (sym m) (laws.reflexive (class_type i) (laws.of_world a (class_type i) t.left).1)
+      | inr m ↦ subst (λ (x : ℕ). IsTrue (sub (class_type i) (class_type x))) (sym m)
+          (laws.reflexive (class_type i) (laws.of_world a (class_type i) t.left).1)
     ];
   }
 
   -- or left
-  pub left_out : (a b : Ty) (i : ℕ) (least : Ty) → IsLeastBelow sub erase a b i least → (Above a b (class_type i) → IsTrue (sub (class_type i) least) → ⊥) → IsLeastBelow sub erase a b (i + 1) least
+  pub left_out : (a b : Ty) (i : ℕ) (least : Ty) → IsLeastBelow sub erase a b i least
+      → (Above a b (class_type i) → IsTrue (sub (class_type i) least) → ⊥) → IsLeastBelow sub erase a b (i + 1) least
   left_out a b i least h not_so = record {
     above = h.above;
     so_far = λ k l u. elim (below_next k i l) [
       | inl m ↦ h.so_far k m u
       | inr m ↦ let v : Above a b (class_type i) = subst (λ (x : ℕ). Above a b (class_type x)) m u in
-          subst (λ (x : ℕ). IsTrue (sub least (class_type x))) (sym m) (elim (laws.chain a least (class_type i) h.above.left v.left h.above.erased v.erased) [
+          subst (λ (x : ℕ). IsTrue (sub least (class_type x))) (sym m)
+          (elim (laws.chain a least (class_type i) h.above.left v.left h.above.erased v.erased) [
             | inl s ↦ s
             | inr s ↦ absurd (not_so v s)
           ])
     ];
   }
 
-  pub least_of_all : (a b : Ty) (least : Ty) → a.dims ≡ 0 → IsReference n a → IsLeastBelow sub erase a b n least → IsJoin sub erase a b least
+  pub least_of_all : (a b : Ty) (least : Ty) → a.dims ≡ 0 → IsReference n a → IsLeastBelow sub erase a b n least
+      → IsJoin sub erase a b least
   least_of_all a b least z r h = record {
     above = h.above;
     least = λ top t.
@@ -155,12 +169,14 @@ module _ (sub : Ty → Ty → Bool) (erase : Ty → Ty) (n : ℕ) (fields : ℕ 
   numbers_under : (dims : ℕ) (base : Base) → item_under dims base ≡ None → 0 < dims → (k : Kind) × ((dims ≡ 1) × (base ≡ Num k))
   numbers_under dims (Class class) e h = by_test (ltb 0 dims) refl e
     where
-      by_test : (t : Bool) → ltb 0 dims ≡ t → cond {A = Option Ty} t (Some (record { dims = dims - 1; base = Class class })) None ≡ None → (k : Kind) × ((dims ≡ 1) × (Class class ≡ Num k))
+      by_test : (t : Bool) → ltb 0 dims ≡ t → cond {A = Option Ty} t (Some (record { dims = dims - 1; base = Class class })) None
+          ≡ None → (k : Kind) × ((dims ≡ 1) × (Class class ≡ Num k))
       by_test true l f = absurd (none-some (record { dims = dims - 1; base = Class class }) (sym f))
       by_test false l f = absurd (omega (arith, ltb-false 0 dims l, h))
   numbers_under dims (Num kind) e h = by_test (ltb 1 dims) refl e
     where
-      by_test : (t : Bool) → ltb 1 dims ≡ t → cond {A = Option Ty} t (Some (record { dims = dims - 1; base = Num kind })) None ≡ None → (k : Kind) × ((dims ≡ 1) × (Num kind ≡ Num k))
+      by_test : (t : Bool) → ltb 1 dims ≡ t → cond {A = Option Ty} t (Some (record { dims = dims - 1; base = Num kind })) None
+          ≡ None → (k : Kind) × ((dims ≡ 1) × (Num kind ≡ Num k))
       by_test true l f = absurd (none-some (record { dims = dims - 1; base = Num kind }) (sym f))
       by_test false l f = (kind, (omega (arith, ltb-false 1 dims l, h), refl))
 
@@ -175,16 +191,19 @@ module _ (sub : Ty → Ty → Bool) (erase : Ty → Ty) (n : ℕ) (fields : ℕ 
         | inr o ↦ inr (o ∙ sym p.1)
       ]
 
-  pub object_joins : (a b : Ty) → IsReference n a → IsReference n b → AreApart a b → 0 < a.dims → 0 < b.dims → (Above a b a → ⊥) → (Above a b b → ⊥) → IsJoin sub erase a b object_type
+  pub object_joins : (a b : Ty) → IsReference n a → IsReference n b → AreApart a b → 0 < a.dims → 0 < b.dims → (Above a b a → ⊥)
+      → (Above a b b → ⊥) → IsJoin sub erase a b object_type
   object_joins a b r s apart p q no_left no_right = record {
     above = object_above a b r s;
     least = λ top t. elim apart [
       | inl e ↦ elim (above_numbers a top e p t.left) [
-        | inl o ↦ subst (λ (x : Ty). IsTrue (sub object_type x)) (sym o) (laws.reflexive object_type (laws.of_world a object_type (laws.object_on_top a r)).1)
+        | inl o ↦ subst (λ (x : Ty). IsTrue (sub object_type x)) (sym o)
+            (laws.reflexive object_type (laws.of_world a object_type (laws.object_on_top a r)).1)
         | inr o ↦ absurd (no_left (subst (λ (x : Ty). Above a b x) o t))
       ]
       | inr e ↦ elim (above_numbers b top e q t.right) [
-        | inl o ↦ subst (λ (x : Ty). IsTrue (sub object_type x)) (sym o) (laws.reflexive object_type (laws.of_world a object_type (laws.object_on_top a r)).1)
+        | inl o ↦ subst (λ (x : Ty). IsTrue (sub object_type x)) (sym o)
+            (laws.reflexive object_type (laws.of_world a object_type (laws.object_on_top a r)).1)
         | inr o ↦ absurd (no_right (subst (λ (x : Ty). Above a b x) o t))
       ]
     ];
@@ -209,7 +228,13 @@ module _ (sub : Ty → Ty → Bool) (erase : Ty → Ty) (n : ℕ) (fields : ℕ 
         let one : t.dims ≡ given.0.dims + 1 = ap (λ (x : Ty). x.dims) is in
         elim (laws.array_below given.0 top (item_reference n t given.0 given.1 r) (subst (λ (x : Ty). IsTrue (sub x top)) is e)) [
           | inl o ↦ omega (arith, ap (λ (x : Ty). x.dims) o)
-          | inr p ↦ omega (arith, one, ap (λ (x : Ty). x.dims) p.3, dims_above d given.0 p.0 (omega (arith, one, l)) (item_reference n t given.0 given.1 r) p.2)
+          | inr p ↦ omega (
+            arith,
+            one,
+            ap (λ (x : Ty). x.dims) p.3,
+            dims_above d given.0 p.0 (omega (arith, one, l))
+                (item_reference n t given.0 given.1 r) p.2,
+          )
         ]
   ]
 
@@ -220,7 +245,8 @@ module _ (sub : Ty → Ty → Bool) (erase : Ty → Ty) (n : ℕ) (fields : ℕ 
   pub array_reference : (t : Ty) → IsReference n t → t.dims < 255 → IsReference n (array_of t)
   array_reference t r h = (omega arith, base_wider t.dims (t.dims + 1) t.base (omega arith) r.1)
 
-  pub arrays_join : (a b j : Ty) → IsReference n a → IsReference n b → IsReference n (array_of a) → IsReference n (array_of b) → IsJoin sub erase a b j → IsJoin sub erase (array_of a) (array_of b) (array_of j)
+  pub arrays_join : (a b j : Ty) → IsReference n a → IsReference n b → IsReference n (array_of a) → IsReference n (array_of b)
+      → IsJoin sub erase a b j → IsJoin sub erase (array_of a) (array_of b) (array_of j)
   arrays_join a b j r s ra sb h =
       let jr = (laws.of_world a j h.above.left).1 in
       let low = dims_above a.dims a j (omega arith) r h.above.left in
@@ -238,8 +264,11 @@ module _ (sub : Ty → Ty → Bool) (erase : Ty → Ty) (n : ℕ) (fields : ℕ 
             | inr q ↦
                 let same = array_inside q.0 p.0 (sym q.3 ∙ p.3) in
                 let array = subst (λ (x : Ty). IsReference n x) p.3 (laws.of_world (array_of a) top t.left).1 in
-                let erased = array_inside (erase p.0) p.0 (sym (laws.erase_array p.0 p.1 array) ∙ subst (λ (x : Ty). erase x ≡ x) p.3 t.erased) in
-                subst (λ (x : Ty). IsTrue (sub (array_of j) x)) (sym p.3) (laws.below_array j p.0 ar array (h.least p.0 (record { left = p.2; right = subst (λ (x : Ty). IsTrue (sub b x)) same q.2; erased = erased })))
+                let erased = array_inside (erase p.0) p.0 (sym (laws.erase_array p.0 p.1 array)
+                ∙ subst (λ (x : Ty). erase x ≡ x) p.3 t.erased) in
+                subst (λ (x : Ty). IsTrue (sub (array_of j) x)) (sym p.3)
+                (laws.below_array j p.0 ar array
+                (h.least p.0 (record { left = p.2; right = subst (λ (x : Ty). IsTrue (sub b x)) same q.2; erased = erased })))
           ]
         ];
       }
@@ -250,12 +279,14 @@ module _ (sub : Ty → Ty → Bool) (erase : Ty → Ty) (n : ℕ) (fields : ℕ 
       omega (arith, one, r.0, dims_above x.dims x j (omega arith) (item_reference n a x e r) h.above.left)
 
   -- two arrays of references, from their items
-  pub items_join : (a b x y j : Ty) → item_of a ≡ Some x → item_of b ≡ Some y → IsReference n a → IsReference n b → IsJoin sub erase x y j → IsJoin sub erase a b (array_of j)
+  pub items_join : (a b x y j : Ty) → item_of a ≡ Some x → item_of b ≡ Some y → IsReference n a → IsReference n b
+      → IsJoin sub erase x y j → IsJoin sub erase a b (array_of j)
   items_join a b x y j e f r s h =
       let p = array_of_item a x e in
       let q = array_of_item b y f in
       subst (λ (t : Ty). IsJoin sub erase t b (array_of j)) (sym p) (
       subst (λ (t : Ty). IsJoin sub erase (array_of x) t (array_of j)) (sym q) (
-      arrays_join x y j (item_reference n a x e r) (item_reference n b y f s) (subst (λ (t : Ty). IsReference n t) p r) (subst (λ (t : Ty). IsReference n t) q s) h
+      arrays_join x y j (item_reference n a x e r) (item_reference n b y f s) (subst (λ (t : Ty). IsReference n t) p r)
+      (subst (λ (t : Ty). IsReference n t) q s) h
       )
       )

@@ -4,7 +4,8 @@ use Rattle.std.specs.Prelude.{slice_get, slice_set}
 use Rattle.jvm_values.proofs.Options.{some_is}
 
 -- an item after one was replaced is the old one, or it is at the place and the new one
-pub get_set_cases : {X : Type 0} (xs : List X) (i : ℕ) (v : X) (j : ℕ) (y : X) → slice_get (slice_set xs i v) j ≡ Some y → (slice_get xs j ≡ Some y) ⊎ ((j ≡ i) × (y ≡ v))
+pub get_set_cases : {X : Type 0} (xs : List X) (i : ℕ) (v : X) (j : ℕ) (y : X) → slice_get (slice_set xs i v) j ≡ Some y
+    → (slice_get xs j ≡ Some y) ⊎ ((j ≡ i) × (y ≡ v))
 get_set_cases [] i v j y e = inl e
 get_set_cases (x ∷ xs) zero v zero y e = inr (refl, sym (some_is e))
 get_set_cases (x ∷ xs) zero v (suc j) y e = inl e

@@ -1,7 +1,8 @@
 -- What the operators over ints give, and when the conditions between ints hold (JVM specification, section 6.5).
 --
 -- Ints are the numbers of 32 bits with a sign. The machine and the intervals of abstract ints both cite this.
-use Rattle.std.specs.Prelude.{ℕ, ◌/◌, ◌%◌, ◌^◌, ℤ, pos, ◌+ℤ◌, ◌-ℤ◌, ◌*ℤ◌, int_div, int_rem, int_lt, int_le, Bool, not, Option, Some, None, if◌then◌else◌}
+use Rattle.std.specs.Prelude.{ℕ, ◌/◌, ◌%◌, ◌^◌, ℤ, pos, ◌+ℤ◌, ◌-ℤ◌, ◌*ℤ◌, int_div, int_rem, int_lt, int_le, Bool, not, Option, Some}
+use Rattle.std.specs.Prelude.{None, if◌then◌else◌}
 use Rattle.std.specs.Ordering.{int_eq}
 use Rattle.std.specs.Int.{w32, int_wrap, cast_signed, cast_unsigned, int_shr, int_bit_and, int_bit_or, int_bit_xor}
 use Rattle.jvm_values.specs.declared.ints.IntOp.{IntOp}

@@ -14,7 +14,8 @@ kind_code Int = 10
 
 -- the kind that a number stands for
 abbrev pub kind_of_code : ℕ → Option Kind
-kind_of_code code = if code == 4 then Some Boolean else if code == 5 then Some Char else if code == 8 then Some Byte else if code == 9 then Some Short else if code == 10 then Some Int else None
+kind_of_code code = if code == 4 then Some Boolean else if code == 5 then Some Char else if code == 8 then Some Byte else if code ==
+    9 then Some Short else if code == 10 then Some Int else None
 
 -- the kind of a primitive type's letter in a descriptor: `Z`, `C`, `B`, `S` and `I`; the machine has no long, float and double
 abbrev pub kind_of_letter : ℕ → Option Kind

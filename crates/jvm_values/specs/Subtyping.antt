@@ -49,7 +49,8 @@ IsArrayAbove sub classes a b = (item : Ty) × IsReference classes item × IsTrue
 
 -- The laws of a subtype relation `sub` and an erasure `erase` over so many classes, whose instance fields are `fields`
 -- (JVM specification, sections 2.4, 4.10.1.2 and, for arrays, 6.5 aastore and checkcast).
-pub record SubtypeLaws (sub : Ty → Ty → Bool) (erase : Ty → Ty) (classes : ℕ) (fields : ℕ → List Slot) (can_be_made : ℕ → Bool) : Type 0 where
+pub record SubtypeLaws (sub : Ty → Ty → Bool) (erase : Ty → Ty) (classes : ℕ) (fields : ℕ → List Slot) (can_be_made : ℕ
+    → Bool) : Type 0 where
   -- only reference types of the world stand in the relation
   pub of_world : (a b : Ty) → IsTrue (sub a b) → IsReference classes a × IsReference classes b
   pub reflexive : (a : Ty) → IsReference classes a → IsTrue (sub a a)
@@ -66,13 +67,15 @@ pub record SubtypeLaws (sub : Ty → Ty → Bool) (erase : Ty → Ty) (classes :
   pub erase_numbers : (kind : Kind) → IsErased erase (array_of_numbers kind)
   -- an array of references is below exactly Object and the arrays of what its items are below
   pub array_below : (a b : Ty) → IsReference classes a → IsTrue (sub (array_of a) b) → (b ≡ object_type) ⊎ IsArrayAbove sub classes a b
-  pub below_array : (a b : Ty) → IsReference classes (array_of a) → IsReference classes (array_of b) → IsTrue (sub a b) → IsTrue (sub (array_of a) (array_of b))
+  pub below_array : (a b : Ty) → IsReference classes (array_of a) → IsReference classes (array_of b) → IsTrue (sub a b)
+      → IsTrue (sub (array_of a) (array_of b))
   -- an array of numbers is below exactly itself and Object
   pub numbers_below : (kind : Kind) (b : Ty) → IsTrue (sub (array_of_numbers kind) b) → (b ≡ object_type) ⊎ (b ≡ array_of_numbers kind)
   -- a class is below no array
   pub class_below : (class : ℕ) (b : Ty) → IsTrue (sub (class_type class) b) → b.dims ≡ 0
   -- the erased types above one type form a chain
-  pub chain : (t a b : Ty) → IsTrue (sub t a) → IsTrue (sub t b) → IsErased erase a → IsErased erase b → IsTrue (sub a b) ⊎ IsTrue (sub b a)
+  pub chain : (t a b : Ty) → IsTrue (sub t a) → IsTrue (sub t b) → IsErased erase a → IsErased erase b
+      → IsTrue (sub a b) ⊎ IsTrue (sub b a)
   -- a class that can be made stands for itself in assignments
   pub made_is_erased : (class : ℕ) → class < classes → IsTrue (can_be_made class) → IsErased erase (class_type class)
   -- fields hold numbers and reference types of the world

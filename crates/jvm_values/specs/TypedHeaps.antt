@@ -26,7 +26,8 @@ abbrev pub AreLawful : WorldTypes → Type 0
 AreLawful types = SubtypeLaws types.sub types.erase types.classes types.fields types.can_be_made
 
 abbrev pub world_types : (Ty → Ty → Bool) → (Ty → Ty) → ℕ → (ℕ → List Slot) → (ℕ → Bool) → WorldTypes
-world_types sub erase classes fields can_be_made = record { sub = sub; erase = erase; classes = classes; fields = fields; can_be_made = can_be_made }
+world_types sub erase classes fields can_be_made = record
+    { sub = sub; erase = erase; classes = classes; fields = fields; can_be_made = can_be_made }
 
 -- the exact type of an object
 abbrev pub type_of : Object → Ty
@@ -38,7 +39,8 @@ type_of (Refs element items) = array_of element
 abbrev pub HasType : WorldTypes → Heap → Value → Ty → Type 0
 HasType types heap (values.Int n) t = ⊥
 HasType types heap values.Null t = Unit {0}
-HasType types heap (values.Ref r) t = (object : Object) × ((slice_get heap.objects r ≡ Some object) × IsTrue (types.sub (type_of object) t))
+HasType types heap (values.Ref r) t = (object : Object)
+    × ((slice_get heap.objects r ≡ Some object) × IsTrue (types.sub (type_of object) t))
 
 -- a value may stand in a field: a number of the field's kind, or a value of its erased type
 abbrev pub Holds : WorldTypes → Heap → Slot → Value → Type 0
@@ -50,9 +52,11 @@ Holds types heap (slots.Ref t) value = HasType types heap value (types.erase t)
 -- an object of a class that can be made, with a value for each of its fields; or an array of at most 2^31 - 1 items, each of the array's own
 -- kind or type (JVM specification, sections 2.4 and 6.5, `newarray`)
 abbrev pub IsTypedObject : WorldTypes → Heap → Object → Type 0
-IsTypedObject types heap (Instance class fields) = (class < types.classes) × (IsTrue (types.can_be_made class) × AllZip (Holds types heap) (types.fields class) fields)
+IsTypedObject types heap (Instance class fields) = (class < types.classes)
+    × (IsTrue (types.can_be_made class) × AllZip (Holds types heap) (types.fields class) fields)
 IsTypedObject types heap (Nums kind items) = (length items ≤ 2147483647) × All (IsOfKind kind) items
-IsTypedObject types heap (Refs element items) = (length items ≤ 2147483647) × ((element.dims < 255) × (IsReference types.classes element × All (λ value. HasType types heap value element) items))
+IsTypedObject types heap (Refs element items) = (length items ≤ 2147483647)
+    × ((element.dims < 255) × (IsReference types.classes element × All (λ value. HasType types heap value element) items))
 
 -- every object is
 abbrev pub IsTypedHeap : WorldTypes → Heap → Type 0

@@ -1,6 +1,7 @@
 //! The operators over ints and the conditions between them (JVM specification, sections 2.11.3, 2.11.4 and 6.5).
 ghost use Rattle.std.specs.Prelude.{◌≡◌};
-ghost use Rattle.jvm_values.specs.Ints.{int_result, int_quotient, int_remainder, int_shifted_left, int_shifted_right, int_shifted_right_with_zeros, cond_holds};
+ghost use Rattle.jvm_values.specs.Ints.{int_result, int_quotient, int_remainder, int_shifted_left, int_shifted_right};
+ghost use Rattle.jvm_values.specs.Ints.{int_shifted_right_with_zeros, cond_holds};
 
 use crate::types::Kind;
 

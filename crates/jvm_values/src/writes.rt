@@ -1,7 +1,8 @@
 //! Laws about a heap in which one field or item of an object is set to a value. They run nothing.
 //!
 //! The three facts on which writing in abstract heaps rests, over concrete heaps alone; and what writes of numbers keep.
-ghost use Rattle.jvm_values.specs.Writes.{WriteKeeps, PathSplits, WriteGains, WriteMakesNoCycle, NullKeepsShapes, IntWritesKeep, NumberWritesKeep};
+ghost use Rattle.jvm_values.specs.Writes.{WriteKeeps, PathSplits, WriteGains, WriteMakesNoCycle, NullKeepsShapes, IntWritesKeep};
+ghost use Rattle.jvm_values.specs.Writes.{NumberWritesKeep};
 
 /// A value whose region lacks the object keeps its region, the paths in it, its shapes and its term.
 pub fn write_keeps()

@@ -1,5 +1,6 @@
 -- What it means that a list of multipliers has no fault.
-use Rattle.std.proofs.Common.{◌≡◌, ℕ, suc, ◌≤◌, ◌^◌, Bool, true, false, cond, List, [], ◌∷◌, ℤ, pos, ◌≤ℤ◌, Option, Some, None, ap, arith, refl, ◌∙◌}
+use Rattle.std.proofs.Common.{◌≡◌, ℕ, suc, ◌≤◌, ◌^◌, Bool, true, false, cond, List, [], ◌∷◌, ℤ, pos, ◌≤ℤ◌, Option, Some, None, ap}
+use Rattle.std.proofs.Common.{arith, refl, ◌∙◌}
 use Rattle.std.specs.Prelude.{unsigned_abs, slice_get, nat_lt, int_lt}
 use Rattle.std.proofs.lemmas.Bool.Decides.{nat_tests}
 use Rattle.std.proofs.lemmas.Int.{ints}
@@ -25,7 +26,9 @@ allowed_at : (kind : RowKind) (by : ℤ) → may_multiply by kind ≡ true → I
 allowed_at AtLeastZero by e = not_negative by (int_lt by (pos 0)) refl e
 allowed_at IsZero by e = tt
 
-admitted_cases : (n : ℕ) (by : ℤ) (row : Row) (large may : Bool) → nat_lt (2 ^ 31) (unsigned_abs by) ≡ large → may_multiply by row.kind ≡ may → cond large (Some (Limit n)) (cond may None (Some (NegativeMultiplier n))) ≡ None → IsAdmitted by (Some row)
+admitted_cases : (n : ℕ) (by : ℤ) (row : Row) (large may : Bool) → nat_lt (2 ^ 31) (unsigned_abs by) ≡ large
+    → may_multiply by row.kind ≡ may → cond large (Some (Limit n)) (cond may None (Some (NegativeMultiplier n))) ≡ None
+    → IsAdmitted by (Some row)
 admitted_cases n by row true may l m e = absurd (cc)
 admitted_cases n by row false false l m e = absurd (cc)
 admitted_cases n by row false true l m e = record {
@@ -44,7 +47,8 @@ neither None later e = (refl, e)
 neither (Some fault) later e = absurd (cc)
 
 -- the first entry has no fault, nor have the others
-pub admitted_first : (rows : List Row) (n : ℕ) (entry : ℕ × ℤ) (rest : List (ℕ × ℤ)) → first_fault_from rows n (entry ∷ rest) ≡ None → IsAdmitted entry.1 (slice_get rows entry.0) × (first_fault_from rows (suc n) rest ≡ None)
+pub admitted_first : (rows : List Row) (n : ℕ) (entry : ℕ × ℤ) (rest : List (ℕ × ℤ)) → first_fault_from rows n (entry ∷ rest) ≡ None
+    → IsAdmitted entry.1 (slice_get rows entry.0) × (first_fault_from rows (suc n) rest ≡ None)
 admitted_first rows n entry rest e =
     let both = neither (fault_of_entry rows n entry) (first_fault_from rows (suc n) rest) e in
     (admitted_at n entry.1 (slice_get rows entry.0) both.0, both.1)
@@ -70,15 +74,19 @@ may_at : (kind : RowKind) (by : ℤ) → IsAllowedAt kind by → may_multiply by
 may_at AtLeastZero by h = may_cases by (int_lt by (pos 0)) refl h
 may_at IsZero by h = refl
 
-faultless_cases : (n : ℕ) (by : ℤ) (large may : Bool) → nat_lt (2 ^ 31) (unsigned_abs by) ≡ large → unsigned_abs by ≤ 2 ^ 31 → may ≡ true → cond large (Some (Limit n)) (cond may None (Some (NegativeMultiplier n))) ≡ None
+faultless_cases : (n : ℕ) (by : ℤ) (large may : Bool) → nat_lt (2 ^ 31) (unsigned_abs by) ≡ large → unsigned_abs by ≤ 2 ^ 31
+    → may ≡ true → cond large (Some (Limit n)) (cond may None (Some (NegativeMultiplier n))) ≡ None
 faultless_cases n by true may l h m = absurd (grind (arith, nat_tests))
 faultless_cases n by false true l h m = refl
 faultless_cases n by false false l h m = absurd (cc)
 
-faultless_at : (n : ℕ) (by : ℤ) (row : Row) (found : Option Row) → found ≡ Some row → unsigned_abs by ≤ 2 ^ 31 → IsAllowedAt row.kind by → fault_at_row n by found ≡ None
-faultless_at n by row found is h a = rw is (faultless_cases n by (nat_lt (2 ^ 31) (unsigned_abs by)) (may_multiply by row.kind) refl h (may_at row.kind by a))
+faultless_at : (n : ℕ) (by : ℤ) (row : Row) (found : Option Row) → found ≡ Some row → unsigned_abs by ≤ 2 ^ 31
+    → IsAllowedAt row.kind by → fault_at_row n by found ≡ None
+faultless_at n by row found is h a = rw is (faultless_cases n by (nat_lt (2 ^ 31) (unsigned_abs by)) (may_multiply by row.kind) refl
+    h (may_at row.kind by a))
 
-pub faultless : (rows : List Row) (n : ℕ) (entries : List (ℕ × ℤ)) → AllAllowed rows entries → AllSmall entries → first_fault_from rows n entries ≡ None
+pub faultless : (rows : List Row) (n : ℕ) (entries : List (ℕ × ℤ)) → AllAllowed rows entries → AllSmall entries
+    → first_fault_from rows n entries ≡ None
 faultless rows n [] a s = refl
 faultless rows n (entry ∷ rest) a s =
     let first = faultless_at n entry.1 a.0.0 (slice_get rows entry.0) a.0.1 s.0 a.0.2 in

@@ -8,7 +8,8 @@ pub coefficient_both : (x : ℕ) (a b : List (ℕ × ℤ)) → coefficient_of x 
 coefficient_both x [] b = omega (arith, ints)
 coefficient_both x (term ∷ rest) b = let h = coefficient_both x rest b in omega (arith, ints)
 
-pub scaled_if : (here : Bool) (by k rest whole : ℤ) → whole ≡ by *ℤ rest → cond here (by *ℤ k) (pos 0) +ℤ whole ≡ by *ℤ (cond here k (pos 0) +ℤ rest)
+pub scaled_if : (here : Bool) (by k rest whole : ℤ) → whole ≡ by *ℤ rest
+    → cond here (by *ℤ k) (pos 0) +ℤ whole ≡ by *ℤ (cond here k (pos 0) +ℤ rest)
 scaled_if true by k rest whole h = rw h (sym (times_plus by k rest))
 scaled_if false by k rest whole h = let e : pos 0 +ℤ rest ≡ rest = omega (arith, ints) in rw e (omega (arith, ints))
 

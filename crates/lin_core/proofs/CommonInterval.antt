@@ -20,7 +20,8 @@ pub record Meets (x y : Bounds) (r : Option Bounds) : Type 0 where
   pub apart : IsNone r ↔ ((n : ℤ) → ¬ (IsIn n x × IsIn n y))
 
 least_of_both : (x y : Bounds) → int_max x.lo y.lo ≤ℤ int_min x.hi y.hi → IsIn (int_max x.lo y.lo) x × IsIn (int_max x.lo y.lo) y
-least_of_both x y h = ((omega (arith, ints, clamps), omega (arith, ints, clamps)), (omega (arith, ints, clamps), omega (arith, ints, clamps)))
+least_of_both x y h =
+    ((omega (arith, ints, clamps), omega (arith, ints, clamps)), (omega (arith, ints, clamps), omega (arith, ints, clamps)))
 
 none_in_both : (x y : Bounds) → ¬ (int_max x.lo y.lo ≤ℤ int_min x.hi y.hi) → (n : ℤ) → ¬ (IsIn n x × IsIn n y)
 none_in_both x y h n both = h (omega (arith, ints, clamps))

@@ -1,5 +1,6 @@
 -- What `rem_euclid` leaves of a number, read again at 32 bits.
-use Rattle.std.proofs.Common.{◌≡◌, ℕ, suc, ◌-◌, ◌<◌, Bool, true, false, cond, ltb, ℤ, pos, negsuc, ◌+ℤ◌, ◌-ℤ◌, ◌*ℤ◌, ◌≤ℤ◌, ◌<ℤ◌, FitsSigned, to_z, of_z, w32, w64, to_z-of_z, ◌∙◌, ap, sym, refl, lit<, arith}
+use Rattle.std.proofs.Common.{◌≡◌, ℕ, suc, ◌-◌, ◌<◌, Bool, true, false, cond, ltb, ℤ, pos, negsuc, ◌+ℤ◌, ◌-ℤ◌, ◌*ℤ◌, ◌≤ℤ◌, ◌<ℤ◌}
+use Rattle.std.proofs.Common.{FitsSigned, to_z, of_z, w32, w64, to_z-of_z, ◌∙◌, ap, sym, refl, lit<, arith}
 use Rattle.std.proofs.lemmas.Int.{ints}
 use Rattle.std.specs.Int.{int_div_euclid, int_rem_euclid, int_wrap}
 use Rattle.std.specs.Prelude.{unsigned_abs}
@@ -34,10 +35,12 @@ is_remainder n r f e =
 pub congruent_low : (n r : ℤ) → IsRemainder n r → r <ℤ pos 2147483648 → IsCongruent n (to_z w32 (of_z w32 (to_z w64 (of_z w64 r))))
 congruent_low n r h low = (int_div_euclid n (pos 4294967296), omega (arith, ints))
 
-pub congruent_high : (n r : ℤ) → IsRemainder n r → pos 2147483648 ≤ℤ r → IsCongruent n (to_z w32 (of_z w32 (to_z w64 (of_z w64 (to_z w64 (of_z w64 r) -ℤ pos 4294967296)))))
+pub congruent_high : (n r : ℤ) → IsRemainder n r → pos 2147483648 ≤ℤ r
+    → IsCongruent n (to_z w32 (of_z w32 (to_z w64 (of_z w64 (to_z w64 (of_z w64 r) -ℤ pos 4294967296)))))
 congruent_high n r h high = (int_div_euclid n (pos 4294967296) +ℤ pos 1, omega (arith, ints))
 
-wrapped_bits : (r : ℤ) (t : Bool) → pos 0 ≤ℤ r → r <ℤ pos 4294967296 → ltb (unsigned_abs r) 2147483648 ≡ t → cond t (pos (unsigned_abs r)) (negsuc (4294967296 - suc (unsigned_abs r))) ≡ cond t r (r -ℤ pos 4294967296)
+wrapped_bits : (r : ℤ) (t : Bool) → pos 0 ≤ℤ r → r <ℤ pos 4294967296 → ltb (unsigned_abs r) 2147483648 ≡ t
+    → cond t (pos (unsigned_abs r)) (negsuc (4294967296 - suc (unsigned_abs r))) ≡ cond t r (r -ℤ pos 4294967296)
 wrapped_bits (pos r) true low high e = refl
 wrapped_bits (pos r) false low high e = omega (arith, ints)
 wrapped_bits (negsuc r) t low high e = absurd (omega (arith, ints))
@@ -51,7 +54,8 @@ low_case true r low high e = refl
 low_case false (pos r) low high e = absurd (omega (arith, ints, ltb-false))
 low_case false (negsuc r) low high e = absurd (omega (arith, ints))
 
-high_case : (t : Bool) (r : ℤ) → pos 2147483648 ≤ℤ r → ltb (unsigned_abs r) 2147483648 ≡ t → cond t r (r -ℤ pos 4294967296) ≡ r -ℤ pos 4294967296
+high_case : (t : Bool) (r : ℤ) → pos 2147483648 ≤ℤ r → ltb (unsigned_abs r) 2147483648 ≡ t
+    → cond t r (r -ℤ pos 4294967296) ≡ r -ℤ pos 4294967296
 high_case true (pos r) low e = absurd (omega (arith, ints, ltb-true))
 high_case true (negsuc r) low e = absurd (omega (arith, ints))
 high_case false r low e = refl
@@ -61,7 +65,9 @@ wrap_low n r h low =
     let back : to_z w32 (of_z w32 (to_z w64 (of_z w64 r))) ≡ r = omega (arith, ints) in
     back ∙ sym (wrap_is n r h ∙ low_case (ltb (unsigned_abs r) 2147483648) r h.low low refl)
 
-pub wrap_high : (n r : ℤ) → IsRemainder n r → pos 2147483648 ≤ℤ r → to_z w32 (of_z w32 (to_z w64 (of_z w64 (to_z w64 (of_z w64 r) -ℤ pos 4294967296)))) ≡ int_wrap w32 n
+pub wrap_high : (n r : ℤ) → IsRemainder n r → pos 2147483648 ≤ℤ r
+    → to_z w32 (of_z w32 (to_z w64 (of_z w64 (to_z w64 (of_z w64 r) -ℤ pos 4294967296)))) ≡ int_wrap w32 n
 wrap_high n r h high =
-    let back : to_z w32 (of_z w32 (to_z w64 (of_z w64 (to_z w64 (of_z w64 r) -ℤ pos 4294967296)))) ≡ r -ℤ pos 4294967296 = omega (arith, ints) in
+    let back : to_z w32 (of_z w32 (to_z w64 (of_z w64 (to_z w64 (of_z w64 r) -ℤ pos 4294967296)))) ≡ r -ℤ pos 4294967296 = omega
+    (arith, ints) in
     back ∙ sym (wrap_is n r h ∙ high_case (ltb (unsigned_abs r) 2147483648) r high refl)

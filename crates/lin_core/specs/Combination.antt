@@ -1,6 +1,7 @@
 -- The sum of rows by multipliers, its faults, and what it shows (the certificates of Farkas' lemma: A. Schrijver, Theory
 -- of Linear and Integer Programming, 1986, section 7.3). A list of multipliers names a row by its index in each entry.
-use Rattle.std.specs.Prelude.{ℕ, suc, ℤ, pos, ◌≡◌, ◌^◌, ◌+ℤ◌, ◌*ℤ◌, ◌≤ℤ◌, Bool, true, false, List, [], ◌∷◌, Option, Some, None, if◌then◌else◌, slice_get, nat_lt, int_lt, unsigned_abs}
+use Rattle.std.specs.Prelude.{ℕ, suc, ℤ, pos, ◌≡◌, ◌^◌, ◌+ℤ◌, ◌*ℤ◌, ◌≤ℤ◌, Bool, true, false, List, [], ◌∷◌, Option, Some, None}
+use Rattle.std.specs.Prelude.{if◌then◌else◌, slice_get, nat_lt, int_lt, unsigned_abs}
 use Rattle.lin_core.specs.declared.faults.LinFault.{LinFault}
 use Rattle.lin_core.specs.declared.faults.LinFault.TheVariants.{BadIndex, NegativeMultiplier, Limit}
 use Rattle.lin_core.specs.declared.rows.RowKind.{RowKind}

@@ -76,7 +76,8 @@ pub fn combine(
     ensures within { IsWithin (2 ^ 110) into.new }
     ensures refused { OnErr result (into.new ≡ zero_sum (variables into.old)) }
     ensures over { variables into.new ≡ variables into.old }
-    ensures sound { OnOk result ((numbers : ℕ → ℤ) → AllHold numbers (rows_under (weight_in weights.now) rows.now) → pos 0 ≤ℤ value_of_sum numbers into.new) }
+    ensures sound { OnOk result ((numbers : ℕ → ℤ) → AllHold numbers (rows_under (weight_in weights.now) rows.now)
+        → pos 0 ≤ℤ value_of_sum numbers into.new) }
 {
     into.clear();
     if let Some(fault) = first_fault(rows, multipliers) {

@@ -12,7 +12,8 @@ use crate::sums::{Scratch, count_of, widened};
 pub fn shows(sum: &Scratch, target: &Target) -> bool
     requires { Rise (variables sum.now) target.now.terms }
     ensures shown { IsTrue result ↔ Shows sum.now target.now }
-    ensures sound { IsTrue result → (numbers : ℕ → ℤ) → pos 0 ≤ℤ value_of_sum numbers sum.now → pos 0 ≤ℤ value_of_target numbers target.now }
+    ensures sound { IsTrue result → (numbers : ℕ → ℤ) → pos 0 ≤ℤ value_of_sum numbers sum.now
+        → pos 0 ≤ℤ value_of_target numbers target.now }
 {
     let mut found = 0;
     for (variable, coefficient) in target.terms.as_slice() {

@@ -1,5 +1,6 @@
 //! Sums of rows, in 128 bits.
-ghost use Rattle.std.specs.Prelude.{◌≡◌, ◌+◌, ◌<◌, ◌≤◌, ◌^◌, ◌≤ℤ◌, ◌+ℤ◌, ◌*ℤ◌, ℤ, IfOk, IsTrue, ◌↔◌, slice_set, unsigned_abs, FitsSigned, if◌then◌else◌, vec_len, count_by};
+ghost use Rattle.std.specs.Prelude.{◌≡◌, ◌+◌, ◌<◌, ◌≤◌, ◌^◌, ◌≤ℤ◌, ◌+ℤ◌, ◌*ℤ◌, ℤ, IfOk, IsTrue, ◌↔◌, slice_set, unsigned_abs};
+ghost use Rattle.std.specs.Prelude.{FitsSigned, if◌then◌else◌, vec_len, count_by};
 ghost use Rattle.std.specs.Int.{w128};
 ghost use Rattle.lin_core.specs.Rows.{Rise};
 ghost use Rattle.lin_core.specs.Rounds.{AllBelow, AllUpTo, is_nonzero};
@@ -162,7 +163,8 @@ impl Scratch {
     fn add_to(&mut self, variable: u32, amount: &i128)
         requires in_range { variable < variables self.old }
         requires fits { FitsSigned w128 (coefficient_in self.old variable +ℤ amount.now) }
-        ensures { self.new ≡ record self.old { coefficients = slice_set self.old.coefficients variable (coefficient_in self.old variable +ℤ amount.now) } }
+        ensures { self.new ≡ record self.old
+            { coefficients = slice_set self.old.coefficients variable (coefficient_in self.old variable +ℤ amount.now) } }
     {
         let before = self.coefficient(variable);
         let after = added(&before, amount);

@@ -1,5 +1,6 @@
 -- Laws of lists by place: what stands where in a list that was joined, cut or written to.
-use Rattle.std.proofs.Common.{[], List, ap, map, length, refl, suc, ◌≡◌, ◌∷◌, Some, ◌++◌, ℕ, zero, ◌+◌, arith, ◌<◌, zero-add, ◌∙◌, None, ◌≤◌, take, drop, sym, reverse}
+use Rattle.std.proofs.Common.{[], List, ap, map, length, refl, suc, ◌≡◌, ◌∷◌, Some, ◌++◌, ℕ, zero, ◌+◌, arith, ◌<◌, zero-add, ◌∙◌}
+use Rattle.std.proofs.Common.{None, ◌≤◌, take, drop, sym, reverse}
 use Rattle.std.proofs.lemmas.List.{map_push, reverse-append}
 use Rattle.std.proofs.lemmas.Option.{none-some}
 use Rattle.std.specs.Prelude.{slice_get, slice_set}
@@ -80,7 +81,8 @@ get_set (z ∷ xs) (suc n) x y at = get_set xs n x y at
 
 pub map_reversed : {A B : Type 0} (f : A → B) (xs : List A) → map f (reverse xs) ≡ reverse (map f xs)
 map_reversed f [] = refl
-map_reversed f (x ∷ xs) = ap (map f) (reverse-append (x ∷ []) xs) ∙ map_push f (reverse xs) x ∙ ap (λ (l : List _). l ++ f x ∷ []) (map_reversed f xs) ∙ sym (reverse-append (f x ∷ []) (map f xs))
+map_reversed f (x ∷ xs) = ap (map f) (reverse-append (x ∷ []) xs) ∙ map_push f (reverse xs) x
+    ∙ ap (λ (l : List _). l ++ f x ∷ []) (map_reversed f xs) ∙ sym (reverse-append (f x ∷ []) (map f xs))
 
 pub any_default : {X : Type 0} (xs : List X) (k : ℕ) (d e : X) → k < length xs → slice_index_or xs k d ≡ slice_index_or xs k e
 any_default [] k d e l = absurd (omega (arith, l))

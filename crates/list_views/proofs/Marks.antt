@@ -1,5 +1,6 @@
 -- Laws of lists of marks and of numbers, read with a default past their end.
-use Rattle.std.proofs.Common.{replicate, get_or, zero, ℕ, suc, false, refl, ◌≡◌, sym, true, arith, inl, inr, ◌≢◌, ◌∙◌, length, set, List, Bool, subst, ◌<◌, pos}
+use Rattle.std.proofs.Common.{replicate, get_or, zero, ℕ, suc, false, refl, ◌≡◌, sym, true, arith, inl, inr, ◌≢◌, ◌∙◌, length, set}
+use Rattle.std.proofs.Common.{List, Bool, subst, ◌<◌, pos}
 use Rattle.std.proofs.Math.ListN.{length-replicate}
 use Rattle.std.proofs.lemmas.Bool.{cases_lt, false≢true, cases_eq}
 use Rattle.std.proofs.lemmas.List.{get_or-replicate, get_or_past, get_or-set_other, get_or-set_same}

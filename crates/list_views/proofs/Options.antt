@@ -24,7 +24,8 @@ pub both_none : {A : Type 0} (x y : Option A) → option_or x y ≡ None → (x 
 both_none None y e = (refl, e)
 both_none (Some a) y e = cc
 
-pub same_answer : {A B : Type 0} (f g : A → Option B) (x : Option A) → ((c : A) → x ≡ Some c → f c ≡ g c) → option_and_then f x ≡ option_and_then g x
+pub same_answer : {A B : Type 0} (f g : A → Option B) (x : Option A) → ((c : A) → x ≡ Some c → f c ≡ g c)
+    → option_and_then f x ≡ option_and_then g x
 same_answer f g None h = refl
 same_answer f g (Some c) h = h c refl
 
@@ -39,7 +40,8 @@ cond_either false x y z e = inr (refl, e)
 pub one_answer : {A : Type 0} (o : Option A) (x y : A) → o ≡ Some x → o ≡ Some y → x ≡ y
 one_answer o x y e f = let k : Some x ≡ Some y = sym e ∙ f in cc
 
-pub then_some : {A B : Type 0} (f : A → Option B) (x : Option A) (c : B) → option_and_then f x ≡ Some c → (y : A) × ((x ≡ Some y) × (f y ≡ Some c))
+pub then_some : {A B : Type 0} (f : A → Option B) (x : Option A) (c : B) → option_and_then f x ≡ Some c
+    → (y : A) × ((x ≡ Some y) × (f y ≡ Some c))
 then_some f None c e = absurd (cc)
 then_some f (Some y) c e = (y, (refl, e))
 

@@ -1,5 +1,6 @@
 -- Laws of what holds of all items of a list.
-use Rattle.std.proofs.Common.{[], ℕ, List, Some, subst, ◌≡◌, ◌+◌, ◌∷◌, ◌++◌, suc, refl, Option, None, length, get_or, take, ◌<◌, ◌≤◌, true, zero, Bool}
+use Rattle.std.proofs.Common.{[], ℕ, List, Some, subst, ◌≡◌, ◌+◌, ◌∷◌, ◌++◌, suc, refl, Option, None, length, get_or, take, ◌<◌}
+use Rattle.std.proofs.Common.{◌≤◌, true, zero, Bool}
 use Rattle.std.proofs.lemmas.Bool.{and_parts}
 use Rattle.std.proofs.lemmas.List.{take_all}
 use Rattle.std.proofs.lemmas.List.Elements.{All-tail, All-cons, All-head, All-nil, All-more}
@@ -34,7 +35,8 @@ pub all_mapped : {A B : Type 0} (P : B → Type 0) (f : A → B) (xs : List A) �
 all_mapped P f [] h = tt
 all_mapped P f (x ∷ xs) h = (h.0, all_mapped P f xs h.1)
 
-pub all_filtered : {A B : Type 0} (P : B → Type 0) (f : A → Option B) (xs : List A) → ((x : A) (y : B) → f x ≡ Some y → P y) → AllByRecursion P (filter_map f xs)
+pub all_filtered : {A B : Type 0} (P : B → Type 0) (f : A → Option B) (xs : List A) → ((x : A) (y : B) → f x ≡ Some y → P y)
+    → AllByRecursion P (filter_map f xs)
 all_filtered P f [] h = tt
 all_filtered {A} {B} P f (x ∷ xs) h = go (f x) refl (all_filtered P f xs h)
   where
@@ -42,7 +44,8 @@ all_filtered {A} {B} P f (x ∷ xs) h = go (f x) refl (all_filtered P f xs h)
     go None e rest = rest
     go (Some y) e rest = (h x y e, rest)
 
-pub all_flat : {A B : Type 0} (P : B → Type 0) (f : A → List B) (xs : List A) → ((x : A) → AllByRecursion P (f x)) → AllByRecursion P (flat_map f xs)
+pub all_flat : {A B : Type 0} (P : B → Type 0) (f : A → List B) (xs : List A) → ((x : A) → AllByRecursion P (f x))
+    → AllByRecursion P (flat_map f xs)
 all_flat P f [] h = tt
 all_flat P f (x ∷ xs) h = all_joined P (f x) (flat_map f xs) (h x) (all_flat P f xs h)
 
@@ -54,7 +57,8 @@ pub every_front : {A : Type 0} (P : A → Type 0) (xs ys : List A) → All P (xs
 every_front P [] ys h = All-nil P
 every_front P (x ∷ xs) ys h = All-cons P x xs (All-head P x (xs ++ ys) h) (every_front P xs ys (All-tail P x (xs ++ ys) h))
 
-pub every_one_more : {X : Type 0} (P : X → Type 0) (xs : List X) (i : ℕ) (x : X) → i < length xs → x ≡ get_or xs i x → All P (take i xs) → P x → All P (take (i + 1) xs)
+pub every_one_more : {X : Type 0} (P : X → Type 0) (xs : List X) (i : ℕ) (x : X) → i < length xs → x ≡ get_or xs i x
+    → All P (take i xs) → P x → All P (take (i + 1) xs)
 every_one_more P xs i x l e h p = All-more P xs i x l h (subst P e p)
 
 pub every_whole : {X : Type 0} (P : X → Type 0) (xs : List X) (i : ℕ) → length xs ≤ i → All P (take i xs) → All P xs

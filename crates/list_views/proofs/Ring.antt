@@ -16,7 +16,8 @@ times_plus a b c =
     let s = sum_is_lem b c in
     let over = scaled (up a) (up (b +ℤ c)) (down b) (down c) (down (b +ℤ c)) (up b) (up c) s in
     let under = scaled (down a) (up (b +ℤ c)) (down b) (down c) (down (b +ℤ c)) (up b) (up c) s in
-    same_in (a *ℤ (b +ℤ c)) (a *ℤ b +ℤ a *ℤ c) (omega (arith, over, under, product_is a (b +ℤ c), product_is a b, product_is a c, sum_is_lem (a *ℤ b) (a *ℤ c)))
+    same_in (a *ℤ (b +ℤ c)) (a *ℤ b +ℤ a *ℤ c)
+    (omega (arith, over, under, product_is a (b +ℤ c), product_is a b, product_is a c, sum_is_lem (a *ℤ b) (a *ℤ c)))
 
 -- (a + b) c = a c + b c
 pub plus_times : (a b c : ℤ) → (a +ℤ b) *ℤ c ≡ a *ℤ c +ℤ b *ℤ c
@@ -27,7 +28,18 @@ plus_times a b c =
 pub neg_times : (a b : ℤ) → neg_ℤ a *ℤ b ≡ neg_ℤ (a *ℤ b)
 neg_times a b =
     let n = neg_is a in
-    same_in (neg_ℤ a *ℤ b) (neg_ℤ (a *ℤ b)) (omega (arith, product_is (neg_ℤ a) b, neg_is (a *ℤ b), product_is a b, ap (λ x. x * up b) n.0, ap (λ x. x * down b) n.0, ap (λ x. x * up b) n.1, ap (λ x. x * down b) n.1))
+    same_in (neg_ℤ a *ℤ b) (neg_ℤ (a *ℤ b))
+    (omega (
+      arith,
+      product_is (neg_ℤ a) b,
+      neg_is (a *ℤ b),
+      product_is a b,
+      ap (λ x. x * up b) n.0,
+      ap (λ x. x * down b) n.0,
+      ap
+          (λ x. x * up b) n.1,
+      ap (λ x. x * down b) n.1,
+    ))
 
 -- a (- b) = - (a b)
 pub times_neg : (a b : ℤ) → a *ℤ neg_ℤ b ≡ neg_ℤ (a *ℤ b)

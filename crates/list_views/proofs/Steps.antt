@@ -1,5 +1,6 @@
 -- Laws of steps that may have a fault, and of what a call answers to them.
-use Rattle.std.proofs.Common.{◌≡◌, ℕ, ◌+◌, ◌<◌, ◌≤◌, Bool, true, false, cond, Option, Some, List, [], ◌∷◌, ◌++◌, length, get_or, take, drop, Result, Ok, Err, refl, sym, ap, ◌∙◌, add-one, take-append-drop, take_all, drop-cons}
+use Rattle.std.proofs.Common.{◌≡◌, ℕ, ◌+◌, ◌<◌, ◌≤◌, Bool, true, false, cond, Option, Some, List, [], ◌∷◌, ◌++◌, length, get_or}
+use Rattle.std.proofs.Common.{take, drop, Result, Ok, Err, refl, sym, ap, ◌∙◌, add-one, take-append-drop, take_all, drop-cons}
 use Rattle.std.specs.Prelude.{MatchBool}
 use Rattle.std.proofs.lemmas.List.{take_more}
 use Rattle.list_views.specs.Results.{◌>>=◌, each, IsDue, IsFault}
@@ -55,7 +56,8 @@ each_append {B = B} {E = E} step [] zs = sym (by (each step zs))
     by (Ok ys) = refl
     by (Err fault) = refl
 each_append {B = B} {E = E} step (x ∷ xs) zs =
-    each_one step x (xs ++ zs) ∙ ap (one (step x)) (each_append step xs zs) ∙ by (step x) (each step xs) (each step zs) ∙ ap (λ s. both s (each step zs)) (sym (each_one step x xs))
+    each_one step x (xs ++ zs) ∙ ap (one (step x)) (each_append step xs zs) ∙ by (step x) (each step xs) (each step zs)
+    ∙ ap (λ s. both s (each step zs)) (sym (each_one step x xs))
   where
     by : (s : Result B E) (t u : Result (List B) E) → one s (both t u) ≡ both (one s t) u
     by (Ok y) (Ok ys) (Ok us) = refl
@@ -64,23 +66,31 @@ each_append {B = B} {E = E} step (x ∷ xs) zs =
     by (Err fault) t u = refl
 
 -- one more item
-pub each_more : {A B E : Type 0} (step : A → Result B E) (xs : List A) (x : A) (ys : List B) (y : B) → each step xs ≡ Ok ys → step x ≡ Ok y → each step (xs ++ x ∷ []) ≡ Ok (ys ++ y ∷ [])
-each_more step xs x ys y e f = each_append step xs (x ∷ []) ∙ ap (λ s. both s (each step (x ∷ []))) e ∙ ap (both (Ok ys)) (each_one step x [] ∙ ap (λ s. one s (Ok [])) f)
+pub each_more : {A B E : Type 0} (step : A → Result B E) (xs : List A) (x : A) (ys : List B) (y : B) → each step xs ≡ Ok ys
+    → step x ≡ Ok y → each step (xs ++ x ∷ []) ≡ Ok (ys ++ y ∷ [])
+each_more step xs x ys y e f = each_append step xs (x ∷ []) ∙ ap (λ s. both s (each step (x ∷ []))) e
+    ∙ ap (both (Ok ys)) (each_one step x [] ∙ ap (λ s. one s (Ok [])) f)
 
 -- the first fault
-pub each_broken : {A B E : Type 0} (step : A → Result B E) (xs rest : List A) (x : A) (ys : List B) (fault : E) → each step xs ≡ Ok ys → step x ≡ Err fault → each step (xs ++ x ∷ rest) ≡ Err fault
-each_broken step xs rest x ys fault e f = each_append step xs (x ∷ rest) ∙ ap (λ s. both s (each step (x ∷ rest))) e ∙ ap (both (Ok ys)) (each_one step x rest ∙ ap (λ s. one s (each step rest)) f)
+pub each_broken : {A B E : Type 0} (step : A → Result B E) (xs rest : List A) (x : A) (ys : List B) (fault : E)
+    → each step xs ≡ Ok ys → step x ≡ Err fault → each step (xs ++ x ∷ rest) ≡ Err fault
+each_broken step xs rest x ys fault e f = each_append step xs (x ∷ rest) ∙ ap (λ s. both s (each step (x ∷ rest))) e
+    ∙ ap (both (Ok ys)) (each_one step x rest ∙ ap (λ s. one s (each step rest)) f)
 
 -- a list at one of its items
 pub at_item : {A : Type 0} (xs : List A) (i : ℕ) (d : A) → i < length xs → xs ≡ take i xs ++ get_or xs i d ∷ drop (i + 1) xs
-at_item xs i d l = sym (take-append-drop i xs) ∙ ap (λ ys. take i xs ++ ys) (drop-cons xs i d l ∙ ap (λ j. get_or xs i d ∷ drop j xs) (sym (add-one i)))
+at_item xs i d l = sym (take-append-drop i xs)
+    ∙ ap (λ ys. take i xs ++ ys) (drop-cons xs i d l ∙ ap (λ j. get_or xs i d ∷ drop j xs) (sym (add-one i)))
 
 -- one more item: the turn of a loop
-pub each_so_far : {A B E : Type 0} (step : A → Result B E) (xs : List A) (i : ℕ) (d : A) (ys more : List B) (y : B) → i < length xs → each step (take i xs) ≡ Ok ys → step (get_or xs i d) ≡ Ok y → more ≡ ys ++ y ∷ [] → each step (take (i + 1) xs) ≡ Ok more
-each_so_far step xs i d ys more y l h s m = ap (each step) (take_more xs i d l) ∙ each_more step (take i xs) (get_or xs i d) ys y h s ∙ ap Ok (sym m)
+pub each_so_far : {A B E : Type 0} (step : A → Result B E) (xs : List A) (i : ℕ) (d : A) (ys more : List B) (y : B) → i < length xs
+    → each step (take i xs) ≡ Ok ys → step (get_or xs i d) ≡ Ok y → more ≡ ys ++ y ∷ [] → each step (take (i + 1) xs) ≡ Ok more
+each_so_far step xs i d ys more y l h s m = ap (each step) (take_more xs i d l) ∙ each_more step (take i xs) (get_or xs i d) ys y h
+    s ∙ ap Ok (sym m)
 
 -- all items: a loop's end
-pub each_all : {A B E : Type 0} (step : A → Result B E) (xs : List A) (i : ℕ) (ys : List B) → length xs ≤ i → each step (take i xs) ≡ Ok ys → each step xs ≡ Ok ys
+pub each_all : {A B E : Type 0} (step : A → Result B E) (xs : List A) (i : ℕ) (ys : List B) → length xs ≤ i
+    → each step (take i xs) ≡ Ok ys → each step xs ≡ Ok ys
 each_all step xs i ys l h = ap (each step) (sym (take_all i xs l)) ∙ h
 
 -- ---- answers
@@ -91,11 +101,13 @@ told_on true more h = tt
 told_on false more h = more h
 
 -- a fault that is due for one thing is due for another, where each fault of the first is one of the second
-pub handed_on : {X Y E : Type 0} (is_memory : E → Bool) (fault : E) (due : Result X E) (other : Result Y E) → (due ≡ Err fault → other ≡ Err fault) → IsDue is_memory fault due → IsDue is_memory fault other
+pub handed_on : {X Y E : Type 0} (is_memory : E → Bool) (fault : E) (due : Result X E) (other : Result Y E)
+    → (due ≡ Err fault → other ≡ Err fault) → IsDue is_memory fault due → IsDue is_memory fault other
 handed_on is_memory fault due other same h = told_on (is_memory fault) same h
 
 -- a fault that one test finds is one that another finds
-pub found_by : {E : Type 0} (is_memory : E → Bool) (fault : E) (one other : Option E) → (one ≡ Some fault → other ≡ Some fault) → IsFault is_memory fault one → IsFault is_memory fault other
+pub found_by : {E : Type 0} (is_memory : E → Bool) (fault : E) (one other : Option E) → (one ≡ Some fault → other ≡ Some fault)
+    → IsFault is_memory fault one → IsFault is_memory fault other
 found_by is_memory fault one other same h = told_on (is_memory fault) same h
 
 -- a fault that is due

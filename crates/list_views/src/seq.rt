@@ -1,5 +1,6 @@
 //! A vector that contracts see as the list of its items.
-ghost use Rattle.std.specs.Prelude.{◌≡◌, ◌+◌, ◌-◌, ◌<◌, ◌≤◌, ◌==◌, List, [], ◌∷◌, ◌++◌, length, take, IfOk, IfErr, MatchOption, is_ok, if◌then◌else◌, slice_index_or, slice_set};
+ghost use Rattle.std.specs.Prelude.{◌≡◌, ◌+◌, ◌-◌, ◌<◌, ◌≤◌, ◌==◌, List, [], ◌∷◌, ◌++◌, length, take, IfOk, IfErr, MatchOption};
+ghost use Rattle.std.specs.Prelude.{is_ok, if◌then◌else◌, slice_index_or, slice_set};
 ghost use Rattle.std.specs.Borrow.{Lends, sem};
 ghost use Rattle.std.specs.Cmp.Lexicographic.{pointwise, lists_per};
 ghost use Rattle.list_views.specs.contracts.seq.Seq.{the_row};
@@ -89,7 +90,8 @@ impl<T> Seq<T> {
 
     /// The item at `index`, or None past the end.
     pub fn get(&self, index: usize) -> Option<&T>
-        ensures { MatchOption result (length self.now ≤ index) (λ x. (index < length self.now) × (x.now ≡ slice_index_or self.now index x.now)) }
+        ensures { MatchOption result (length self.now ≤ index) (λ x. (index < length self.now)
+            × (x.now ≡ slice_index_or self.now index x.now)) }
     {
         if index < self.items.len() {
             Some(&self.items[index])

@@ -1,5 +1,6 @@
 //! A stack that contracts see as the list of its items from the top down, beside the room that it holds.
-ghost use Rattle.std.specs.Prelude.{◌≡◌, ◌-◌, ◌<◌, ◌≤◌, ◌==◌, List, ℕ, [], ◌∷◌, length, drop, reverse, IfOk, IfErr, OnErr, MatchOption, MatchResult, slice_index_or, slice_set};
+ghost use Rattle.std.specs.Prelude.{◌≡◌, ◌-◌, ◌<◌, ◌≤◌, ◌==◌, List, ℕ, [], ◌∷◌, length, drop, reverse, IfOk, IfErr, OnErr};
+ghost use Rattle.std.specs.Prelude.{MatchOption, MatchResult, slice_index_or, slice_set};
 ghost use Rattle.std.specs.Borrow.{Lends, sem};
 ghost use Rattle.list_views.specs.contracts.stack.Stack.{the_row};
 

@@ -1,8 +1,10 @@
 -- What changes where the numbers of a list are come to.
-use Rattle.std.proofs.Common.{◌≡◌, ◌⊎◌, inl, inr, ℕ, ◌+◌, ◌<◌, Bool, true, false, cond, List, [], ◌∷◌, ◌++◌, length, get_or, set, subst, arith, refl, ◌∙◌, sym, length-append}
+use Rattle.std.proofs.Common.{◌≡◌, ◌⊎◌, inl, inr, ℕ, ◌+◌, ◌<◌, Bool, true, false, cond, List, [], ◌∷◌, ◌++◌, length, get_or, set}
+use Rattle.std.proofs.Common.{subst, arith, refl, ◌∙◌, sym, length-append}
 use Rattle.std.specs.Prelude.{not, nat_lt}
 use Rattle.std.proofs.Math.ListN.{length-set}
-use Rattle.std.proofs.lemmas.Bool.{false≢true, true≢false, cases_eq, and_parts, and_cases, cases_lt, ltb-true, ltb-false, not-false, not-true}
+use Rattle.std.proofs.lemmas.Bool.{false≢true, true≢false, cases_eq, and_parts, and_cases, cases_lt, ltb-true, ltb-false, not-false}
+use Rattle.std.proofs.lemmas.Bool.{not-true}
 use Rattle.std.proofs.lemmas.List.{get_or-set_same, get_or-set_other, get_or_past}
 use Rattle.std.proofs.lemmas.List.Sums.{sum_by-set}
 use Rattle.list_views.proofs.Orders.{nat_lt_true}
@@ -64,7 +66,8 @@ closed_by b f e l = elim (and_cases (nat_lt b (length f.marks)) (not (get_or f.m
   | inr n ↦ not-false (get_or f.marks b false) n
 ]
 
-come_by : (b : ℕ) (f : Front) (t : Bool) → is_open f.marks b ≡ t → Grows (b ∷ []) f (cond t (record { marks = set f.marks b true; todo = f.todo ++ b ∷ [] }) f)
+come_by : (b : ℕ) (f : Front) (t : Bool) → is_open f.marks b ≡ t
+    → Grows (b ∷ []) f (cond t (record { marks = set f.marks b true; todo = f.todo ++ b ∷ [] }) f)
 come_by b f false e = record {
   count = refl;
   keeps = λ x m. m;

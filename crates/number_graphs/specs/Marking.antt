@@ -1,5 +1,6 @@
 -- How what a number leads to is marked.
-use Rattle.std.specs.Prelude.{◌≡◌, ℕ, ◌<◌, ◌&&◌, not, nat_lt, Bool, true, false, List, [], ◌∷◌, ◌++◌, length, if◌then◌else◌, slice_index_or, slice_set, sum_by}
+use Rattle.std.specs.Prelude.{◌≡◌, ℕ, ◌<◌, ◌&&◌, not, nat_lt, Bool, true, false, List, [], ◌∷◌, ◌++◌, length, if◌then◌else◌}
+use Rattle.std.specs.Prelude.{slice_index_or, slice_set, sum_by}
 use Rattle.number_graphs.specs.Graphs.{Leads}
 use Rattle.number_graphs.specs.Lists.{Edge}
 

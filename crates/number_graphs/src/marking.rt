@@ -8,7 +8,8 @@ use std::alloc::{AllocError, Global};
 
 /// Marks a number that is come to, and notes it as one to go on from.
 fn come_to(number: u32, marks: &mut Vec<bool>, todo: &mut Seq<u32>) -> Result<(), AllocError>
-    ensures { OnOk result (record { marks = marks.new.items; todo = todo.new } ≡ come number (record { marks = marks.old.items; todo = todo.old })) }
+    ensures { OnOk result
+        (record { marks = marks.new.items; todo = todo.new } ≡ come number (record { marks = marks.old.items; todo = todo.old })) }
 {
     let place = number as usize;
     if place < marks.len() && !marks[place] {
@@ -20,7 +21,8 @@ fn come_to(number: u32, marks: &mut Vec<bool>, todo: &mut Seq<u32>) -> Result<()
 
 /// Marks the numbers of a list.
 fn go_on_from(row: &[u32], marks: &mut Vec<bool>, todo: &mut Seq<u32>) -> Result<(), AllocError>
-    ensures { OnOk result (record { marks = marks.new.items; todo = todo.new } ≡ visit row.now (record { marks = marks.old.items; todo = todo.old })) }
+    ensures { OnOk result
+        (record { marks = marks.new.items; todo = todo.new } ≡ visit row.now (record { marks = marks.old.items; todo = todo.old })) }
 {
     for number in row {
         come_to(*number, marks, todo)?;

@@ -7,7 +7,9 @@ use Rattle.code_forms.specs.declared.insn.Insn.TheVariants as insns
 use Rattle.jvm_values.specs.declared.types.Kind.{Kind}
 use Rattle.jvm_values.specs.Kinds.{kind_of_code}
 use Rattle.class_program.specs.declared.op.Op.{Op}
-use Rattle.class_program.specs.declared.op.Op.TheVariants.{Plain, Constant, Getstatic, Putstatic, Getfield, Putfield, Invokevirtual, Invokespecial, Invokestatic, Invokeinterface, New, Anewarray, Checkcast, Instanceof}
+use Rattle.class_program.specs.declared.op.Op.TheVariants.{Plain, Constant, Getstatic, Putstatic, Getfield, Putfield, Invokevirtual}
+use Rattle.class_program.specs.declared.op.Op.TheVariants.{Invokespecial, Invokestatic, Invokeinterface, New, Anewarray, Checkcast}
+use Rattle.class_program.specs.declared.op.Op.TheVariants.{Instanceof}
 use Rattle.class_program.specs.declared.program.Method.{Method}
 use Rattle.class_program.specs.Operands.{operand_of}
 use Rattle.class_program.specs.Programs.{Program}
@@ -57,11 +59,13 @@ op_formed p current (Instanceof t) h = refl
 pub good_formed : (p : Program) (m : Method) (op : Op) → IsGoodOp p m op → is_some (form_of op) ≡ true
 good_formed p m op h = op_formed p m.class op h.named
 
-insns_formed : (p : Program) (m : Method) (xs : List (ℕ × Op)) → AllByRecursion (λ x. IsGoodOp p m x.1) xs → AllByRecursion (λ x. is_some (form_of x.1) ≡ true) xs
+insns_formed : (p : Program) (m : Method) (xs : List (ℕ × Op)) → AllByRecursion (λ x. IsGoodOp p m x.1) xs
+    → AllByRecursion (λ x. is_some (form_of x.1) ≡ true) xs
 insns_formed p m [] h = tt
 insns_formed p m (x ∷ xs) h = (good_formed p m x.1 h.0, insns_formed p m xs h.1)
 
-methods_formed : (p : Program) (ms : List Method) → AllByRecursion (IsGoodMethod p) ms → AllByRecursion (λ m. AllByRecursion (λ x. is_some (form_of x.1) ≡ true) m.insns) ms
+methods_formed : (p : Program) (ms : List Method) → AllByRecursion (IsGoodMethod p) ms
+    → AllByRecursion (λ m. AllByRecursion (λ x. is_some (form_of x.1) ≡ true) m.insns) ms
 methods_formed p [] h = tt
 methods_formed p (m ∷ ms) h = (insns_formed p m m.insns h.0.insns, methods_formed p ms h.1)
 

@@ -5,7 +5,7 @@ use Rattle.std.specs.Prelude.{◌&&◌, ◌||◌, unsigned_abs, slice_get, slice
 use Rattle.std.specs.List.{AllByRecursion, filter_map, cons_option}
 use Rattle.std.specs.Option.{IfSome, option_map, option_and_then, option_map_or, option_to_list}
 use Rattle.std.specs.Ordering.{int_eq}
-use Rattle.abs_heap.proofs.Written.{either}
+use Rattle.abs_heap.proofs.ChangedCells.{either}
 use Rattle.list_views.proofs.Quantified.{all_joined}
 use Rattle.lin_core.specs.Intervals.{Bounds}
 use Rattle.jvm_values.specs.declared.ints.IntOp.{IntOp}

@@ -252,7 +252,8 @@ links_say negative row n link (Some order) e weights h = elim
                 r.ends (sum_is row.constant link.by r.adds) weights);
           }
       | inr y ↦
-          let o = other_is (is_inequality row.kind) (rising_tie (led negative order) (leading negative order) row.constant n true) link y in
+          let o = other_is (is_inequality row.kind) (rising_tie (led negative order) (leading negative order) row.constant n true)
+          link y in
           let r = rising_is (led negative order) (leading negative order) row.constant n true link o.1 in
           record {
             less = r.less;

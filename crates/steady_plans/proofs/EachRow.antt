@@ -176,7 +176,8 @@ module _ (P : ShortRow → Type 0) where
 
     quotients : (d : Bounds) → divisors_of b ≡ Some d → AllByRecursion P (quotient_rows a b d)
     quotients d e =
-        rows_either (are_positive d && int_le (pos 0) a.lo) (at_least_zero (pos 1) (pos 0) (neg_ℤ d.lo) (pos 0) ∷ single_divisor_rows b) [] (
+        rows_either (are_positive d && int_le (pos 0) a.lo)
+        (at_least_zero (pos 1) (pos 0) (neg_ℤ d.lo) (pos 0) ∷ single_divisor_rows b) [] (
           holds.quotient d e,
           rows_either (is_single b) (at_least_zero (negsuc 0) (pos 0) b.lo (b.lo -ℤ pos 1) ∷ []) []
               (holds.divisor, tt) tt,

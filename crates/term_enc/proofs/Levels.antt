@@ -24,7 +24,8 @@ pub record IsSplit (first : Option (Option Pattern)) (rest : Option Patterns) (a
   pub rest_is : rest ≡ Some others
   pub all_is : all ≡ put given others
 
-pub split : (first : Option (Option Pattern)) (rest : Option Patterns) (all : Patterns) → with_first first rest ≡ Some all → IsSplit first rest all
+pub split : (first : Option (Option Pattern)) (rest : Option Patterns) (all : Patterns) → with_first first rest ≡ Some all
+    → IsSplit first rest all
 unfolding put
 split None rest all e = absurd (none-some all e)
 split (Some None) rest all e = record { given = None; others = all; first_is = refl; rest_is = e; all_is = refl }
@@ -37,11 +38,13 @@ unfolding put
 counts_put None rest = omega arith
 counts_put (Some pattern) rest = refl
 
-pub with_put : (first : Option (Option Pattern)) (rest : Option Patterns) (given : Option Pattern) (others : Patterns) → first ≡ Some given → rest ≡ Some others →
+pub with_put : (first : Option (Option Pattern)) (rest : Option Patterns) (given : Option Pattern) (others : Patterns)
+    → first ≡ Some given → rest ≡ Some others →
     with_first first rest ≡ Some (put given others)
 unfolding put
 with_put first rest None others e f = ap (λ (o : Option (Option Pattern)). with_first o rest) e ∙ f
-with_put first rest (Some pattern) others e f = ap (λ (o : Option (Option Pattern)). with_first o rest) e ∙ ap (option_map (more pattern)) f
+with_put first rest (Some pattern) others e f = ap (λ (o : Option (Option Pattern)). with_first o rest) e
+    ∙ ap (option_map (more pattern)) f
 
 -- ---- from a pattern to what is left
 
@@ -50,9 +53,11 @@ one_less_of left rest e = ap one_less e
 
 -- what is given of each id leaves what its parts leave
 abbrev pub Leaves : (ℕ → Option (Option Pattern)) → (ℕ → ℕ → Option ℕ) → Type 0
-Leaves pattern after = (id : ℕ) (given : Option Pattern) (left rest : ℕ) → pattern id ≡ Some given → left ≡ count_given given + rest → after id left ≡ Some rest
+Leaves pattern after = (id : ℕ) (given : Option Pattern) (left rest : ℕ) → pattern id ≡ Some given → left ≡ count_given given + rest
+    → after id left ≡ Some rest
 
-all_leave : (pattern : ℕ → Option (Option Pattern)) (after : ℕ → ℕ → Option ℕ) → Leaves pattern after → (ids : List ℕ) (all : Patterns) (left rest : ℕ) →
+all_leave : (pattern : ℕ → Option (Option Pattern)) (after : ℕ → ℕ → Option ℕ) → Leaves pattern after
+    → (ids : List ℕ) (all : Patterns) (left rest : ℕ) →
     patterns_by pattern ids ≡ Some all → left ≡ counts_in all + rest → left_after_all after ids left ≡ Some rest
 all_leave pattern after h [] all left rest e l =
     let same : none ≡ all = some_is e in
@@ -61,19 +66,24 @@ all_leave pattern after h [] all left rest e l =
 all_leave pattern after h (id ∷ ids) all left rest e l =
     let s = split (pattern id) (patterns_by pattern ids) all e in
     let count = ap counts_in s.all_is ∙ counts_put s.given s.others in
-    let one : after id left ≡ Some (counts_in s.others + rest) = h id s.given left (counts_in s.others + rest) s.first_is (omega (arith, l, count)) in
-    ap (option_and_then (left_after_all after ids)) one ∙ all_leave pattern after h ids s.others (counts_in s.others + rest) rest s.rest_is refl
+    let one : after id left ≡ Some (counts_in s.others + rest) = h id s.given left (counts_in s.others + rest) s.first_is
+    (omega (arith, l, count)) in
+    ap (option_and_then (left_after_all after ids)) one ∙ all_leave pattern after h ids s.others (counts_in s.others + rest) rest
+    s.rest_is refl
 
 -- one part is all
-single : (pattern : Pattern) (given : Option Pattern) (left rest : ℕ) → count_in pattern ≡ 1 → Some (Some pattern) ≡ Some given → left ≡ count_given given + rest → one_less left ≡ Some rest
+single : (pattern : Pattern) (given : Option Pattern) (left rest : ℕ) → count_in pattern ≡ 1 → Some (Some pattern) ≡ Some given
+    → left ≡ count_given given + rest → one_less left ≡ Some rest
 single pattern given left rest one e l =
     let count = ap count_given (some_is e) in
     one_less_of left rest (omega (arith, l, count, one))
 
 cell_leaves : (pattern : ℕ → Option (Option Pattern)) (after : ℕ → ℕ → Option ℕ) → Leaves pattern after →
-    (id : ℕ) (cell : Cell) (given : Option Pattern) (left rest : ℕ) → pattern_of_cell pattern id cell ≡ Some given → left ≡ count_given given + rest →
+    (id : ℕ) (cell : Cell) (given : Option Pattern) (left rest : ℕ) → pattern_of_cell pattern id cell ≡ Some given
+    → left ≡ count_given given + rest →
     left_after_cell after left cell ≡ Some rest
-cell_leaves pattern after h id (Int interval) given left rest e l = let count = ap count_given (some_is e) in ap Some (omega (arith, l, count))
+cell_leaves pattern after h id (Int interval) given left rest e l = let count = ap count_given (some_is e) in ap Some
+    (omega (arith, l, count))
 cell_leaves pattern after h id Null given left rest e l = single null given left rest refl e l
 cell_leaves pattern after h id (Obj class ids) given left rest e l =
     let m = map_some (λ (children : Patterns). Some (node class children)) (patterns_by pattern ids) given e in
@@ -88,7 +98,8 @@ pub leaves : (depth : ℕ) (cells : List (ℕ × Cell)) → Leaves (pattern_in d
 leaves zero cells id given left rest e l = absurd (none-some given e)
 leaves (suc depth) cells id given left rest e l =
     let p = then_some (pattern_of_cell (pattern_in depth cells) id) (cell_in cells id) given e in
-    ap (option_and_then (left_after_cell (left_after depth cells) left)) p.1.0 ∙ cell_leaves (pattern_in depth cells) (left_after depth cells) (leaves depth cells) id p.0 given left rest p.1.1 l
+    ap (option_and_then (left_after_cell (left_after depth cells) left)) p.1.0
+    ∙ cell_leaves (pattern_in depth cells) (left_after depth cells) (leaves depth cells) id p.0 given left rest p.1.1 l
 
 -- ---- from what is left to a pattern
 
@@ -125,12 +136,16 @@ more_by_one : (left rest : ℕ) → one_less left ≡ Some rest → left ≡ suc
 more_by_one zero rest e = absurd (none-some rest e)
 more_by_one (suc left) rest e = ap suc (some_is e)
 
-single_tells : (pattern : Pattern) (left rest : ℕ) → count_in pattern ≡ 1 → one_less left ≡ Some rest → HasLeft (Some (Some pattern)) left rest
-single_tells pattern left rest one e = let l = more_by_one left rest e in record { given = Some pattern; is = refl; left_is = omega (arith, l, one) }
+single_tells : (pattern : Pattern) (left rest : ℕ) → count_in pattern ≡ 1 → one_less left ≡ Some rest
+    → HasLeft (Some (Some pattern)) left rest
+single_tells pattern left rest one e = let l = more_by_one left rest e in record
+    { given = Some pattern; is = refl; left_is = omega (arith, l, one) }
 
-cell_tells : (pattern : ℕ → Option (Option Pattern)) (after : ℕ → ℕ → Option ℕ) → Tells pattern after → (id : ℕ) (cell : Cell) (left rest : ℕ) →
+cell_tells : (pattern : ℕ → Option (Option Pattern)) (after : ℕ → ℕ → Option ℕ) → Tells pattern after
+    → (id : ℕ) (cell : Cell) (left rest : ℕ) →
     left_after_cell after left cell ≡ Some rest → HasLeft (pattern_of_cell pattern id cell) left rest
-cell_tells pattern after h id (Int interval) left rest e = let l = some_is e in record { given = None; is = refl; left_is = omega (arith, l) }
+cell_tells pattern after h id (Int interval) left rest e = let l = some_is e in record
+    { given = None; is = refl; left_is = omega (arith, l) }
 cell_tells pattern after h id Null left rest e = single_tells null left rest refl e
 cell_tells pattern after h id (Obj class ids) left rest e =
     let p = then_some (left_after_all after ids) (one_less left) rest e in

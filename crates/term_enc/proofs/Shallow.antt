@@ -1,5 +1,6 @@
 -- A pattern is at most as deep as it has parts, and one level more for ints; so a count that stops finds each small pattern.
-use Rattle.std.proofs.Common.{◌≡◌, ℕ, zero, suc, ◌+◌, ◌<◌, ◌≤◌, List, [], ◌∷◌, Option, Some, None, is_some, true, refl, sym, ap, ◌∙◌, arith}
+use Rattle.std.proofs.Common.{◌≡◌, ℕ, zero, suc, ◌+◌, ◌<◌, ◌≤◌, List, [], ◌∷◌, Option, Some, None, is_some, true, refl, sym, ap}
+use Rattle.std.proofs.Common.{◌∙◌, arith}
 use Rattle.std.specs.Option.{option_map, option_and_then}
 use Rattle.std.proofs.lemmas.Option.{none-some}
 use Rattle.std.proofs.lemmas.Bool.{false≢true}
@@ -16,22 +17,26 @@ use Rattle.term_enc.proofs.Levels.{counts_put, split, with_put, leaves, tells}
 abbrev IsKeptBelow : (ℕ → Option (Option Pattern)) → (ℕ → Option (Option Pattern)) → ℕ → Type 0
 IsKeptBelow f g n = (id : ℕ) (given : Option Pattern) → f id ≡ Some given → count_given given < n → g id ≡ Some given
 
-all_kept : (f g : ℕ → Option (Option Pattern)) (n : ℕ) → IsKeptBelow f g n → (ids : List ℕ) (all : Patterns) → patterns_by f ids ≡ Some all → counts_in all < n → patterns_by g ids ≡ Some all
+all_kept : (f g : ℕ → Option (Option Pattern)) (n : ℕ) → IsKeptBelow f g n → (ids : List ℕ) (all : Patterns)
+    → patterns_by f ids ≡ Some all → counts_in all < n → patterns_by g ids ≡ Some all
 all_kept f g n h [] all e l = e
 all_kept f g n h (id ∷ ids) all e l =
     let s = split (f id) (patterns_by f ids) all e in
     let count = ap counts_in s.all_is ∙ counts_put s.given s.others in
-    with_put (g id) (patterns_by g ids) s.given s.others (h id s.given s.first_is (omega (arith, l, count))) (all_kept f g n h ids s.others s.rest_is (omega (arith, l, count)))
+    with_put (g id) (patterns_by g ids) s.given s.others (h id s.given s.first_is (omega (arith, l, count)))
+    (all_kept f g n h ids s.others s.rest_is (omega (arith, l, count)))
     ∙ ap Some (sym s.all_is)
 
-cell_kept : (f g : ℕ → Option (Option Pattern)) (n : ℕ) → IsKeptBelow f g n → (id : ℕ) (cell : Cell) (given : Option Pattern) → pattern_of_cell f id cell ≡ Some given →
+cell_kept : (f g : ℕ → Option (Option Pattern)) (n : ℕ) → IsKeptBelow f g n → (id : ℕ) (cell : Cell) (given : Option Pattern)
+    → pattern_of_cell f id cell ≡ Some given →
     count_given given < suc n → pattern_of_cell g id cell ≡ Some given
 cell_kept f g n h id (Int interval) given e l = e
 cell_kept f g n h id Null given e l = e
 cell_kept f g n h id (Obj class ids) given e l =
     let m = map_some (λ (children : Patterns). Some (node class children)) (patterns_by f ids) given e in
     let count = ap count_given m.1.1 in
-    ap (option_map (λ (children : Patterns). Some (node class children))) (all_kept f g n h ids m.0 m.1.0 (omega (arith, l, count))) ∙ ap Some m.1.1
+    ap (option_map (λ (children : Patterns). Some (node class children))) (all_kept f g n h ids m.0 m.1.0 (omega (arith, l, count)))
+    ∙ ap Some m.1.1
 cell_kept f g n h id (Nums kind len) given e l = e
 cell_kept f g n h id (Refs element len shape) given e l = e
 cell_kept f g n h id (Unk bound nullable shape) given e l = e

@@ -1,5 +1,6 @@
 -- Collected terms have the value of the terms, and what stands beside each name is a multiple of the names' sum.
-use Rattle.std.proofs.Common.{◌≡◌, ℕ, Bool, true, false, cond, eqb, List, [], ◌∷◌, ◌++◌, map, ℤ, pos, negsuc, ◌+ℤ◌, ◌*ℤ◌, ap, arith, refl, ◌∙◌}
+use Rattle.std.proofs.Common.{◌≡◌, ℕ, Bool, true, false, cond, eqb, List, [], ◌∷◌, ◌++◌, map, ℤ, pos, negsuc, ◌+ℤ◌, ◌*ℤ◌, ap, arith}
+use Rattle.std.proofs.Common.{refl, ◌∙◌}
 use Rattle.std.specs.Prelude.{nat_lt, All}
 use Rattle.std.specs.Ordering.{int_eq}
 use Rattle.std.proofs.lemmas.Int.{ints}
@@ -18,12 +19,15 @@ unless_value numbers name number rest true e =
     let none = ap (λ (n : ℤ). n *ℤ numbers name) ((Decides-int_eq number (pos 0)).0 e) ∙ zero_times (numbers name) in
     omega (arith, ints, none)
 
-unless_is : (numbers : ℕ → ℤ) (name : ℕ) (number : ℤ) (rest : List (ℕ × ℤ)) → value_of_terms numbers (unless_zero name number rest) ≡ number *ℤ numbers name +ℤ value_of_terms numbers rest
+unless_is : (numbers : ℕ → ℤ) (name : ℕ) (number : ℤ) (rest : List (ℕ × ℤ))
+    → value_of_terms numbers (unless_zero name number rest) ≡ number *ℤ numbers name +ℤ value_of_terms numbers rest
 unless_is numbers name number rest = unless_value numbers name number rest (int_eq number (pos 0)) refl
 
 with_value : (numbers : ℕ → ℤ) (term first : ℕ × ℤ) (rest : List (ℕ × ℤ)) (same lower : Bool) → eqb term.0 first.0 ≡ same →
     value_of_terms numbers (with_term term rest) ≡ term.1 *ℤ numbers term.0 +ℤ value_of_terms numbers rest →
-    value_of_terms numbers (cond same (unless_zero term.0 (term.1 +ℤ first.1) rest) (cond lower (unless_zero term.0 term.1 (first ∷ rest)) (first ∷ with_term term rest))) ≡
+    value_of_terms numbers
+    (cond same (unless_zero term.0 (term.1 +ℤ first.1) rest)
+    (cond lower (unless_zero term.0 term.1 (first ∷ rest)) (first ∷ with_term term rest))) ≡
     term.1 *ℤ numbers term.0 +ℤ (first.1 *ℤ numbers first.0 +ℤ value_of_terms numbers rest)
 with_value numbers term first rest true lower e h =
     let sum = unless_is numbers term.0 (term.1 +ℤ first.1) rest in
@@ -33,13 +37,16 @@ with_value numbers term first rest true lower e h =
 with_value numbers term first rest false true e h = unless_is numbers term.0 term.1 (first ∷ rest)
 with_value numbers term first rest false false e h = omega (arith, ints, h)
 
-with_is : (numbers : ℕ → ℤ) (term : ℕ × ℤ) (terms : List (ℕ × ℤ)) → value_of_terms numbers (with_term term terms) ≡ term.1 *ℤ numbers term.0 +ℤ value_of_terms numbers terms
+with_is : (numbers : ℕ → ℤ) (term : ℕ × ℤ) (terms : List (ℕ × ℤ))
+    → value_of_terms numbers (with_term term terms) ≡ term.1 *ℤ numbers term.0 +ℤ value_of_terms numbers terms
 with_is numbers term [] = unless_is numbers term.0 term.1 []
-with_is numbers term (first ∷ rest) = with_value numbers term first rest (eqb term.0 first.0) (nat_lt term.0 first.0) refl (with_is numbers term rest)
+with_is numbers term (first ∷ rest) = with_value numbers term first rest (eqb term.0 first.0) (nat_lt term.0 first.0) refl
+    (with_is numbers term rest)
 
 pub collected_value : (numbers : ℕ → ℤ) (terms : List (ℕ × ℤ)) → value_of_terms numbers (collected terms) ≡ value_of_terms numbers terms
 collected_value numbers [] = refl
-collected_value numbers (term ∷ terms) = with_is numbers term (collected terms) ∙ ap (λ (z : ℤ). term.1 *ℤ numbers term.0 +ℤ z) (collected_value numbers terms)
+collected_value numbers (term ∷ terms) = with_is numbers term (collected terms)
+    ∙ ap (λ (z : ℤ). term.1 *ℤ numbers term.0 +ℤ z) (collected_value numbers terms)
 
 -- ---- sums over names
 
@@ -51,7 +58,8 @@ pub sum_both : (numbers : ℕ → ℤ) (xs ys : List ℕ) → sum_over numbers (
 sum_both numbers [] ys = omega (arith, ints)
 sum_both numbers (x ∷ xs) ys = let h = sum_both numbers xs ys in omega (arith, ints, h)
 
-pub sum_mapped : (numbers : ℕ → ℤ) (place : ℕ → ℕ) (names : List ℕ) → sum_over numbers (map place names) ≡ sum_over (λ (name : ℕ). numbers (place name)) names
+pub sum_mapped : (numbers : ℕ → ℤ) (place : ℕ → ℕ) (names : List ℕ)
+    → sum_over numbers (map place names) ≡ sum_over (λ (name : ℕ). numbers (place name)) names
 sum_mapped numbers place [] = refl
 sum_mapped numbers place (name ∷ names) = ap (λ (z : ℤ). numbers (place name) +ℤ z) (sum_mapped numbers place names)
 

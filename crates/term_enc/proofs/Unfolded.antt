@@ -22,7 +22,8 @@ use Rattle.abs_cells.specs.declared.cells.Cell.TheVariants.{Int, Null, Obj, Nums
 use Rattle.abs_cells.specs.AbstractStates.{AbstractState}
 use Rattle.abs_cells.specs.Cells.{cell_at}
 use Rattle.abs_cells.specs.Fits.{Meaning, Fits, Describes, IsObject}
-use Rattle.abs_cells.specs.Patterns.{Pattern, Patterns, null, leaf, node, variable, none, more, patterns_by, pattern_of_cell, pattern_within}
+use Rattle.abs_cells.specs.Patterns.{Pattern, Patterns, null, leaf, node, variable, none, more, patterns_by, pattern_of_cell}
+use Rattle.abs_cells.specs.Patterns.{pattern_within}
 use Rattle.term_enc.specs.Filling.{IsFilled, AreFilled, IsTermOf}
 use Rattle.term_enc.proofs.Levels.{put, split}
 
@@ -35,7 +36,8 @@ pub record FirstTerm (term : Value → Option HeapTerm) (value : Value) (rest : 
   pub rest_is : terms_by term rest ≡ Some others
   pub all_is : all ≡ terms.more first others
 
-first_term : (term : Value → Option HeapTerm) (value : Value) (rest : List Value) (all : HeapTerms) → term values.Null ≡ Some terms.null → IsNoInt value →
+first_term : (term : Value → Option HeapTerm) (value : Value) (rest : List Value) (all : HeapTerms)
+    → term values.Null ≡ Some terms.null → IsNoInt value →
     terms_by term (value ∷ rest) ≡ Some all → FirstTerm term value rest all
 first_term term (values.Int n) rest all nil h e = absurd h
 first_term term values.Null rest all nil h e =
@@ -46,7 +48,8 @@ first_term term (values.Ref r) rest all nil h e =
     let m = map_some (terms.more p.0) (terms_by term rest) all p.1.1 in
     record { first = p.0; others = m.0; first_is = p.1.0; rest_is = m.1.0; all_is = sym m.1.1 }
 
-int_term : (term : Value → Option HeapTerm) (value : Value) (rest : List Value) (all : HeapTerms) → (IsNoInt value → ⊥) → terms_by term (value ∷ rest) ≡ Some all → terms_by term rest ≡ Some all
+int_term : (term : Value → Option HeapTerm) (value : Value) (rest : List Value) (all : HeapTerms) → (IsNoInt value → ⊥)
+    → terms_by term (value ∷ rest) ≡ Some all → terms_by term rest ≡ Some all
 int_term term (values.Int k) rest all is e = e
 int_term term values.Null rest all is e = absurd (is tt)
 int_term term (values.Ref r) rest all is e = absurd (is tt)
@@ -64,7 +67,8 @@ int_is_int : (value : Value) (n : ℤ) → value ≡ values.Int n → IsNoInt va
 int_is_int value n e h = subst IsNoInt e h
 
 -- an id with a pattern stands for no int, and an id without one for an int
-given_no_int : (types : WorldTypes) (heap : Heap) (meaning : Meaning) (pattern : ℕ → Option (Option Pattern)) (id : ℕ) (cell : Cell) (value : Value) (p : Pattern) →
+given_no_int : (types : WorldTypes) (heap : Heap) (meaning : Meaning) (pattern : ℕ → Option (Option Pattern)) (id : ℕ) (cell : Cell)
+    (value : Value) (p : Pattern) →
     Describes types heap meaning cell value → pattern_of_cell pattern id cell ≡ Some (Some p) → IsNoInt value
 given_no_int types heap meaning pattern id (Int interval) value p d e = absurd (none-some p (some_is e))
 given_no_int types heap meaning pattern id Null value p d e = no_int_of d tt
@@ -77,11 +81,13 @@ given_no_int types heap meaning pattern id (Unk bound nullable shape) value p d 
 ]
 
 -- no pattern, no reference
-none_is_int : (types : WorldTypes) (heap : Heap) (meaning : Meaning) (pattern : ℕ → Option (Option Pattern)) (id : ℕ) (cell : Cell) (value : Value) →
+none_is_int : (types : WorldTypes) (heap : Heap) (meaning : Meaning) (pattern : ℕ → Option (Option Pattern)) (id : ℕ) (cell : Cell)
+    (value : Value) →
     Describes types heap meaning cell value → pattern_of_cell pattern id cell ≡ Some None → IsNoInt value → ⊥
 none_is_int types heap meaning pattern id (Int interval) value d e = int_is_int value d.0 d.1.0
 none_is_int types heap meaning pattern id Null value d e = absurd (none-some null (sym (some_is e)))
-none_is_int types heap meaning pattern id (Obj class ids) value d e = let m = map_some (λ (children : Patterns). Some (node class children))
+none_is_int types heap meaning pattern id (Obj class ids) value d e = let m = map_some
+    (λ (children : Patterns). Some (node class children))
     (patterns_by pattern ids) None e in absurd (none-some (node class m.0) (sym m.1.1))
 none_is_int types heap meaning pattern id (Nums kind len) value d e = absurd (none-some leaf (sym (some_is e)))
 none_is_int types heap meaning pattern id (Refs element len shape) value d e = absurd (none-some leaf (sym (some_is e)))
@@ -97,14 +103,16 @@ pub record ObjectTerm (heap : Heap) (depth : ℕ) (value : Value) (object : Obje
   pub stands : slice_get heap.objects place ≡ Some object
   pub is : term_of_object (term_within below heap) object ≡ Some term
 
-ref_term : (heap : Heap) (depth r : ℕ) (object : Object) (term : HeapTerm) → slice_get heap.objects r ≡ Some object → term_within depth heap (values.Ref r) ≡ Some term →
+ref_term : (heap : Heap) (depth r : ℕ) (object : Object) (term : HeapTerm) → slice_get heap.objects r ≡ Some object
+    → term_within depth heap (values.Ref r) ≡ Some term →
     (below : ℕ) × ((depth ≡ suc below) × (term_of_object (term_within below heap) object ≡ Some term))
 ref_term heap zero r object term s e = absurd (none-some term e)
 ref_term heap (suc depth) r object term s e = (depth, (refl, sym (ap (option_and_then (term_of_object (term_within depth heap))) s) ∙ e))
 
 module _ (heap : Heap) (meaning : Meaning) where
   -- the values of a known instance's fields have no cycles where its own has none
-  field_dag : (r k : ℕ) (class : ℕ) (fields : List Value) (value : Value) → slice_get heap.objects r ≡ Some (objects.Instance class fields) →
+  field_dag : (r k : ℕ) (class : ℕ) (fields : List Value) (value : Value)
+      → slice_get heap.objects r ≡ Some (objects.Instance class fields) →
       slice_get fields k ≡ Some value → IsDag heap (values.Ref r) → IsDag heap value
   field_dag r k class fields value s f dag a t =
       let step : heap_steps heap r k ≡ Some a =
@@ -120,16 +128,21 @@ slice_map meaning (x ∷ ids) (suc k) id e = slice_map meaning ids k id e
 
 -- ---- fields one after another
 
-module _ (heap : Heap) (meaning : Meaning) (pattern : ℕ → Option (Option Pattern)) (term : Value → Option HeapTerm) (nil : term values.Null ≡ Some terms.null)
+module _ (heap : Heap) (meaning : Meaning) (pattern : ℕ → Option (Option Pattern)) (term : Value → Option HeapTerm)
+    (nil : term values.Null ≡ Some terms.null)
     (ints : (id : ℕ) → pattern id ≡ Some None → IsNoInt (meaning id) → ⊥)
     (others : (id : ℕ) (p : Pattern) → pattern id ≡ Some (Some p) → IsNoInt (meaning id))
-    (filled : (id : ℕ) (p : Pattern) (t : HeapTerm) → pattern id ≡ Some (Some p) → IsDag heap (meaning id) → term (meaning id) ≡ Some t → IsFilled (IsTermOf heap meaning) p t) where
-  field_filled : (id : ℕ) (ids : List ℕ) (ps : Patterns) (ts : HeapTerms) (given : Option Pattern) (rest : Patterns) → IsDag heap (meaning id) →
+    (filled : (id : ℕ) (p : Pattern) (t : HeapTerm) → pattern id ≡ Some (Some p) → IsDag heap (meaning id)
+    → term (meaning id) ≡ Some t → IsFilled (IsTermOf heap meaning) p t) where
+  field_filled : (id : ℕ) (ids : List ℕ) (ps : Patterns) (ts : HeapTerms) (given : Option Pattern) (rest : Patterns)
+      → IsDag heap (meaning id) →
       pattern id ≡ Some given → ps ≡ put given rest → terms_by term (meaning id ∷ map meaning ids) ≡ Some ts →
-      ((us : HeapTerms) → terms_by term (map meaning ids) ≡ Some us → AreFilled (IsTermOf heap meaning) rest us) → AreFilled (IsTermOf heap meaning) ps ts
+      ((us : HeapTerms) → terms_by term (map meaning ids) ≡ Some us → AreFilled (IsTermOf heap meaning) rest us)
+      → AreFilled (IsTermOf heap meaning) ps ts
   unfolding put
   field_filled id ids ps ts None rest dag e all f h =
-      subst (λ (x : Patterns). AreFilled (IsTermOf heap meaning) x ts) (sym all) (h ts (int_term term (meaning id) (map meaning ids) ts (ints id e) f))
+      subst (λ (x : Patterns). AreFilled (IsTermOf heap meaning) x ts) (sym all)
+      (h ts (int_term term (meaning id) (map meaning ids) ts (ints id e) f))
   field_filled id ids ps ts (Some p) rest dag e all f h =
       let t = first_term term (meaning id) (map meaning ids) ts nil (others id p e) f in
       subst (λ (x : Patterns). AreFilled (IsTermOf heap meaning) x ts) (sym all)
@@ -139,14 +152,17 @@ module _ (heap : Heap) (meaning : Meaning) (pattern : ℕ → Option (Option Pat
   fields_filled : (ids : List ℕ) (ps : Patterns) (ts : HeapTerms) → ((k id : ℕ) → slice_get ids k ≡ Some id → IsDag heap (meaning id)) →
       patterns_by pattern ids ≡ Some ps → terms_by term (map meaning ids) ≡ Some ts → AreFilled (IsTermOf heap meaning) ps ts
   fields_filled [] ps ts dags e f =
-      subst (λ (x : Patterns). AreFilled (IsTermOf heap meaning) x ts) (some_is e) (subst (λ (x : HeapTerms). AreFilled (IsTermOf heap meaning) none x) (some_is f) tt)
+      subst (λ (x : Patterns). AreFilled (IsTermOf heap meaning) x ts) (some_is e)
+      (subst (λ (x : HeapTerms). AreFilled (IsTermOf heap meaning) none x) (some_is f) tt)
   fields_filled (id ∷ ids) ps ts dags e f =
       let s = split (pattern id) (patterns_by pattern ids) ps e in
-      field_filled id ids ps ts s.given s.others (dags zero id refl) s.first_is s.all_is f (λ us g. fields_filled ids s.others us (λ k y i. dags (suc k) y i) s.rest_is g)
+      field_filled id ids ps ts s.given s.others (dags zero id refl) s.first_is s.all_is f
+      (λ us g. fields_filled ids s.others us (λ k y i. dags (suc k) y i) s.rest_is g)
 
 -- ---- the whole
 
-module _ (types : WorldTypes) (state : AbstractState) (machine : MachineState) (meaning : Meaning) (fits : Fits types state machine meaning) where
+module _ (types : WorldTypes) (state : AbstractState) (machine : MachineState) (meaning : Meaning)
+    (fits : Fits types state machine meaning) where
   pub within_no_int : (depth id : ℕ) (p : Pattern) → pattern_within depth state id ≡ Some (Some p) → IsNoInt (meaning id)
   within_no_int zero id p e = absurd (none-some (Some p) e)
   within_no_int (suc depth) id p e =
@@ -159,8 +175,10 @@ module _ (types : WorldTypes) (state : AbstractState) (machine : MachineState) (
       let c = then_some (pattern_of_cell (pattern_within depth state) id) (cell_at state id) None e in
       none_is_int types machine.heap meaning (pattern_within depth state) id c.0 (meaning id) (fits.cells id c.0 c.1.0) c.1.1
 
-  array_filled : (depth : ℕ) (value : Value) (t : HeapTerm) (object : Object) (r : ℕ) → value ≡ values.Ref r → slice_get machine.heap.objects r ≡ Some object →
-      ((f : Value → Option HeapTerm) → term_of_object f object ≡ Some terms.leaf) → term_within depth machine.heap value ≡ Some t → t ≡ terms.leaf
+  array_filled : (depth : ℕ) (value : Value) (t : HeapTerm) (object : Object) (r : ℕ) → value ≡ values.Ref r
+      → slice_get machine.heap.objects r ≡ Some object →
+      ((f : Value → Option HeapTerm) → term_of_object f object ≡ Some terms.leaf) → term_within depth machine.heap value ≡ Some t
+      → t ≡ terms.leaf
   array_filled depth value t object r n s is e =
       let b = ref_term machine.heap depth r object t s (ap (term_within depth machine.heap) (sym n) ∙ e) in
       some_is (sym b.1.1 ∙ is (term_within b.0 machine.heap))
@@ -169,33 +187,45 @@ module _ (types : WorldTypes) (state : AbstractState) (machine : MachineState) (
       ((deep y : ℕ) (q : Pattern) (s : HeapTerm) → pattern_within depth state y ≡ Some (Some q) → IsDag machine.heap (meaning y) →
       term_within deep machine.heap (meaning y) ≡ Some s → IsFilled (IsTermOf machine.heap meaning) q s) →
       (deep id : ℕ) (cell : Cell) (p : Pattern) (t : HeapTerm) → Describes types machine.heap meaning cell (meaning id) →
-      pattern_of_cell (pattern_within depth state) id cell ≡ Some (Some p) → IsDag machine.heap (meaning id) → term_within deep machine.heap (meaning id) ≡ Some t →
+      pattern_of_cell (pattern_within depth state) id cell ≡ Some (Some p) → IsDag machine.heap (meaning id)
+      → term_within deep machine.heap (meaning id) ≡ Some t →
       IsFilled (IsTermOf machine.heap meaning) p t
   cell_unfolded depth ih deep id (Int interval) p t d e dag f = absurd (none-some p (some_is e))
   cell_unfolded depth ih deep id Null p t d e dag f =
       let is : terms.null ≡ t = some_is (ap (term_within deep machine.heap) (sym d) ∙ f) in
-      subst (λ (x : Pattern). IsFilled (IsTermOf machine.heap meaning) x t) (some_is (some_is e)) (subst (λ (x : HeapTerm). IsFilled (IsTermOf machine.heap meaning) null x) is tt)
+      subst (λ (x : Pattern). IsFilled (IsTermOf machine.heap meaning) x t) (some_is (some_is e))
+      (subst (λ (x : HeapTerm). IsFilled (IsTermOf machine.heap meaning) null x) is tt)
   cell_unfolded depth ih deep id (Obj class ids) p t d e dag f =
       let m = map_some (λ (children : Patterns). Some (node class children)) (patterns_by (pattern_within depth state) ids) (Some p) e in
       let stands : slice_get machine.heap.objects d.place ≡ Some (objects.Instance class (map meaning ids)) = d.stands ∙ ap Some d.holds in
-      let b = ref_term machine.heap deep d.place (objects.Instance class (map meaning ids)) t stands (ap (term_within deep machine.heap) (sym d.names) ∙ f) in
+      let b = ref_term machine.heap deep d.place (objects.Instance class (map meaning ids)) t stands
+      (ap (term_within deep machine.heap) (sym d.names) ∙ f) in
       let n = map_some (terms.node class) (terms_by (term_within b.0 machine.heap) (map meaning ids)) t b.1.1 in
       let ref_dag : IsDag machine.heap (values.Ref d.place) = subst (IsDag machine.heap) d.names dag in
       let below : AreFilled (IsTermOf machine.heap meaning) m.0 n.0 =
-      fields_filled machine.heap meaning (pattern_within depth state) (term_within b.0 machine.heap) refl (within_int depth) (within_no_int depth)
+      fields_filled machine.heap meaning (pattern_within depth state) (term_within b.0 machine.heap) refl (within_int depth)
+      (within_no_int depth)
       (ih b.0)
-      ids m.0 n.0 (λ k y g. field_dag machine.heap meaning d.place k class (map meaning ids) (meaning y) stands (slice_map meaning ids k y g) ref_dag) m.1.0 n.1.0 in
-      subst (λ (x : Pattern). IsFilled (IsTermOf machine.heap meaning) x t) (some_is m.1.1) (subst (λ (x : HeapTerm). IsFilled (IsTermOf machine.heap meaning) (node class m.0) x) n.1.1 (refl, below))
+      ids m.0 n.0 (λ k y g. field_dag machine.heap meaning d.place k class (map meaning ids) (meaning y) stands
+      (slice_map meaning ids k y g) ref_dag) m.1.0 n.1.0 in
+      subst (λ (x : Pattern). IsFilled (IsTermOf machine.heap meaning) x t) (some_is m.1.1)
+      (subst (λ (x : HeapTerm). IsFilled (IsTermOf machine.heap meaning) (node class m.0) x) n.1.1 (refl, below))
   cell_unfolded depth ih deep id (Nums kind len) p t d e dag f =
-      let is : t ≡ terms.leaf = array_filled deep (meaning id) t d.object d.place d.names d.stands (λ g. ap (term_of_object g) d.holds.is) f in
-      subst (λ (x : Pattern). IsFilled (IsTermOf machine.heap meaning) x t) (some_is (some_is e)) (subst (λ (x : HeapTerm). IsFilled (IsTermOf machine.heap meaning) leaf x) (sym is) tt)
+      let is : t ≡ terms.leaf = array_filled deep (meaning id) t d.object d.place d.names d.stands
+      (λ g. ap (term_of_object g) d.holds.is) f in
+      subst (λ (x : Pattern). IsFilled (IsTermOf machine.heap meaning) x t) (some_is (some_is e))
+      (subst (λ (x : HeapTerm). IsFilled (IsTermOf machine.heap meaning) leaf x) (sym is) tt)
   cell_unfolded depth ih deep id (Refs element len shape) p t d e dag f =
-      let is : t ≡ terms.leaf = array_filled deep (meaning id) t d.object d.place d.names d.stands (λ g. ap (term_of_object g) d.holds.is) f in
-      subst (λ (x : Pattern). IsFilled (IsTermOf machine.heap meaning) x t) (some_is (some_is e)) (subst (λ (x : HeapTerm). IsFilled (IsTermOf machine.heap meaning) leaf x) (sym is) tt)
+      let is : t ≡ terms.leaf = array_filled deep (meaning id) t d.object d.place d.names d.stands
+      (λ g. ap (term_of_object g) d.holds.is) f in
+      subst (λ (x : Pattern). IsFilled (IsTermOf machine.heap meaning) x t) (some_is (some_is e))
+      (subst (λ (x : HeapTerm). IsFilled (IsTermOf machine.heap meaning) leaf x) (sym is) tt)
   cell_unfolded depth ih deep id (Unk bound nullable shape) p t d e dag f =
-      subst (λ (x : Pattern). IsFilled (IsTermOf machine.heap meaning) x t) (some_is (some_is e)) (record { acyclic = dag; depth = deep; is = f })
+      subst (λ (x : Pattern). IsFilled (IsTermOf machine.heap meaning) x t) (some_is (some_is e))
+      (record { acyclic = dag; depth = deep; is = f })
 
-  pub unfolded : (depth deep id : ℕ) (p : Pattern) (t : HeapTerm) → pattern_within depth state id ≡ Some (Some p) → IsDag machine.heap (meaning id) →
+  pub unfolded : (depth deep id : ℕ) (p : Pattern) (t : HeapTerm) → pattern_within depth state id ≡ Some (Some p)
+      → IsDag machine.heap (meaning id) →
       term_within deep machine.heap (meaning id) ≡ Some t → IsFilled (IsTermOf machine.heap meaning) p t
   unfolded zero deep id p t e dag f = absurd (none-some (Some p) e)
   unfolded (suc depth) deep id p t e dag f =

@@ -37,7 +37,8 @@ is_tame (Unk bound nullable Tree) e s = cc
 is_tame (Unk bound nullable Dag) e s = cc
 is_tame (Unk bound nullable Any) e s = false≢true e
 
-is_variable : (f : ℕ → Option (Option Pattern)) (id : ℕ) (cell : Cell) → is_size_variable cell ≡ true → pattern_of_cell f id cell ≡ Some (Some (variable id))
+is_variable : (f : ℕ → Option (Option Pattern)) (id : ℕ) (cell : Cell) → is_size_variable cell ≡ true
+    → pattern_of_cell f id cell ≡ Some (Some (variable id))
 is_variable f id (Int interval) e = absurd (false≢true e)
 is_variable f id Null e = absurd (false≢true e)
 is_variable f id (Obj class ids) e = absurd (false≢true e)
@@ -47,20 +48,24 @@ is_variable f id (Unk bound nullable shape) e = refl
 
 -- ---- paths where no step leads on
 
-stays : (steps : Steps) (a : ℕ) → ((i : ℕ) → steps a i ≡ None) → (path : List ℕ) (b : ℕ) → follow steps path a ≡ Some b → (path ≡ []) × (a ≡ b)
+stays : (steps : Steps) (a : ℕ) → ((i : ℕ) → steps a i ≡ None) → (path : List ℕ) (b : ℕ) → follow steps path a ≡ Some b
+    → (path ≡ []) × (a ≡ b)
 stays steps a h [] b e = (refl, some_is e)
 stays steps a h (i ∷ path) b e = absurd (none-some b (sym (ap (option_and_then (follow steps path)) (h i)) ∙ e))
 
 module _ (state : AbstractState) (id : ℕ) (h : HasCell is_size_variable state id) where
   no_step : (i : ℕ) → cell_steps state id i ≡ None
-  no_step i = ap (option_and_then (λ (cell : Cell). slice_get (ids_of cell) i)) h.is ∙ ap (λ (ids : List ℕ). slice_get ids i) (names_nothing h.cell h.sort_is)
+  no_step i = ap (option_and_then (λ (cell : Cell). slice_get (ids_of cell) i)) h.is
+      ∙ ap (λ (ids : List ℕ). slice_get ids i) (names_nothing h.cell h.sort_is)
 
   no_counted : (i : ℕ) → counted_steps state id i ≡ None
   no_counted i = ap (option_and_then (counted state)) (no_step i)
 
   finite : IsFiniteId state id
   finite = record {
-    acyclic = λ p b e q f. (stays (counted_steps state) id no_counted q b (subst (λ (x : ℕ). follow (counted_steps state) q x ≡ Some b) (sym (stays (counted_steps state) id no_counted p b e).1) f)).0;
+    acyclic = λ p b e q f.
+        (stays (counted_steps state) id no_counted q b
+        (subst (λ (x : ℕ). follow (counted_steps state) q x ≡ Some b) (sym (stays (counted_steps state) id no_counted p b e).1) f)).0;
     hazy = λ q cell k c s.
         let at = (stays (cell_steps state) id no_step k.path q k.leads).1 in
         let same = one_answer (cell_at state q) h.cell cell (subst (λ (x : ℕ). cell_at state x ≡ Some h.cell) at h.is) c in
@@ -68,7 +73,11 @@ module _ (state : AbstractState) (id : ℕ) (h : HasCell is_size_variable state 
   }
 
   pattern : IsPattern state id (variable id)
-  pattern = record { depth = suc zero; is = ap (option_and_then (pattern_of_cell (pattern_within zero state) id)) h.is ∙ is_variable (pattern_within zero state) id h.cell h.sort_is }
+  pattern = record {
+    depth = suc zero;
+    is = ap (option_and_then (pattern_of_cell (pattern_within zero state) id)) h.is
+        ∙ is_variable (pattern_within zero state) id h.cell h.sort_is;
+  }
 
 pub variables_sized : SizeVariablesAreSized
 variables_sized state id h = record {

@@ -1,5 +1,6 @@
 -- What a term weighs that fills a pattern, and what sizes by lists of weights tell of that.
-use Rattle.std.proofs.Common.{◌≡◌, ℕ, zero, suc, ◌+◌, ◌<◌, ◌≤◌, List, [], ◌∷◌, ◌++◌, get_or, ℤ, pos, negsuc, ◌+ℤ◌, sym, ap, arith, refl, ◌∙◌}
+use Rattle.std.proofs.Common.{◌≡◌, ℕ, zero, suc, ◌+◌, ◌<◌, ◌≤◌, List, [], ◌∷◌, ◌++◌, get_or, ℤ, pos, negsuc, ◌+ℤ◌, sym, ap, arith}
+use Rattle.std.proofs.Common.{refl, ◌∙◌}
 use Rattle.std.specs.Prelude.{All, ◌≤ℤ◌, slice_index, unsigned_abs}
 use Rattle.std.proofs.lemmas.Int.{ints}
 use Rattle.std.proofs.lemmas.List.Elements.{All-head}
@@ -30,18 +31,21 @@ module _ (weigh numbers : ℕ → ℤ) (heap : Heap) (meaning : Meaning) where
   IsNumber id = Weighs weigh heap (meaning id) (numbers id)
 
   mutual
-    pub weighed : (pattern : Pattern) (term : HeapTerm) → IsFilled (IsTermOf heap meaning) pattern term → All IsNumber (variables_in pattern) →
+    pub weighed : (pattern : Pattern) (term : HeapTerm) → IsFilled (IsTermOf heap meaning) pattern term
+        → All IsNumber (variables_in pattern) →
         weight_of weigh term ≡ sum_over numbers (variables_in pattern) +ℤ sum_over weigh (classes_in pattern)
     weighed null term h all = ap (weight_of weigh) (null_filled (IsTermOf heap meaning) term h)
     weighed leaf term h all = ap (weight_of weigh) (leaf_filled (IsTermOf heap meaning) term h)
     weighed (node class below) term h all =
         let n = node_filled (IsTermOf heap meaning) class below term h in
-        ap (weight_of weigh) n.1.0 ∙ on_top (weigh class) (weights_of weigh n.0) (sum_over numbers (variables_among below)) (sum_over weigh (classes_among below)) (all_weighed below n.0 n.1.1 all)
+        ap (weight_of weigh) n.1.0 ∙ on_top (weigh class) (weights_of weigh n.0) (sum_over numbers (variables_among below))
+        (sum_over weigh (classes_among below)) (all_weighed below n.0 n.1.1 all)
     weighed (variable id) term h all =
         let w = All-head IsNumber id [] all in
         ap (weight_of weigh) (one_term heap (meaning id) term w.term h w.is) ∙ sym w.number_is ∙ alone (numbers id)
 
-    pub all_weighed : (patterns : Patterns) (children : HeapTerms) → AreFilled (IsTermOf heap meaning) patterns children → All IsNumber (variables_among patterns) →
+    pub all_weighed : (patterns : Patterns) (children : HeapTerms) → AreFilled (IsTermOf heap meaning) patterns children
+        → All IsNumber (variables_among patterns) →
         weights_of weigh children ≡ sum_over numbers (variables_among patterns) +ℤ sum_over weigh (classes_among patterns)
     all_weighed none children h all = ap (weights_of weigh) (none_filled (IsTermOf heap meaning) children h)
     all_weighed (more pattern rest) children h all =
@@ -49,9 +53,11 @@ module _ (weigh numbers : ℕ → ℤ) (heap : Heap) (meaning : Meaning) where
         let a = all_split IsNumber (variables_in pattern) (variables_among rest) all in
         ap (weights_of weigh) m.2.0
         ∙ add_up (sum_over numbers (variables_in pattern)) (sum_over weigh (classes_in pattern)) (sum_over numbers (variables_among rest))
-        (sum_over weigh (classes_among rest)) (weight_of weigh m.0) (weights_of weigh m.1) (sum_over numbers (variables_in pattern ++ variables_among rest))
+        (sum_over weigh (classes_among rest)) (weight_of weigh m.0) (weights_of weigh m.1)
+        (sum_over numbers (variables_in pattern ++ variables_among rest))
         (sum_over weigh (classes_in pattern ++ classes_among rest))
-        (weighed pattern m.0 m.2.1.0 a.0) (all_weighed rest m.1 m.2.1.1 a.1) (sum_both numbers (variables_in pattern) (variables_among rest))
+        (weighed pattern m.0 m.2.1.0 a.0) (all_weighed rest m.1 m.2.1.1 a.1)
+        (sum_both numbers (variables_in pattern) (variables_among rest))
         (sum_both weigh (classes_in pattern) (classes_among rest))
 
 -- ---- sizes by lists of weights
@@ -64,9 +70,11 @@ module _ (weights : List ℕ) where
     pub size_weighs : (term : HeapTerm) → pos (size_of weights term) ≡ weight_of (λ (class : ℕ). pos (slice_index weights class)) term
     size_weighs terms.null = refl
     size_weighs terms.leaf = refl
-    size_weighs (terms.node class children) = pos_sum (slice_index weights class) (sizes_of weights children) ∙ ap (λ (z : ℤ). pos (slice_index weights class) +ℤ z) (sizes_weigh children)
+    size_weighs (terms.node class children) = pos_sum (slice_index weights class) (sizes_of weights children)
+        ∙ ap (λ (z : ℤ). pos (slice_index weights class) +ℤ z) (sizes_weigh children)
 
-    sizes_weigh : (children : HeapTerms) → pos (sizes_of weights children) ≡ weights_of (λ (class : ℕ). pos (slice_index weights class)) children
+    sizes_weigh : (children : HeapTerms)
+        → pos (sizes_of weights children) ≡ weights_of (λ (class : ℕ). pos (slice_index weights class)) children
     sizes_weigh terms.none = refl
     sizes_weigh (terms.more term rest) =
         pos_sum (size_of weights term) (sizes_of weights rest)
@@ -116,7 +124,8 @@ module _ (weigh : ℕ → ℤ) (positive : (class : ℕ) → pos 0 ≤ℤ weigh 
         ∙ ap (λ (z : ℤ). z +ℤ pos (sizes_of (weights_to n) children)) (weight_at n class (omega (arith, l)))
         ∙ ap (λ (z : ℤ). weigh class +ℤ z) (sized_weights n children (omega (arith, l)))
 
-    sized_weights : (n : ℕ) (children : HeapTerms) → all_above children ≤ n → pos (sizes_of (weights_to n) children) ≡ weights_of weigh children
+    sized_weights : (n : ℕ) (children : HeapTerms) → all_above children ≤ n
+        → pos (sizes_of (weights_to n) children) ≡ weights_of weigh children
     sized_weights n terms.none l = refl
     sized_weights n (terms.more term rest) l =
         pos_sum (size_of (weights_to n) term) (sizes_of (weights_to n) rest)

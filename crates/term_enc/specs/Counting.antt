@@ -62,4 +62,5 @@ IsAnswer depth cells id answer = (given : Option Pattern) → pattern_in depth c
 
 -- it is what is answered, where it has at most so many parts
 abbrev pub IsSmallAnswer : ℕ → List (ℕ × Cell) → ℕ → Option PatternTerm → Type 0
-IsSmallAnswer most cells id answer = (given : Option Pattern) → IsGiven cells id given → count_given given ≤ most → given ≡ option_map pattern_of answer
+IsSmallAnswer most cells id answer = (given : Option Pattern) → IsGiven cells id given → count_given given ≤ most
+    → given ≡ option_map pattern_of answer

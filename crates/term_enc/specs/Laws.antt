@@ -29,7 +29,8 @@ pub record IsSizedBy (state : AbstractState) (id : ℕ) (pattern : Pattern) : Ty
 
 -- each variable of a pattern has as its number what the term of its value weighs
 abbrev pub HaveWeights : (ℕ → ℤ) → MachineState → Meaning → (ℕ → ℤ) → (ℕ → ℕ) → Pattern → Type 0
-HaveWeights weigh machine meaning numbers place pattern = All (λ (id : ℕ). Weighs weigh machine.heap (meaning id) (numbers (place id))) (variables_in pattern)
+HaveWeights weigh machine meaning numbers place pattern = All
+    (λ (id : ℕ). Weighs weigh machine.heap (meaning id) (numbers (place id))) (variables_in pattern)
 
 -- no class weighs less than nothing
 abbrev pub IsWeighing : (ℕ → ℤ) → Type 0
@@ -58,7 +59,8 @@ SizesAreOfPatterns =
 
 -- The size of a term by a list of weights is what it weighs by them.
 abbrev pub SizesAreWeights : Type 0
-SizesAreWeights = (weights : List ℕ) (term : HeapTerm) → pos (size_of weights term) ≡ weight_of (λ (class : ℕ). pos (slice_index weights class)) term
+SizesAreWeights = (weights : List ℕ) (term : HeapTerm)
+    → pos (size_of weights term) ≡ weight_of (λ (class : ℕ). pos (slice_index weights class)) term
 
 -- Over an edge to a child, a variable that is the size of an id is the size of the pattern of the id that stands for it in the child:
 -- the row holds, whatever the classes weigh.

@@ -1,5 +1,6 @@
 //! Laws about the terms and sizes of sized ids, for the proofs of other crates. They run nothing.
-ghost use Rattle.term_enc.specs.Laws.{SizeVariablesAreSized, TermsFillPatterns, SizesAreOfPatterns, SizesAreWeights, EdgeSizesAreRows, InstanceSizesAreRows};
+ghost use Rattle.term_enc.specs.Laws.{SizeVariablesAreSized, TermsFillPatterns, SizesAreOfPatterns, SizesAreWeights};
+ghost use Rattle.term_enc.specs.Laws.{EdgeSizesAreRows, InstanceSizesAreRows};
 
 /// An id whose size is a variable is sized, and its pattern is that variable.
 pub fn size_variables_are_sized()

@@ -69,13 +69,16 @@ id_after (Some merged) id = if merged.0 == id then merged.1 else id
 
 -- an edge from a state to its child: an id that is an int's in both has one value, the link's rows hold, and each size
 -- that is a variable of the state is the size of the child's id for it, where the child has that id and it is sized
-pub record Edge (state : AbstractState) (machine : MachineState) (meaning : Meaning) (link : Link) (child : AbstractState) (machine_after : MachineState) (meaning_after : Meaning) : Type 0 where
+pub record Edge (state : AbstractState) (machine : MachineState) (meaning : Meaning) (link : Link) (child : AbstractState)
+    (machine_after : MachineState) (meaning_after : Meaning) : Type 0 where
   pub ints : (id : ℕ) → HasCell is_int state id → HasCell is_int child id → meaning_after id ≡ meaning id
   pub rows : All (HoldsBetween meaning meaning_after) link.rows
-  pub sizes : (id : ℕ) → HasCell is_size_variable state id → IsSized child (id_after link.merged id) → HasSameSize machine.heap (meaning id) machine_after.heap (meaning_after (id_after link.merged id))
+  pub sizes : (id : ℕ) → HasCell is_size_variable state id → IsSized child (id_after link.merged id)
+      → HasSameSize machine.heap (meaning id) machine_after.heap (meaning_after (id_after link.merged id))
 
 -- an edge from a state to the one of which it is an instance: each id there has its image's value, and the machine's state
 -- is the same. A map lists each id of the target with its image
-pub record InstanceEdge (map : List (ℕ × ℕ)) (machine : MachineState) (meaning : Meaning) (machine_after : MachineState) (meaning_after : Meaning) : Type 0 where
+pub record InstanceEdge (map : List (ℕ × ℕ)) (machine : MachineState) (meaning : Meaning) (machine_after : MachineState)
+    (meaning_after : Meaning) : Type 0 where
   pub same : machine_after ≡ machine
   pub images : All (λ entry. meaning_after entry.0 ≡ meaning entry.1) map

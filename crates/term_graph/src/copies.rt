@@ -22,7 +22,11 @@ pub fn copied_state<P: Pairs>(alloc: Global, state: &AbsState<P>) -> Result<AbsS
 }
 
 /// The same way to leave a node once more.
-fn copied_by(alloc: Global, by: &By) -> Result<By, AllocError>
+///
+/// # Errors
+///
+/// Want of memory.
+pub fn copied_by(alloc: Global, by: &By) -> Result<By, AllocError>
     ensures { IfOk result (λ copy. copy ≡ by.now) }
 {
     Ok(match by {

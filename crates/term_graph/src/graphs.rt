@@ -2,7 +2,7 @@
 ghost use Rattle.std.specs.Prelude.{◌≡◌, ◌<◌, ◌-◌, ◌^◌, ◌++◌, ◌∷◌, [], length, Some, slice_get, IfOk, OnOk, OnErr};
 ghost use Rattle.term_graph.specs.Graphs.{left_by};
 
-use crate::copies::copied_node;
+use crate::copies::{copied_by, copied_node};
 use crate::nodes::{By, Node};
 use crate::sources::NodeSource;
 use abs_cells::Pairs;
@@ -87,5 +87,9 @@ impl<P: Pairs> NodeSource<P> for Graph<P> {
 
     fn node(&mut self, alloc: Global, n: u32) -> Result<Node<P>, AllocError> {
         copied_node(alloc, self.at(n))
+    }
+
+    fn by(&mut self, alloc: Global, n: u32) -> Result<By, AllocError> {
+        copied_by(alloc, self.at(n).by())
     }
 }

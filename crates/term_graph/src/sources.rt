@@ -1,8 +1,9 @@
 //! Sources of nodes.
 ghost use Rattle.std.specs.Prelude.{◌≡◌, ◌<◌, List, length, Some, slice_get, IfOk};
+ghost use Rattle.std.specs.Option.{option_map};
 ghost use Rattle.term_graph.specs.Graphs.{GraphNode};
 
-use crate::nodes::Node;
+use crate::nodes::{By, Node};
 use abs_cells::Pairs;
 use std::alloc::{AllocError, Global};
 
@@ -23,5 +24,15 @@ pub trait NodeSource<P: Pairs>: Drop {
     fn node(&mut self, alloc: Global, n: u32) -> Result<Node<P>, AllocError>
         requires { n < length (graph self.old) }
         ensures node { IfOk result (λ node. slice_get (graph self.old) n ≡ Some node) }
+        ensures same { graph self.new ≡ graph self.old };
+
+    /// How the node of a number is left, as a value of the caller's own: what [`NodeSource::node`] gives, without the state.
+    ///
+    /// # Errors
+    ///
+    /// Want of memory.
+    fn by(&mut self, alloc: Global, n: u32) -> Result<By, AllocError>
+        requires { n < length (graph self.old) }
+        ensures by { IfOk result (λ by. option_map (λ node. node.by) (slice_get (graph self.old) n) ≡ Some by) }
         ensures same { graph self.new ≡ graph self.old };
 }

@@ -7,7 +7,8 @@ use Rattle.abs_cells.proofs.checks.is_well_named.Goals as goal
 pub returns-then-has_used : goal.returns-then-has_used
 returns-then-has_used g c =
     let set = λ (n : ℕ). c.ids_of_sort.ensures n ∙ ap (λ xs. is_of_sort (λ _. true) (cell_in xs n)) c.cells.ensures in (
-      λ h. let parts = c.pairs_fit.ensures.0 h in well c.args.state.now c.ids_of_sort.result c.requires set (sym c.has_used.ensures ∙ c.if-has_used.true) parts.0 parts.1,
+      λ h. let parts = c.pairs_fit.ensures.0 h in well c.args.state.now c.ids_of_sort.result c.requires set
+          (sym c.has_used.ensures ∙ c.if-has_used.true) parts.0 parts.1,
       λ h. c.pairs_fit.ensures.1 (h.shared, joins_all c.args.state.now h),
     )
 

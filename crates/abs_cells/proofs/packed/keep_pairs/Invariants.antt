@@ -4,5 +4,6 @@ use Rattle.abs_cells.proofs.packed.keep_pairs.Given as goal
 abbrev pub invariant-loop-a : goal.invariant-loop-a
 invariant-loop-a l = record {
   packed : ArePacked l.packed.slots.items l.packed.count l.packed.words.items;
-  pairs : IsKeptTo l.ids (pairs_in l.initial.packed.slots.items l.initial.packed.words.items) (pairs_in l.packed.slots.items l.packed.words.items) l.a;
+  pairs : IsKeptTo l.ids (pairs_in l.initial.packed.slots.items l.initial.packed.words.items)
+      (pairs_in l.packed.slots.items l.packed.words.items) l.a;
 }

@@ -7,5 +7,6 @@ overflow_mul-result c = omega (arith, row_formula c.args.slot, few_words c.args.
 
 pub returns : goal.returns
 returns c =
-    ap (λ (x : ℕ). (x / 64 + 1) * (32 * (x / 64) + c.from.result % 64)) c.from-block.ensures ∙ ap (λ (y : ℕ). (c.args.slot / 64 + 1) * (32 * (c.args.slot / 64) + y % 64)) c.from.ensures
+    ap (λ (x : ℕ). (x / 64 + 1) * (32 * (x / 64) + c.from.result % 64)) c.from-block.ensures
+    ∙ ap (λ (y : ℕ). (c.args.slot / 64 + 1) * (32 * (c.args.slot / 64) + y % 64)) c.from.ensures
     ∙ row_formula c.args.slot

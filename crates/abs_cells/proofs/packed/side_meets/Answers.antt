@@ -9,7 +9,8 @@ pub row_meets-requires-clause-within : goal.row_meets-requires-clause-within
 row_meets-requires-clause-within c = omega (arith, later_row c.loop-slot.slot c.args.count c.loop-slot-test.true, c.requires.within)
 
 pub loop-slot-preserved : goal.loop-slot-preserved
-loop-slot-preserved c = side_more c.args.words.now c.args.xs.now c.args.ys.now c.loop-slot.slot c.loop-slot.invariant (elim c.else-has.branch [
-  | else-has-via-then-has+else-row_meets w ↦ λ _ m. w.row_meets.ensures.no w.if-row_meets.false m
-  | else-has-via-else-has w ↦ λ h _. false≢true (sym w.if-has.false ∙ c.has.ensures ∙ h)
-])
+loop-slot-preserved c = side_more c.args.words.now c.args.xs.now c.args.ys.now c.loop-slot.slot c.loop-slot.invariant
+    (elim c.else-has.branch [
+      | else-has-via-then-has+else-row_meets w ↦ λ _ m. w.row_meets.ensures.no w.if-row_meets.false m
+      | else-has-via-else-has w ↦ λ h _. false≢true (sym w.if-has.false ∙ c.has.ensures ∙ h)
+    ])

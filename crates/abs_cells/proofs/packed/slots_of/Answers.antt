@@ -8,11 +8,14 @@ use Rattle.abs_cells.proofs.packed.slots_of.Goals.{in-Some+then-has, in-Some+els
 pub loop-id-preserved : goal.loop-id-preserved
 loop-id-preserved c = elim c.match-slot_of.branch [
   | in-Some+then-has w ↦
-      rw w.found-is (found_more c.args.slots.now c.args.set.now c.loop-id.found w.put.new.self c.loop-id.id w.in-Some.slot c.loop-id.invariant (sym c.slot_of.ensures ∙ w.in-Some.is) (sym w.has.ensures ∙ w.if-has.true) w.put.ensures)
+      rw w.found-is (found_more c.args.slots.now c.args.set.now c.loop-id.found w.put.new.self c.loop-id.id w.in-Some.slot
+      c.loop-id.invariant (sym c.slot_of.ensures ∙ w.in-Some.is) (sym w.has.ensures ∙ w.if-has.true) w.put.ensures)
   | in-Some+else-has w ↦
-      rw w.found-is (found_same c.args.slots.now c.args.set.now c.loop-id.found c.loop-id.id c.loop-id.invariant (λ s e h. false≢true (sym w.if-has.false ∙ w.has.ensures ∙ h)))
+      rw w.found-is (found_same c.args.slots.now c.args.set.now c.loop-id.found c.loop-id.id c.loop-id.invariant
+      (λ s e h. false≢true (sym w.if-has.false ∙ w.has.ensures ∙ h)))
   | in_default w ↦
-      rw w.found-is (found_same c.args.slots.now c.args.set.now c.loop-id.found c.loop-id.id c.loop-id.invariant (λ s e h. none-some s (sym w.in_default.is ∙ c.slot_of.ensures ∙ e)))
+      rw w.found-is (found_same c.args.slots.now c.args.set.now c.loop-id.found c.loop-id.id c.loop-id.invariant
+      (λ s e h. none-some s (sym w.in_default.is ∙ c.slot_of.ensures ∙ e)))
 ]
 
 pub returns-clause-all : goal.returns-clause-all

@@ -31,8 +31,8 @@ returns g c =
     let is = changed_as state c.new.result changed c.in_ok-cells.cells c.cells.result.now set frames c.args.throwing _ _ _ _
     c.new.ensures c.in_ok-cells.ensures c.cells.ensures c.in_ok-eq.ensures
     c.eq-equal.ensures c.in_ok-share.ensures c.share-shared.ensures in
-    let re : IsRising state.eq = subst IsRising c.eq-equal.ensures c.nth-equal.ensures.rising in
-    let rs : IsRising state.share = subst IsRising c.share-shared.ensures c.nth-shared.ensures.rising in
+    let re : IsRising state.eq = subst IsRising c.eq-equal.ensures c.rise.ensures in
+    let rs : IsRising state.share = subst IsRising c.share-shared.ensures c.rise-2.ensures in
     record {
       given =
           subst (IsGiven frames c.args.throwing (with_cells changed state) (AreEqual state) (Share state)) (sym is)

@@ -25,8 +25,8 @@ returns g c =
     c.in_ok-cells.cells (inserted id cell state.cells) _ _ _ _ c.new.ensures
     c.in_ok-frames.ensures c.frames.ensures refl c.throwing.ensures cells c.in_ok-eq.ensures c.eq-equal.ensures c.in_ok-share.ensures
     c.share-shared.ensures in
-    let re : IsRising state.eq = subst IsRising c.eq-equal.ensures c.nth-equal.ensures.rising in
-    let rs : IsRising state.share = subst IsRising c.share-shared.ensures c.nth-shared.ensures.rising in
+    let re : IsRising state.eq = subst IsRising c.eq-equal.ensures c.rise.ensures in
+    let rs : IsRising state.share = subst IsRising c.share-shared.ensures c.rise-2.ensures in
     record {
       made =
           subst (λ (s : AbstractState). AreFresh state (id ∷ []) × IsGiven state.frames state.throwing

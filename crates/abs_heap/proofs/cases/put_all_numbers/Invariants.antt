@@ -4,4 +4,7 @@ use Rattle.abs_heap.specs.Splitting.{numbers_among, AddsCases}
 use Rattle.abs_heap.proofs.cases.put_all_numbers.Given as goal
 
 abbrev pub invariant-loop-kind : goal.invariant-loop-kind
-invariant-loop-kind g l = AddsCases (world_types (g.T.Types.sub l.types) (g.T.Types.erase l.types) (g.T.Types.classes l.types) (g.T.Types.fields l.types) (g.T.Types.can_be_made l.types)) l.state l.x l.shape (numbers_among (world_types (g.T.Types.sub l.types) (g.T.Types.erase l.types) (g.T.Types.classes l.types) (g.T.Types.fields l.types) (g.T.Types.can_be_made l.types)) l.bound (take l.kind-index l.kinds)) l.initial.children l.children
+invariant-loop-kind g l = AddsCases (world_types (g.T.Types.sub l.types) (g.T.Types.erase l.types) (g.T.Types.classes l.types)
+    (g.T.Types.fields l.types) (g.T.Types.can_be_made l.types)) l.state l.x l.shape
+    (numbers_among (world_types (g.T.Types.sub l.types) (g.T.Types.erase l.types) (g.T.Types.classes l.types)
+    (g.T.Types.fields l.types) (g.T.Types.can_be_made l.types)) l.bound (take l.kind-index l.kinds)) l.initial.children l.children

@@ -6,4 +6,5 @@ use Rattle.abs_heap.proofs.Choosing.{chosen}
 use Rattle.abs_heap.proofs.compatible.compatible_ids.Given as goal
 
 abbrev pub invariant-loop-other : goal.invariant-loop-other
-invariant-loop-other g l = (n : ℕ) → has_id l.ids n ≡ list_any (chosen (are_compatible (g.T.Types.sub l.types) l.cell) l.others n) (take l.other-index l.cells)
+invariant-loop-other g l = (n : ℕ) → has_id l.ids n ≡ list_any (chosen (are_compatible (g.T.Types.sub l.types) l.cell) l.others n)
+    (take l.other-index l.cells)

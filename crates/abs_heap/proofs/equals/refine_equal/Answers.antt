@@ -15,7 +15,8 @@ equal_children-requires-clause-low g c =
 pub unreachable-requires : goal.unreachable-requires
 unreachable-requires g c =
     let h = pair_there c.args.state.now c.args.x c.args.y c.requires.good c.requires.pair c.requires.differ in
-    none-some h.1.cell (sym c.in-None-cell_of.ensures ∙ ap (λ (cs : List (ℕ × Cell)). cell_in cs c.args.y) c.cells-in-Some.ensures ∙ h.1.is)
+    none-some h.1.cell (sym c.in-None-cell_of.ensures ∙ ap (λ (cs : List (ℕ × Cell)). cell_in cs c.args.y) c.cells-in-Some.ensures
+    ∙ h.1.is)
 
 pub unreachable-requires-in-None : goal.unreachable-requires-in-None
 unreachable-requires-in-None g c =

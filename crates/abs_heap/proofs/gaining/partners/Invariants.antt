@@ -1,10 +1,8 @@
-use Rattle.std.proofs.Common.{◌≡◌, ◌-◌, ℕ, take, length}
+use Rattle.std.proofs.Common.{◌≡◌, ◌<◌, ◌≤◌, ℕ, false}
 use Rattle.abs_cells.specs.PairLists.{has}
 use Rattle.abs_cells.specs.IdSets.{has_id}
 use Rattle.abs_heap.proofs.gaining.partners.Given as goal
 
-abbrev pub invariant-loop-a : goal.invariant-loop-a
-invariant-loop-a g l = (m : ℕ) → has_id l.set m ≡ has l.id m (take l.n (g.P.Pairs.pairs l.pairs))
-
-abbrev pub decreases-loop-a : goal.decreases-loop-a
-decreases-loop-a g l = length (g.P.Pairs.pairs l.pairs) - l.n
+abbrev pub invariant-loop-other : goal.invariant-loop-other
+invariant-loop-other g l =
+    (m : ℕ) → (m < l.other → has_id l.set m ≡ has l.id m (g.P.Pairs.pairs l.pairs)) × (l.other ≤ m → has_id l.set m ≡ false)

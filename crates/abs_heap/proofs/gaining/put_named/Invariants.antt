@@ -5,7 +5,9 @@ use Rattle.abs_heap.specs.Names.{name_in, IsImage}
 use Rattle.abs_heap.proofs.gaining.put_named.Given as goal
 
 abbrev pub invariant-loop-a : goal.invariant-loop-a
-invariant-loop-a g l = Gains l.cells (IsImage (name_in l.names) (λ x y. has x y (take l.n (g.P.Pairs.pairs l.old)) ≡ true)) (g.P.Pairs.pairs l.initial.pairs) (g.P.Pairs.pairs l.pairs)
+invariant-loop-a g l =
+    Gains l.cells (IsImage (name_in l.names) (λ x y. has x y (take l.n l.old) ≡ true)) (g.P.Pairs.pairs l.initial.pairs)
+    (g.P.Pairs.pairs l.pairs)
 
 abbrev pub decreases-loop-a : goal.decreases-loop-a
-decreases-loop-a g l = length (g.P.Pairs.pairs l.old) - l.n
+decreases-loop-a g l = length l.old - l.n

@@ -5,4 +5,5 @@ use Rattle.abs_heap.proofs.FieldCells.{entry_by}
 use Rattle.abs_heap.proofs.instances.put_fields.Given as goal
 
 abbrev pub invariant-loop-place : goal.invariant-loop-place
-invariant-loop-place g l = IsOver l.initial.cells.items (map (entry_by (cell_of_slot (g.T.Types.erase l.types) l.shape)) (take l.place (zip l.ids l.slots))) l.cells.items
+invariant-loop-place g l = IsOver l.initial.cells.items
+    (map (entry_by (cell_of_slot (g.T.Types.erase l.types) l.shape)) (take l.place (zip l.ids l.slots))) l.cells.items

@@ -14,4 +14,6 @@ returns-then-place-cells c = (
 pub returns : goal.returns
 returns c =
     let low : c.args.place < length c.args.cells.now = omega (arith, c.if-place-cells.false) in
-    id_at c.args.cells.now c.args.place c.args.id (get_or c.args.cells.now c.args.place c.index-cells-place.result) low (get_or_default c.args.cells.now c.args.place c.index-cells-place.result (get_or c.args.cells.now c.args.place c.index-cells-place.result) low)
+    id_at c.args.cells.now c.args.place c.args.id (get_or c.args.cells.now c.args.place c.index-cells-place.result) low
+    (get_or_default c.args.cells.now c.args.place c.index-cells-place.result
+    (get_or c.args.cells.now c.args.place c.index-cells-place.result) low)

@@ -5,7 +5,7 @@ use Rattle.abs_heap.specs.Renaming.{is_beside}
 use Rattle.abs_heap.proofs.rewriting.ids_beside.Given as goal
 
 abbrev pub invariant-loop-a : goal.invariant-loop-a
-invariant-loop-a g l = (m : ℕ) → has_id l.set m ≡ list_any (is_beside l.others m) (take l.n (g.P.Pairs.pairs l.pairs))
+invariant-loop-a l = (m : ℕ) → has_id l.set m ≡ list_any (is_beside l.others m) (take l.n l.pairs)
 
 abbrev pub decreases-loop-a : goal.decreases-loop-a
-decreases-loop-a g l = length (g.P.Pairs.pairs l.pairs) - l.n
+decreases-loop-a l = length l.pairs - l.n

@@ -5,4 +5,5 @@ use Rattle.abs_ints.proofs.Making.{made}
 use Rattle.abs_ints.proofs.int_intervals.above.Goals as goal
 
 pub returns : goal.returns
-returns c = made c.new.result c.max.result c.hi.result (int_max c.args.a.lo (c.args.b.lo +ℤ pos 1)) c.args.a.hi c.new.ensures (omega (arith, ints, clamps, c.in_ok-limit.ensures)) (omega (arith, ints, clamps))
+returns c = made c.new.result c.max.result c.hi.result (int_max c.args.a.lo (c.args.b.lo +ℤ pos 1)) c.args.a.hi c.new.ensures
+    (omega (arith, ints, clamps, c.in_ok-limit.ensures)) (omega (arith, ints, clamps))

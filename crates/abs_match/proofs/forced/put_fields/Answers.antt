@@ -11,7 +11,12 @@ returns-in_default c = no_fields c.args.ids.now c.args.below.now c.in_default.en
 pub returns : goal.returns
 returns c =
     IfOk-weaker c.put_all.result
-    (λ r. MatchBool r ((length c.args.ids.now ≡ length c.as_slice.result.now) × (c.put_all.new.todo.0 ≡ stacked c.args.ids.now c.as_slice.result.now c.args.todo.now.0)) (length c.args.ids.now ≡ length c.as_slice.result.now → ⊥))
-    (λ r. MatchBool r (ArePut (fields_ask c.args.ids.now c.args.below.now) c.args.ids.now c.args.todo.now.0 c.put_all.new.todo.0 × (length c.put_all.new.todo.0 ≤ length c.args.todo.now.0 + length c.args.ids.now)) (NoneDoes (fields_ask c.args.ids.now c.args.below.now)))
-    (λ r h. fields_put c.args.ids.now c.as_slice.result.now c.args.below.now r c.args.todo.now.0 c.put_all.new.todo.0 (c.in-Some.ensures ∙ ap Some (sym c.as_slice.ensures)) h)
+    (λ r. MatchBool r ((length c.args.ids.now ≡ length c.as_slice.result.now)
+    × (c.put_all.new.todo.0 ≡ stacked c.args.ids.now c.as_slice.result.now c.args.todo.now.0))
+    (length c.args.ids.now ≡ length c.as_slice.result.now → ⊥))
+    (λ r. MatchBool r (ArePut (fields_ask c.args.ids.now c.args.below.now) c.args.ids.now c.args.todo.now.0 c.put_all.new.todo.0
+    × (length c.put_all.new.todo.0 ≤ length c.args.todo.now.0 + length c.args.ids.now))
+    (NoneDoes (fields_ask c.args.ids.now c.args.below.now)))
+    (λ r h. fields_put c.args.ids.now c.as_slice.result.now c.args.below.now r c.args.todo.now.0 c.put_all.new.todo.0
+    (c.in-Some.ensures ∙ ap Some (sym c.as_slice.ensures)) h)
     c.put_all.ensures

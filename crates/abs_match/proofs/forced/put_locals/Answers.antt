@@ -3,13 +3,18 @@ use Rattle.abs_match.proofs.Forcing.{first_none, local_ids, local_fails, local_m
 use Rattle.abs_match.proofs.forced.put_locals.Goals as goal
 
 pub loop-n-init : goal.loop-n-init
-loop-n-init c = first_none (locals_ask c.args.theirs.now c.args.ours.now) (local_ids c.args.theirs.now c.args.ours.now) c.args.theirs.now c.args.todo.now.0
+loop-n-init c = first_none (locals_ask c.args.theirs.now c.args.ours.now) (local_ids c.args.theirs.now c.args.ours.now)
+    c.args.theirs.now c.args.todo.now.0
 
 pub returns-then-not-branch : goal.returns-then-not-branch
-returns-then-not-branch c = local_fails c.args.theirs.now c.args.ours.now c.loop-n.n c.local_at.result c.in_ok-put_place.field-0 c.loop-n.todo.0 c.put_place.new.todo.0 c.loop-n-test.true c.local_at.ensures c.if-not-branch.true c.in_ok-put_place.ensures.puts
+returns-then-not-branch c = local_fails c.args.theirs.now c.args.ours.now c.loop-n.n c.local_at.result c.in_ok-put_place.field-0
+    c.loop-n.todo.0 c.put_place.new.todo.0 c.loop-n-test.true c.local_at.ensures c.if-not-branch.true c.in_ok-put_place.ensures.puts
 
 pub loop-n-preserved : goal.loop-n-preserved
-loop-n-preserved c = local_more c.args.theirs.now c.args.ours.now c.loop-n.n c.local_at.result c.in_ok-put_place.field-0 c.args.todo.now.0 c.loop-n.todo.0 c.put_place.new.todo.0 c.loop-n-test.true c.local_at.ensures c.if-not-branch.false c.loop-n.invariant c.in_ok-put_place.ensures.puts
+loop-n-preserved c = local_more c.args.theirs.now c.args.ours.now c.loop-n.n c.local_at.result c.in_ok-put_place.field-0
+    c.args.todo.now.0 c.loop-n.todo.0 c.put_place.new.todo.0 c.loop-n-test.true c.local_at.ensures c.if-not-branch.false
+    c.loop-n.invariant c.in_ok-put_place.ensures.puts
 
 pub returns : goal.returns
-returns c = all_locals c.args.theirs.now c.args.ours.now c.loop-n.n c.args.todo.now.0 c.loop-n.todo.0 c.loop-n-test.false c.loop-n.invariant
+returns c = all_locals c.args.theirs.now c.args.ours.now c.loop-n.n c.args.todo.now.0 c.loop-n.todo.0 c.loop-n-test.false
+    c.loop-n.invariant

@@ -5,9 +5,15 @@ use Rattle.abs_match.proofs.places.least_entry.Goals as goal
 
 pub loop-n-preserved : goal.loop-n-preserved
 loop-n-preserved c =
-    let one = as_asked c.args.entries.now _ (slice_get c.args.theirs.now c.loop-n.n) c.entry_at.result (slice_get c.args.ours.now c.loop-n.n) c.unmet.result (entry_is c.args.theirs.now c.loop-n.n c.loop-n-test.true) c.entry_at.ensures c.unmet.ensures in
-    subst (λ (r : Option ℕ). IsLeastOf (FirstMeet (λ n id. slice_get c.args.theirs.now n ≡ Some id → HasImage c.args.entries.now id (slice_get c.args.ours.now n)) (c.loop-n.n + 1)) r) (sym c.lower_of-least.ensures)
-    (next_asked (λ n id. slice_get c.args.theirs.now n ≡ Some id → HasImage c.args.entries.now id (slice_get c.args.ours.now n)) c.loop-n.n c.loop-n.least c.unmet.result c.loop-n.invariant one)
+    let one = as_asked c.args.entries.now _ (slice_get c.args.theirs.now c.loop-n.n) c.entry_at.result
+    (slice_get c.args.ours.now c.loop-n.n) c.unmet.result (entry_is c.args.theirs.now c.loop-n.n c.loop-n-test.true)
+    c.entry_at.ensures c.unmet.ensures in
+    subst (λ (r : Option ℕ). IsLeastOf
+    (FirstMeet (λ n id. slice_get c.args.theirs.now n ≡ Some id
+    → HasImage c.args.entries.now id (slice_get c.args.ours.now n)) (c.loop-n.n + 1)) r) (sym c.lower_of-least.ensures)
+    (next_asked (λ n id. slice_get c.args.theirs.now n ≡ Some id → HasImage c.args.entries.now id (slice_get c.args.ours.now n))
+    c.loop-n.n c.loop-n.least c.unmet.result c.loop-n.invariant one)
 
 pub returns : goal.returns
-returns c = places_past c.args.entries.now (slice_get c.args.theirs.now) (slice_get c.args.ours.now) c.loop-n.n c.loop-n.least (no_entry_past c.args.theirs.now c.loop-n.n c.loop-n-test.false) c.loop-n.invariant
+returns c = places_past c.args.entries.now (slice_get c.args.theirs.now) (slice_get c.args.ours.now) c.loop-n.n c.loop-n.least
+    (no_entry_past c.args.theirs.now c.loop-n.n c.loop-n-test.false) c.loop-n.invariant

@@ -3,4 +3,5 @@ use Rattle.abs_match.specs.Matching.{IsLeastOf, FirstMeet, HasImage}
 use Rattle.abs_match.proofs.places.least_entry.Given as goal
 
 abbrev pub invariant-loop-n : goal.invariant-loop-n
-invariant-loop-n l = IsLeastOf (FirstMeet (λ n id. slice_get l.theirs n ≡ Some id → HasImage l.entries id (slice_get l.ours n)) l.n) l.least
+invariant-loop-n l = IsLeastOf (FirstMeet (λ n id. slice_get l.theirs n ≡ Some id → HasImage l.entries id (slice_get l.ours n)) l.n)
+    l.least

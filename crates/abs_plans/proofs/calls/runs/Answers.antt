@@ -8,5 +8,8 @@ use Rattle.abs_plans.proofs.calls.runs.Goals as goal
 pub returns : goal.returns
 returns g c =
     made_is _ _ c.begins.result
-    (ap (λ (f : AbstractFrame). one_step (moves (f ∷ with_stack c.args.spot.now c.args.spot.now.frame.pc (drop c.args.count c.args.spot.now.frame.stack)))) (c.in_ok-called.ensures ∙ ap (λ (s : List ℕ). called_frame c.args.number c.args.method.now (reverse (take c.args.count s))) c.requires))
+    (ap (λ (f : AbstractFrame). one_step
+    (moves (f ∷ with_stack c.args.spot.now c.args.spot.now.frame.pc (drop c.args.count c.args.spot.now.frame.stack))))
+    (c.in_ok-called.ensures
+    ∙ ap (λ (s : List ℕ). called_frame c.args.number c.args.method.now (reverse (take c.args.count s))) c.requires))
     c.begins.ensures

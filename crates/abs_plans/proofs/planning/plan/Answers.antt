@@ -6,4 +6,6 @@ use Rattle.abs_plans.proofs.MadePlans.{good_is}
 use Rattle.abs_plans.proofs.planning.plan.Goals as goal
 
 pub returns-clause-good : goal.returns-clause-good
-returns-clause-good g c = good_is (types_of (program_of c.args.program.now).world) c.args.state.now _ c.plan_in_frames.result (plan_is_good (program_of c.args.program.now) (typing_at c.args.typing.now) c.args.state.now c.is_good.ensures.good c.requires) c.plan_in_frames.ensures
+returns-clause-good g c = good_is (types_of (program_of c.args.program.now).world) c.args.state.now _ c.plan_in_frames.result
+    (plan_is_good (program_of c.args.program.now) (typing_at c.args.typing.now) c.args.state.now c.is_good.ensures.good c.requires)
+    c.plan_in_frames.ensures

@@ -8,11 +8,13 @@ use Rattle.abs_plans.proofs.planning.plan_running.Goals as goal
 pub returns-in-Some : goal.returns-in-Some
 returns-in-Some g c =
     made_is _ _ c.plan_thrown.result
-    (in_mode (program_of c.args.program.now) (typing_at c.args.typing.now) c.args.state.now (c.args.frame.now ∷ reverse c.args.below.now) (Some c.in-Some.x) c.args.state.now.throwing (sym c.in-Some.ensures))
+    (in_mode (program_of c.args.program.now) (typing_at c.args.typing.now) c.args.state.now
+    (c.args.frame.now ∷ reverse c.args.below.now) (Some c.in-Some.x) c.args.state.now.throwing (sym c.in-Some.ensures))
     (c.plan_thrown.ensures (typing_at c.args.typing.now))
 
 pub returns-in-None : goal.returns-in-None
 returns-in-None g c =
     made_is _ _ c.plan_normal.result
-    (in_mode (program_of c.args.program.now) (typing_at c.args.typing.now) c.args.state.now (c.args.frame.now ∷ reverse c.args.below.now) None c.args.state.now.throwing (sym c.in-None.ensures))
+    (in_mode (program_of c.args.program.now) (typing_at c.args.typing.now) c.args.state.now
+    (c.args.frame.now ∷ reverse c.args.below.now) None c.args.state.now.throwing (sym c.in-None.ensures))
     c.plan_normal.ensures

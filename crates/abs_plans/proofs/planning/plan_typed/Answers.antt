@@ -11,8 +11,12 @@ use Rattle.abs_plans.proofs.planning.plan_typed.Goals as goal
 pub returns-in-Some : goal.returns-in-Some
 returns-in-Some g c =
     made_is _ _ c.plan_of_form.result
-    (with_types (program_of c.args.program.now) (typing_at c.args.typing.now) c.args.state.now c.args.frame.now (reverse c.args.below.now) (form_seen c.args.form.now) c.args.next (typing_at c.args.typing.now c.args.frame.now.method c.args.frame.now.pc) (types_of c.in-Some.types.now) c.place_after-after.result c.new-spot.result
-    (asked_at (typing_at c.args.typing.now) c.method.result c.pc-place.result c.args.frame.now.method c.args.frame.now.pc (Some (types_of c.in-Some.types.now)) c.method.ensures c.pc-place.ensures c.in-Some.ensures)
+    (with_types (program_of c.args.program.now) (typing_at c.args.typing.now) c.args.state.now c.args.frame.now
+    (reverse c.args.below.now) (form_seen c.args.form.now) c.args.next
+    (typing_at c.args.typing.now c.args.frame.now.method c.args.frame.now.pc) (types_of c.in-Some.types.now)
+    c.place_after-after.result c.new-spot.result
+    (asked_at (typing_at c.args.typing.now) c.method.result c.pc-place.result c.args.frame.now.method c.args.frame.now.pc
+    (Some (types_of c.in-Some.types.now)) c.method.ensures c.pc-place.ensures c.in-Some.ensures)
     (c.place_after-after.ensures ∙ ap (option_map_or (λ (place : ℕ). place) c.args.next) c.pc-place.ensures)
     c.new-spot.ensures)
     c.plan_of_form.ensures
@@ -20,5 +24,8 @@ returns-in-Some g c =
 pub returns-in-None : goal.returns-in-None
 returns-in-None g c =
     c.no_child.ensures
-    ∙ without_types (program_of c.args.program.now) (typing_at c.args.typing.now) c.args.state.now c.args.frame.now (reverse c.args.below.now) (form_seen c.args.form.now) c.args.next (typing_at c.args.typing.now c.args.frame.now.method c.args.frame.now.pc)
-    (asked_at (typing_at c.args.typing.now) c.method.result c.pc-place.result c.args.frame.now.method c.args.frame.now.pc None c.method.ensures c.pc-place.ensures c.in-None.ensures)
+    ∙ without_types (program_of c.args.program.now) (typing_at c.args.typing.now) c.args.state.now c.args.frame.now
+    (reverse c.args.below.now) (form_seen c.args.form.now) c.args.next
+    (typing_at c.args.typing.now c.args.frame.now.method c.args.frame.now.pc)
+    (asked_at (typing_at c.args.typing.now) c.method.result c.pc-place.result c.args.frame.now.method c.args.frame.now.pc None
+    c.method.ensures c.pc-place.ensures c.in-None.ensures)

@@ -9,7 +9,8 @@ abbrev pub invariant-loop-depth : goal.invariant-loop-depth
 invariant-loop-depth g l = record {
   places : l.depth ≤ length l.spot.places;
   stack : l.depth ≤ length l.stack.0;
-  left : first_stop (types_here l.spot) l.spot.state (left_of l.depth l.spot.places l.stack.0) ≡ first_stop (types_here l.spot) l.spot.state (operands_of l.count l.spot.places l.stack.0);
+  left : first_stop (types_here l.spot) l.spot.state (left_of l.depth l.spot.places l.stack.0) ≡ first_stop (types_here l.spot)
+      l.spot.state (operands_of l.count l.spot.places l.stack.0);
 }
 
 abbrev pub decreases-loop-depth : goal.decreases-loop-depth

@@ -7,7 +7,9 @@ pub loop-local-init : goal.loop-local-init
 loop-local-init c n l = refl
 
 pub loop-local-preserved : goal.loop-local-preserved
-loop-local-preserved c n l = next_any (local_is n) c.args.locals.now c.loop-local.local-index None c.loop-local-test.true _ _ _ (c.put_local.ensures n l) (c.loop-local.invariant n l)
+loop-local-preserved c n l = next_any (local_is n) c.args.locals.now c.loop-local.local-index None c.loop-local-test.true _ _ _
+    (c.put_local.ensures n l) (c.loop-local.invariant n l)
 
 pub returns : goal.returns
-returns c n l = end_any (local_is n) c.args.locals.now c.loop-local.local-index c.loop-local-test.false _ _ (c.loop-local.invariant n l) ∙ ap (λ (b : Bool). has_id c.args.set.now n || b) (locals_are n c.args.locals.now)
+returns c n l = end_any (local_is n) c.args.locals.now c.loop-local.local-index c.loop-local-test.false _ _
+    (c.loop-local.invariant n l) ∙ ap (λ (b : Bool). has_id c.args.set.now n || b) (locals_are n c.args.locals.now)

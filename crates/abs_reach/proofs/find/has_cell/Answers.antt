@@ -10,5 +10,8 @@ is_there-requires g c = rising_of c.args.state.now c.requires c.cells.result.now
 
 pub returns : goal.returns
 returns g c =
-    let same = c.is_there.ensures ∙ ap (λ (cs : List (ℕ × Cell)). is_of_sort (λ _. true) (cell_in cs c.args.id)) c.cells.ensures in
-    (λ h. has_cell_from (λ _. true) c.args.state.now c.args.id (sym same ∙ h), λ k. same ∙ has_cell_to (λ _. true) c.args.state.now c.args.id k)
+    let same = c.is_there.ensures ∙ ap (λ (cs : List (ℕ × Cell)). is_of_sort (λ _. true) (cell_in cs c.args.id)) c.cells.ensures in (
+      λ h. has_cell_from (λ _. true) c.args.state.now c.args.id (sym same ∙ h),
+      λ k. same
+          ∙ has_cell_to (λ _. true) c.args.state.now c.args.id k,
+    )

@@ -14,5 +14,7 @@ returns g c =
     let index = c.in-Some-pop_two.index in
     let k = c.in-Some-pop_two.k in
     let stack = c.pop_two.new.stack.0 in
-    if_ok (λ plan. plan_seen plan ≡ access_of here 2 k index (length_of here (ItemStore value) k index) (good_of here (ItemStore value) k stack)) (λ plan. plan_seen plan ≡ aastore_plan here c.args.stack.0) c.access_of.result
-    (λ plan e. stored here value index k c.args.stack.0 c.pop.new.self.0 stack (plan_seen plan) c.in-Some.ensures.items c.in-Some-pop_two.ensures e) c.access_of.ensures
+    if_ok (λ plan. plan_seen plan ≡ access_of here 2 k index (length_of here (ItemStore value) k index)
+    (good_of here (ItemStore value) k stack)) (λ plan. plan_seen plan ≡ aastore_plan here c.args.stack.0) c.access_of.result
+    (λ plan e. stored here value index k c.args.stack.0 c.pop.new.self.0 stack (plan_seen plan) c.in-Some.ensures.items
+    c.in-Some-pop_two.ensures e) c.access_of.ensures

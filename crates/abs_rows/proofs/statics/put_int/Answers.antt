@@ -14,4 +14,5 @@ returns-in_ok-turn-in-Some g c =
     let kept = moves (bottom_with c.args.n c.args.x frames) in
     let narrowed = sym (ap (narrowed_to c.args.kind) c.interval_of.ensures) ∙ sym c.narrowed_to.ensures ∙ c.in-Some.is in
     let same = narrowed_steps here c.args.kind c.args.x kept frames (in_bottom c.args.n) c.in-Some.ints narrowed in
-    subst (λ p. IfOk c.one_step.result (λ plan. plan_seen plan ≡ p)) (ap one_step (c.in_ok-turn-in-Some.ensures kept) ∙ sym (ap steps same)) c.one_step.ensures
+    subst (λ p. IfOk c.one_step.result (λ plan. plan_seen plan ≡ p)) (ap one_step (c.in_ok-turn-in-Some.ensures kept)
+    ∙ sym (ap steps same)) c.one_step.ensures

@@ -7,5 +7,9 @@ use Rattle.abs_sound.proofs.sound.are_fields.Goals as goal
 
 pub returns : goal.returns
 returns g c =
-    let same = c.are_of_slots.ensures ∙ ap (λ (cells : List (ℕ × Cell)). all_zip (is_of_slot cells) c.args.slots.now c.args.ids.now) c.cells.ensures in
-    (λ h. fields_from c.args.state.now c.args.slots.now c.args.ids.now (sym same ∙ h), λ k. same ∙ fields_to c.args.state.now c.args.slots.now c.args.ids.now k)
+    let same = c.are_of_slots.ensures ∙ ap (λ (cells : List (ℕ × Cell)). all_zip (is_of_slot cells) c.args.slots.now c.args.ids.now)
+    c.cells.ensures in (
+      λ h. fields_from c.args.state.now c.args.slots.now c.args.ids.now (sym same ∙ h),
+      λ k. same
+          ∙ fields_to c.args.state.now c.args.slots.now c.args.ids.now k,
+    )

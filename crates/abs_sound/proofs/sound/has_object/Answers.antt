@@ -7,5 +7,8 @@ use Rattle.abs_sound.proofs.sound.has_object.Goals as goal
 
 pub returns : goal.returns
 returns g c =
-    let same = c.is_object_in.ensures ∙ ap (λ (cells : List (ℕ × Cell)). is_of_sort is_object (cell_in cells c.args.id)) c.cells.ensures in
-    (λ h. has_cell_from is_object c.args.state.now c.args.id (sym same ∙ h), λ k. same ∙ has_cell_to is_object c.args.state.now c.args.id k)
+    let same = c.is_object_in.ensures ∙ ap (λ (cells : List (ℕ × Cell)). is_of_sort is_object (cell_in cells c.args.id)) c.cells.ensures in (
+      λ h. has_cell_from is_object c.args.state.now c.args.id (sym same ∙ h),
+      λ k. same
+          ∙ has_cell_to is_object c.args.state.now c.args.id k,
+    )

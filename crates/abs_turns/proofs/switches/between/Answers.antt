@@ -9,4 +9,6 @@ pub returns-then-low-high : goal.returns-then-low-high
 returns-then-low-high c = ap (option_and_then (meet_of c.args.ints)) (none_is c.args.low.now c.args.high.now (omega (arith, ints)))
 
 pub returns : goal.returns
-returns c = c.part_of.ensures ∙ ap (option_and_then (meet_of c.args.ints)) (some_is c.args.low.now c.args.high.now c.args.low.now c.args.high.now refl refl (omega (arith, ints)))
+returns c = c.part_of.ensures
+    ∙ ap (option_and_then (meet_of c.args.ints)) (some_is c.args.low.now c.args.high.now c.args.low.now c.args.high.now refl refl
+    (omega (arith, ints)))

@@ -6,4 +6,6 @@ use Rattle.abs_turns.specs.PlansSeen.{turn_seen}
 use Rattle.abs_turns.proofs.switches.lookup_turns.Given as goal
 
 abbrev pub invariant-loop-case : goal.invariant-loop-case
-invariant-loop-case g l = map turn_seen l.turns ++ filter_map (switch_turn l.spot l.x l.stack.0) (parts_from l.low l.default (lookup_keys (drop l.case-index l.cases))) ≡ filter_map (switch_turn l.spot l.x l.stack.0) (parts_of l.default (lookup_keys l.cases))
+invariant-loop-case g l = map turn_seen l.turns ++ filter_map (switch_turn l.spot l.x l.stack.0)
+    (parts_from l.low l.default (lookup_keys (drop l.case-index l.cases))) ≡ filter_map (switch_turn l.spot l.x l.stack.0)
+    (parts_of l.default (lookup_keys l.cases))

@@ -16,5 +16,9 @@ returns g c =
     let a = f (interval_of c.args.low.now (c.args.key.now -ℤ pos 1), c.args.default) in
     let low : to_z w64 (of_z w64 (to_z w64 (of_z w64 c.args.key.now) -ℤ pos 1)) ≡ c.args.key.now -ℤ pos 1 = omega (arith, ints) in
     let b = f (Some (just c.args.key.now), c.args.place) in
-    if_ok (λ _. map turn_seen c.put_one.new.turns ≡ map turn_seen c.put_gap.new.turns ++ option_to_list b) (λ _. map turn_seen c.put_one.new.turns ≡ map turn_seen c.args.turns.now ++ cons_option a (cons_option b [])) c.put_one.result
-    (λ u e. two_put a b (map turn_seen c.args.turns.now) (map turn_seen c.put_gap.new.turns) (map turn_seen c.put_one.new.turns) (c.in_ok-put_gap.ensures ∙ ap (λ (n : ℤ). map turn_seen c.args.turns.now ++ option_to_list (f (interval_of c.args.low.now n, c.args.default))) low) e) c.put_one.ensures
+    if_ok (λ _. map turn_seen c.put_one.new.turns ≡ map turn_seen c.put_gap.new.turns ++ option_to_list b)
+    (λ _. map turn_seen c.put_one.new.turns ≡ map turn_seen c.args.turns.now ++ cons_option a (cons_option b [])) c.put_one.result
+    (λ u e. two_put a b (map turn_seen c.args.turns.now) (map turn_seen c.put_gap.new.turns) (map turn_seen c.put_one.new.turns)
+    (c.in_ok-put_gap.ensures
+    ∙ ap (λ (n : ℤ). map turn_seen c.args.turns.now ++ option_to_list (f (interval_of c.args.low.now n, c.args.default)))
+    low) e) c.put_one.ensures

@@ -15,6 +15,10 @@ loop-case-preserved g c =
     let frames = with_stack c.args.spot.now c.args.spot.now.next c.args.stack.now.0 in
     let f = turn_of_case c.args.spot.now left right frames (goal_seen c.args.goal) in
     record {
-      so_far = case_more f (map turn_seen c.loop-case.turns) (map turn_seen c.put.new.turns) c.loop-case.cases c.take_first.new.self c.in-Some.case (option_map turn_seen c.in_ok-turn.turn) (turns_of c.args.spot.now c.args.op left right frames (goal_seen c.args.goal)) c.in-Some.ensures c.in_ok-turn.ensures c.in_ok-put.ensures c.loop-case.invariant.so_far;
-      short = (and_parts (are_short left right c.in-Some.case.rows) (have_short_rows left right c.take_first.new.self) (ap (have_short_rows left right) (sym c.in-Some.ensures) ∙ c.loop-case.invariant.short)).1;
+      so_far = case_more f (map turn_seen c.loop-case.turns) (map turn_seen c.put.new.turns) c.loop-case.cases c.take_first.new.self
+          c.in-Some.case (option_map turn_seen c.in_ok-turn.turn)
+          (turns_of c.args.spot.now c.args.op left right frames (goal_seen c.args.goal)) c.in-Some.ensures c.in_ok-turn.ensures
+          c.in_ok-put.ensures c.loop-case.invariant.so_far;
+      short = (and_parts (are_short left right c.in-Some.case.rows) (have_short_rows left right c.take_first.new.self)
+          (ap (have_short_rows left right) (sym c.in-Some.ensures) ∙ c.loop-case.invariant.short)).1;
     }

@@ -8,7 +8,10 @@ use Rattle.abs_turns.proofs.turns.turns_of.Given as goal
 
 abbrev pub invariant-loop-case : goal.invariant-loop-case
 invariant-loop-case g l = record {
-  so_far : map turn_seen l.turns ++ filter_map (turn_of_case l.spot (operand_seen l.left) (operand_seen l.right) (with_stack l.spot l.spot.next l.stack.0) (goal_seen l.goal)) l.cases ≡ turns_of l.spot l.fn.op (operand_seen l.left) (operand_seen l.right) (with_stack l.spot l.spot.next l.stack.0) (goal_seen l.goal);
+  so_far : map turn_seen l.turns ++ filter_map
+      (turn_of_case l.spot (operand_seen l.left) (operand_seen l.right) (with_stack l.spot l.spot.next l.stack.0)
+      (goal_seen l.goal)) l.cases ≡ turns_of l.spot l.fn.op (operand_seen l.left) (operand_seen l.right)
+      (with_stack l.spot l.spot.next l.stack.0) (goal_seen l.goal);
   short : have_short_rows (operand_seen l.left) (operand_seen l.right) l.cases ≡ true;
 }
 

@@ -8,7 +8,8 @@ use Rattle.abs_widen.proofs.Zips.{all_reversed_as, mapped_reversed}
 use Rattle.abs_widen.proofs.numbers.frames_of.Goals as goal
 
 pub merged_frames-requires-clause-long : goal.merged_frames-requires-clause-long
-merged_frames-requires-clause-long g c = all_reversed_as AreAsLong c.args.a.now.frames c.args.b.now.frames c.frames.result.now c.frames-2.result.now c.frames.ensures c.frames-2.ensures c.requires.long
+merged_frames-requires-clause-long g c = all_reversed_as AreAsLong c.args.a.now.frames c.args.b.now.frames c.frames.result.now
+    c.frames-2.result.now c.frames.ensures c.frames-2.ensures c.requires.long
 
 pub returns : goal.returns
 returns g c =
@@ -18,6 +19,8 @@ returns g c =
     (λ frames e.
     ap reverse (e
     ∙ ap (λ (l : List AbstractFrame). merged_frames c.args.a.now c.args.b.now c.args.pairs.now l c.frames-2.result.now) c.frames.ensures
-    ∙ ap (λ (l : List AbstractFrame). merged_frames c.args.a.now c.args.b.now c.args.pairs.now (reverse c.args.a.now.frames) l) c.frames-2.ensures)
-    ∙ mapped_reversed (λ both. merged_frame c.args.a.now c.args.b.now c.args.pairs.now both.0 both.1) c.args.a.now.frames c.args.b.now.frames (length_all_zip AreAsLong c.args.a.now.frames c.args.b.now.frames c.requires.long))
+    ∙ ap (λ (l : List AbstractFrame). merged_frames c.args.a.now c.args.b.now c.args.pairs.now (reverse c.args.a.now.frames) l)
+    c.frames-2.ensures)
+    ∙ mapped_reversed (λ both. merged_frame c.args.a.now c.args.b.now c.args.pairs.now both.0 both.1) c.args.a.now.frames
+    c.args.b.now.frames (length_all_zip AreAsLong c.args.a.now.frames c.args.b.now.frames c.requires.long))
     c.merged_frames.ensures

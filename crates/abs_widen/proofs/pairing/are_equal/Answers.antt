@@ -8,5 +8,5 @@ pub returns-else-x-y : goal.returns-else-x-y
 returns-else-x-y g c =
     let same = eq-eqb c.args.x c.args.y c.if-x-y.false in (
       λ t. absurd (false≢true (sym (not_from_true _ same) ∙ t)),
-      λ h. absurd (never_itself c.args.x c.args.y c.args.state.now.eq c.if-x-y.false (subst IsRising c.eq-pairs.ensures c.nth-first.ensures.rising) h),
+      λ h. absurd (never_itself c.args.x c.args.y c.args.state.now.eq c.if-x-y.false (subst IsRising c.eq-pairs.ensures c.rise.ensures) h),
     )

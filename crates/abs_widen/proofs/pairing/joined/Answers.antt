@@ -7,9 +7,11 @@ use Rattle.abs_widen.proofs.pairing.joined.Goals as goal
 pub returns : goal.returns
 returns g c = (
   joined_all (WantsOne c.args.a.now c.args.b.now c.args.pairs.now c.args.cells.now) c.loop-n.n (g.P.Pairs.pairs c.loop-n.eq)
-      (λ i j w. let l : j < length c.args.pairs.now = one_within c.args.a.now c.args.b.now c.args.pairs.now c.args.cells.now i j w in omega (arith, l, c.loop-n-test.false))
-      c.nth-one.ensures.rising c.loop-n.invariant.0,
+      (λ i j w. let l : j < length c.args.pairs.now = one_within c.args.a.now c.args.b.now c.args.pairs.now c.args.cells.now i j w
+      in omega (arith, l, c.loop-n-test.false))
+      c.rise.ensures c.loop-n.invariant.0,
   joined_all (WantsShare c.args.a.now c.args.b.now c.args.pairs.now c.args.cells.now) c.loop-n.n (g.P.Pairs.pairs c.loop-n.shared)
-      (λ i j w. let l : j < length c.args.pairs.now = share_within c.args.a.now c.args.b.now c.args.pairs.now c.args.cells.now i j w in omega (arith, l, c.loop-n-test.false))
-      c.nth-share.ensures.rising c.loop-n.invariant.1,
+      (λ i j w. let l : j < length c.args.pairs.now = share_within c.args.a.now c.args.b.now c.args.pairs.now c.args.cells.now i j w
+      in omega (arith, l, c.loop-n-test.false))
+      c.rise-2.ensures c.loop-n.invariant.1,
 )

@@ -8,4 +8,6 @@ pub visit_entries-requires-clause-paired : goal.visit_entries-requires-clause-pa
 visit_entries-requires-clause-paired g c =
     subst (λ (l : List ℕ). ArePaired c.args.a.now c.args.b.now (zip l c.stack-2.result.now)) (sym c.stack.ensures)
     (subst (λ (l : List ℕ). ArePaired c.args.a.now c.args.b.now (zip (reverse c.args.frame.now.stack) l)) (sym c.stack-2.ensures)
-    (all_back (IsPaired c.args.a.now c.args.b.now) (local_pairs c.args.a.now c.args.b.now c.args.frame.now.locals c.args.other.now.locals) (zip (reverse c.args.frame.now.stack) (reverse c.args.other.now.stack)) c.requires.paired))
+    (all_back (IsPaired c.args.a.now c.args.b.now)
+    (local_pairs c.args.a.now c.args.b.now c.args.frame.now.locals c.args.other.now.locals)
+    (zip (reverse c.args.frame.now.stack) (reverse c.args.other.now.stack)) c.requires.paired))

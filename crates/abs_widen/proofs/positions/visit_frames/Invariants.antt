@@ -4,4 +4,5 @@ use Rattle.abs_widen.specs.Visiting.{IsWithRest}
 use Rattle.abs_widen.proofs.positions.visit_frames.Given as goal
 
 abbrev pub invariant-loop-n : goal.invariant-loop-n
-invariant-loop-n g l = IsWithRest l.a l.b l.initial.met.items (frames_pairs l.a l.b l.frames l.others) l.met.items (frames_pairs l.a l.b (drop l.n l.frames) (drop l.n l.others))
+invariant-loop-n g l = IsWithRest l.a l.b l.initial.met.items (frames_pairs l.a l.b l.frames l.others) l.met.items
+    (frames_pairs l.a l.b (drop l.n l.frames) (drop l.n l.others))

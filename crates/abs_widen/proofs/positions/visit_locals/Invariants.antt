@@ -4,4 +4,5 @@ use Rattle.abs_widen.specs.Visiting.{IsWithRest}
 use Rattle.abs_widen.proofs.positions.visit_locals.Given as goal
 
 abbrev pub invariant-loop-n : goal.invariant-loop-n
-invariant-loop-n g l = IsWithRest l.a l.b l.initial.met.items (local_pairs l.a l.b l.locals l.others) l.met.items (local_pairs l.a l.b (drop l.n l.locals) (drop l.n l.others))
+invariant-loop-n g l = IsWithRest l.a l.b l.initial.met.items (local_pairs l.a l.b l.locals l.others) l.met.items
+    (local_pairs l.a l.b (drop l.n l.locals) (drop l.n l.others))

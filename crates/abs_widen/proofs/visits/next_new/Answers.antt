@@ -16,4 +16,5 @@ loop-pair-preserved c =
     (sym c.is_met.ensures ∙ c.if-not-is_met.false)
 
 pub returns : goal.returns
-returns c = none_of c.args.met.now c.args.todo.now.0 (subst (λ (pairs : List (ℕ × ℕ)). IsLeft c.args.met.now c.args.todo.now.0 pairs) c.in_default.ensures.items.0 c.loop-pair.invariant)
+returns c = none_of c.args.met.now c.args.todo.now.0
+    (subst (λ (pairs : List (ℕ × ℕ)). IsLeft c.args.met.now c.args.todo.now.0 pairs) c.in_default.ensures.items.0 c.loop-pair.invariant)

@@ -12,14 +12,32 @@ use Rattle.abs_widen.proofs.widening.widen.Goals as goal
 
 pub returns-clause-wider : goal.returns-clause-wider
 returns-clause-wider g c =
-    IfOk-weaker c.widening_of.result (λ wide. IsWidening (world_types (g.T.Types.sub c.args.types.now) (g.T.Types.erase c.args.types.now) (g.T.Types.classes c.args.types.now) (g.T.Types.fields c.args.types.now) (g.T.Types.can_be_made c.args.types.now)) c.args.a.now c.args.b.now wide) (λ wide. IsInstance (world_types (g.T.Types.sub c.args.types.now) (g.T.Types.erase c.args.types.now) (g.T.Types.classes c.args.types.now) (g.T.Types.fields c.args.types.now) (g.T.Types.can_be_made c.args.types.now)) c.args.a.now wide × IsInstance (world_types (g.T.Types.sub c.args.types.now) (g.T.Types.erase c.args.types.now) (g.T.Types.classes c.args.types.now) (g.T.Types.fields c.args.types.now) (g.T.Types.can_be_made c.args.types.now)) c.args.b.now wide)
+    IfOk-weaker c.widening_of.result
+    (λ wide. IsWidening (world_types (g.T.Types.sub c.args.types.now) (g.T.Types.erase c.args.types.now)
+    (g.T.Types.classes c.args.types.now) (g.T.Types.fields c.args.types.now) (g.T.Types.can_be_made c.args.types.now))
+    c.args.a.now c.args.b.now wide)
+    (λ wide. IsInstance (world_types (g.T.Types.sub c.args.types.now) (g.T.Types.erase c.args.types.now)
+    (g.T.Types.classes c.args.types.now) (g.T.Types.fields c.args.types.now) (g.T.Types.can_be_made c.args.types.now))
+    c.args.a.now wide × IsInstance (world_types (g.T.Types.sub c.args.types.now) (g.T.Types.erase c.args.types.now)
+    (g.T.Types.classes c.args.types.now) (g.T.Types.fields c.args.types.now) (g.T.Types.can_be_made c.args.types.now))
+    c.args.b.now wide)
     (λ wide w.
-    both_wider (world_types (g.T.Types.sub c.args.types.now) (g.T.Types.erase c.args.types.now) (g.T.Types.classes c.args.types.now) (g.T.Types.fields c.args.types.now) (g.T.Types.can_be_made c.args.types.now)) c.args.a.now c.args.b.now wide c.requires.first c.requires.second c.requires.alike w
-    (λ id h. never_itself id id c.args.a.now.eq refl (subst IsRising c.eq.ensures c.nth-first.ensures.rising) h)
-    (λ id h. never_itself id id c.args.b.now.eq refl (subst IsRising c.eq-2.ensures c.nth-second.ensures.rising) h))
+    both_wider (world_types (g.T.Types.sub c.args.types.now) (g.T.Types.erase c.args.types.now) (g.T.Types.classes c.args.types.now)
+    (g.T.Types.fields c.args.types.now) (g.T.Types.can_be_made c.args.types.now)) c.args.a.now c.args.b.now wide
+    c.requires.first c.requires.second c.requires.alike w
+    (λ id h. never_itself id id c.args.a.now.eq refl (subst IsRising c.eq.ensures c.rise.ensures) h)
+    (λ id h. never_itself id id c.args.b.now.eq refl (subst IsRising c.eq-2.ensures c.rise-2.ensures) h))
     c.widening_of.ensures.ok
 
 pub returns-clause-sound : goal.returns-clause-sound
 returns-clause-sound g c =
-    IfOk-weaker c.widening_of.result (λ wide. IsWidening (world_types (g.T.Types.sub c.args.types.now) (g.T.Types.erase c.args.types.now) (g.T.Types.classes c.args.types.now) (g.T.Types.fields c.args.types.now) (g.T.Types.can_be_made c.args.types.now)) c.args.a.now c.args.b.now wide) (λ wide. IsSound (world_types (g.T.Types.sub c.args.types.now) (g.T.Types.erase c.args.types.now) (g.T.Types.classes c.args.types.now) (g.T.Types.fields c.args.types.now) (g.T.Types.can_be_made c.args.types.now)) wide)
-    (λ wide w. sound_result (world_types (g.T.Types.sub c.args.types.now) (g.T.Types.erase c.args.types.now) (g.T.Types.classes c.args.types.now) (g.T.Types.fields c.args.types.now) (g.T.Types.can_be_made c.args.types.now)) c.args.a.now c.args.b.now wide (g.met.T.Types.laws c.args.types.now) c.requires.first c.requires.second c.requires.alike w) c.widening_of.ensures.ok
+    IfOk-weaker c.widening_of.result
+    (λ wide. IsWidening (world_types (g.T.Types.sub c.args.types.now) (g.T.Types.erase c.args.types.now)
+    (g.T.Types.classes c.args.types.now) (g.T.Types.fields c.args.types.now) (g.T.Types.can_be_made c.args.types.now))
+    c.args.a.now c.args.b.now wide)
+    (λ wide. IsSound (world_types (g.T.Types.sub c.args.types.now) (g.T.Types.erase c.args.types.now)
+    (g.T.Types.classes c.args.types.now) (g.T.Types.fields c.args.types.now) (g.T.Types.can_be_made c.args.types.now)) wide)
+    (λ wide w. sound_result (world_types (g.T.Types.sub c.args.types.now) (g.T.Types.erase c.args.types.now)
+    (g.T.Types.classes c.args.types.now) (g.T.Types.fields c.args.types.now) (g.T.Types.can_be_made c.args.types.now))
+    c.args.a.now c.args.b.now wide (g.met.T.Types.laws c.args.types.now) c.requires.first c.requires.second c.requires.alike
+    w) c.widening_of.ensures.ok

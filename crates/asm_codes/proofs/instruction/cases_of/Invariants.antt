@@ -5,4 +5,5 @@ use Rattle.asm_codes.proofs.KeyCases.{with_front}
 use Rattle.asm_codes.proofs.instruction.cases_of.Given as goal
 
 abbrev pub invariant-loop-word : goal.invariant-loop-word
-invariant-loop-word l = with_front l.cases (cases_of (place_in l.labels) (drop l.word-index l.words)) ≡ cases_of (place_in l.labels) l.words
+invariant-loop-word l = with_front l.cases (cases_of (place_in l.labels) (drop l.word-index l.words)) ≡ cases_of (place_in l.labels)
+    l.words

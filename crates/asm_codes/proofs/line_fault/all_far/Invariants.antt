@@ -5,4 +5,5 @@ use Rattle.asm_codes.specs.Places.{place_in}
 use Rattle.asm_codes.proofs.line_fault.all_far.Given as goal
 
 abbrev pub invariant-loop-word : goal.invariant-loop-word
-invariant-loop-word l = list_all (is_far (place_in l.labels) l.pc) (drop l.word-index l.words) ≡ list_all (is_far (place_in l.labels) l.pc) l.words
+invariant-loop-word l = list_all (is_far (place_in l.labels) l.pc) (drop l.word-index l.words) ≡ list_all
+    (is_far (place_in l.labels) l.pc) l.words

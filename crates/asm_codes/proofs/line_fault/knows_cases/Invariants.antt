@@ -4,4 +4,5 @@ use Rattle.asm_codes.specs.Places.{place_in}
 use Rattle.asm_codes.proofs.line_fault.knows_cases.Given as goal
 
 abbrev pub invariant-loop-case : goal.invariant-loop-case
-invariant-loop-case l = knows (place_in l.labels) (map (λ c. c.1) (drop l.case-index l.cases)) ≡ knows (place_in l.labels) (map (λ c. c.1) l.cases)
+invariant-loop-case l = knows (place_in l.labels) (map (λ c. c.1) (drop l.case-index l.cases)) ≡ knows (place_in l.labels)
+    (map (λ c. c.1) l.cases)

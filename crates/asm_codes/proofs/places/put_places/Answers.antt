@@ -6,8 +6,12 @@ use Rattle.asm_codes.proofs.places.put_places.Goals as goal
 
 pub loop-line-preserved : goal.loop-line-preserved
 loop-line-preserved c =
-    one_more (place_in c.loop-line.labels) (place_in c.mark.new.labels) c.loop-line.pc c.in_ok-size.size c.loop-line.line-index c.args.lines.now c.line-item.result c.loop-line-test.true c.line-item.is (c.in_ok-mark.ensures ∙ ap (λ (code : CodeLine). with_mark (place_in c.loop-line.labels) code.label c.loop-line.pc) c.code.ensures) c.in_ok-size.ensures.0
+    one_more (place_in c.loop-line.labels) (place_in c.mark.new.labels) c.loop-line.pc c.in_ok-size.size c.loop-line.line-index
+    c.args.lines.now c.line-item.result c.loop-line-test.true c.line-item.is
+    (c.in_ok-mark.ensures ∙ ap (λ (code : CodeLine). with_mark (place_in c.loop-line.labels) code.label c.loop-line.pc)
+    c.code.ensures) c.in_ok-size.ensures.0
     ∙ c.loop-line.invariant
 
 pub returns : goal.returns
-returns c = all_marked (place_in c.loop-line.labels) _ c.loop-line.pc c.loop-line.line-index c.args.lines.now c.loop-line-test.false c.loop-line.invariant
+returns c = all_marked (place_in c.loop-line.labels) _ c.loop-line.pc c.loop-line.line-index c.args.lines.now c.loop-line-test.false
+    c.loop-line.invariant

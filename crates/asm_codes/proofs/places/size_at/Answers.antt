@@ -5,7 +5,8 @@ use Rattle.asm_codes.proofs.Sizes.{fits_first}
 use Rattle.asm_codes.proofs.places.size_at.Goals as goal
 
 pub size_of-requires : goal.size_of-requires
-size_of-requires c = fits_first c.args.line.now c.in_ok-insn.insn (c.in_ok-insn.ensures ∙ ap (λ es. insn_in (place_in es) c.args.line.now) c.requires)
+size_of-requires c = fits_first c.args.line.now c.in_ok-insn.insn
+    (c.in_ok-insn.ensures ∙ ap (λ es. insn_in (place_in es) c.args.line.now) c.requires)
 
 pub returns : goal.returns
 returns c =

@@ -7,7 +7,9 @@ pub length-requires : goal.length-requires
 length-requires c = subst FitsFirst c.in-Some.is c.requires (c.args.pc % 4) (omega arith)
 
 pub returns-in-Some-clause-value : goal.returns-in-Some-clause-value
-returns-in-Some-clause-value c = size_turned c.args.pc c.length.result c.in-Some.insn c.length.ensures ∙ sym (ap (size_of c.args.pc) c.in-Some.is)
+returns-in-Some-clause-value c = size_turned c.args.pc c.length.result c.in-Some.insn c.length.ensures
+    ∙ sym (ap (size_of c.args.pc) c.in-Some.is)
 
 pub returns-in-Some-clause-small : goal.returns-in-Some-clause-small
-returns-in-Some-clause-small c = size_small (c.args.pc % 4) c.length.result c.in-Some.insn (subst FitsFirst c.in-Some.is c.requires (c.args.pc % 4) (omega arith)) c.length.ensures
+returns-in-Some-clause-small c = size_small (c.args.pc % 4) c.length.result c.in-Some.insn
+    (subst FitsFirst c.in-Some.is c.requires (c.args.pc % 4) (omega arith)) c.length.ensures

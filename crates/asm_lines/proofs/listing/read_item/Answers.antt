@@ -5,4 +5,5 @@ use Rattle.asm_lines.proofs.listing.read_item.Goals as goal
 
 pub returns-then-is_plain : goal.returns-then-is_plain
 returns-then-is_plain c =
-    subst (λ (good : Bool). Gives (λ x. x) c.item_of.result (read_item c.args.names.now c.args.line good c.args.labelled c.args.words.now)) (sym c.if-is_plain.true) c.item_of.ensures
+    subst (λ (good : Bool). Gives (λ x. x) c.item_of.result
+    (read_item c.args.names.now c.args.line good c.args.labelled c.args.words.now)) (sym c.if-is_plain.true) c.item_of.ensures

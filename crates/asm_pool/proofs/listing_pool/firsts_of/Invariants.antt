@@ -6,4 +6,5 @@ use Rattle.asm_pool.specs.Pools.{need_faults, firsts_in}
 use Rattle.asm_pool.proofs.listing_pool.firsts_of.Given as goal
 
 abbrev pub invariant-loop-need : goal.invariant-loop-need
-invariant-loop-need l = (l.firsts ≡ firsts_in (map (λ e. (seen e.0, e.1)) (take l.need-index l.needs))) × (l.first.fault ≡ with_faults l.fn.first.fault (flat_map need_faults (map (λ e. (seen e.0, e.1)) (take l.need-index l.needs))))
+invariant-loop-need l = (l.firsts ≡ firsts_in (map (λ e. (seen e.0, e.1)) (take l.need-index l.needs)))
+    × (l.first.fault ≡ with_faults l.fn.first.fault (flat_map need_faults (map (λ e. (seen e.0, e.1)) (take l.need-index l.needs))))

@@ -6,5 +6,6 @@ use Rattle.asm_pool.proofs.pool.check_count.Given as goal
 
 abbrev pub invariant-loop-need : goal.invariant-loop-need
 invariant-loop-need l =
-    (with_faults l.first.fault (count_faults l.next (map (λ e. (seen e.0, e.1)) (drop l.need-index l.needs))) ≡ with_faults l.fn.first.fault (count_faults 1 (map (λ e. (seen e.0, e.1)) l.needs)))
+    (with_faults l.first.fault (count_faults l.next (map (λ e. (seen e.0, e.1)) (drop l.need-index l.needs))) ≡ with_faults
+    l.fn.first.fault (count_faults 1 (map (λ e. (seen e.0, e.1)) l.needs)))
     × (l.next ≤ 1 + 2 * l.need-index)

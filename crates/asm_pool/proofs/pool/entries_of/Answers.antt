@@ -6,4 +6,5 @@ use Rattle.asm_pool.proofs.pool.entries_of.Goals as goal
 pub loop-place-preserved : goal.loop-place-preserved
 loop-place-preserved c =
     let e : Kept × ℕ = (c.in-Some.entry.now, c.in-Some.line.now) in
-    c.in_ok-push.ensures.items ∙ ap (λ xs. xs ++ e ∷ []) c.loop-place.invariant ∙ sym (take_one_more c.args.lines.now.entries c.loop-place.place e (sym c.in-Some.ensures.entry))
+    c.in_ok-push.ensures.items ∙ ap (λ xs. xs ++ e ∷ []) c.loop-place.invariant
+    ∙ sym (take_one_more c.args.lines.now.entries c.loop-place.place e (sym c.in-Some.ensures.entry))

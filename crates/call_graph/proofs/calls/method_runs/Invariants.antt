@@ -5,4 +5,5 @@ use Rattle.call_graph.specs.Listed.{place_runs}
 use Rattle.call_graph.proofs.calls.method_runs.Given as goal
 
 abbrev pub invariant-loop-pc : goal.invariant-loop-pc
-invariant-loop-pc l = l.found ++ flat_map (λ x. place_runs (program_of l.program) l.method x.0) (drop l.pc-index l.insns) ≡ flat_map (λ x. place_runs (program_of l.program) l.method x.0) l.insns
+invariant-loop-pc l = l.found ++ flat_map (λ x. place_runs (program_of l.program) l.method x.0) (drop l.pc-index l.insns) ≡ flat_map
+    (λ x. place_runs (program_of l.program) l.method x.0) l.insns

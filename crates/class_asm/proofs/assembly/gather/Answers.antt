@@ -20,7 +20,8 @@ pub returns-clause-methods : goal.returns-clause-methods
 returns-clause-methods c =
     let methods = c.args.listing.now.methods in
     let pool = c.in_ok-pool.ensures.pool ∙ ap pool_in c.in_ok-needs.ensures in
-    c.in_ok-methods.ensures.text ∙ ap (λ (ms : List MethodLines). map (method_text c.in_ok-pool.pool) ms) c.as_slice.ensures ∙ ap (λ (p : Numbered). map (method_text p) methods) pool
+    c.in_ok-methods.ensures.text ∙ ap (λ (ms : List MethodLines). map (method_text c.in_ok-pool.pool) ms) c.as_slice.ensures
+    ∙ ap (λ (p : Numbered). map (method_text p) methods) pool
 
 pub returns-clause-faults : goal.returns-clause-faults
 returns-clause-faults c =
@@ -33,6 +34,7 @@ returns-clause-faults c =
     let codes = flat_map (code_faults (pool_in needs)) listing.methods in
     let pool = c.in_ok-pool.ensures.pool ∙ ap pool_in c.in_ok-needs.ensures in
     let r : h ≡ with_faults g (pool_faults needs) = c.in_ok-pool.ensures.faults ∙ ap (faults_by g) c.in_ok-needs.ensures in
-    let s : i ≡ with_faults h codes = c.in_ok-methods.ensures.faults ∙ ap (λ (ms : List MethodLines). with_faults h (flat_map (code_faults c.in_ok-pool.pool) ms)) c.as_slice.ensures
+    let s : i ≡ with_faults h codes = c.in_ok-methods.ensures.faults
+    ∙ ap (λ (ms : List MethodLines). with_faults h (flat_map (code_faults c.in_ok-pool.pool) ms)) c.as_slice.ensures
     ∙ ap (λ (p : Numbered). with_faults h (flat_map (code_faults p) listing.methods)) pool in
     in_turns f g h i (rule_faults c.args.line c.args.class.now listing) (pool_faults needs) codes c.in_ok-check_rules.ensures r s

@@ -19,10 +19,16 @@ returns c =
     let d = methods_faults listing.methods in
     let e = attributes_faults listing.attributes in
     let f = flat_map constant_faults listing.constants in
-    let p : class ≡ with_faults before a = c.unless.ensures ∙ ap (λ b. with_faults before (unless b c.args.line)) c.class_is_good.ensures in
-    let q : fields ≡ with_faults class b = c.in_ok-check_field_list.ensures ∙ ap (λ xs. with_faults class (fields_faults xs)) c.as_slice.ensures in
-    let r : methods ≡ with_faults fields d = c.in_ok-check_method_list.ensures ∙ ap (λ xs. with_faults fields (methods_faults xs)) c.as_slice-2.ensures in
-    let s : attributes ≡ with_faults methods e = c.check_attribute_list.ensures ∙ ap (λ xs. with_faults methods (attributes_faults xs)) c.as_slice-3.ensures in
-    let t : all ≡ with_faults attributes f = c.check_constants.ensures ∙ ap (λ xs. with_faults attributes (flat_map constant_faults xs)) c.as_slice-4.ensures in
+    let p : class ≡ with_faults before a = c.unless.ensures ∙ ap (λ b. with_faults before (unless b c.args.line))
+    c.class_is_good.ensures in
+    let q : fields ≡ with_faults class b = c.in_ok-check_field_list.ensures
+    ∙ ap (λ xs. with_faults class (fields_faults xs)) c.as_slice.ensures in
+    let r : methods ≡ with_faults fields d = c.in_ok-check_method_list.ensures ∙ ap (λ xs. with_faults fields (methods_faults xs))
+    c.as_slice-2.ensures in
+    let s : attributes ≡ with_faults methods e = c.check_attribute_list.ensures
+    ∙ ap (λ xs. with_faults methods (attributes_faults xs)) c.as_slice-3.ensures in
+    let t : all ≡ with_faults attributes f = c.check_constants.ensures
+    ∙ ap (λ xs. with_faults attributes (flat_map constant_faults xs)) c.as_slice-4.ensures in
     in_turn before attributes all (a ++ b ++ d ++ e) f
-    (in_turn before methods attributes (a ++ b ++ d) e (in_turn before fields methods (a ++ b) d (in_turn before class fields a b p q) r) s) t
+    (in_turn before methods attributes (a ++ b ++ d) e
+    (in_turn before fields methods (a ++ b) d (in_turn before class fields a b p q) r) s) t

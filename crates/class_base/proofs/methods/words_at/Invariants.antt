@@ -6,5 +6,6 @@ use Rattle.class_base.proofs.methods.words_at.Given as goal
 abbrev pub invariant-turns : goal.invariant-turns
 invariant-turns l = record {
   few : l.words ≤ 2 * l.counter;
-  same : gathered with_words l.words (types_at (length l.bytes - l.counter) l.rest) ≡ gathered with_words 0 (types_at (length l.bytes) l.bytes);
+  same : gathered with_words l.words (types_at (length l.bytes - l.counter) l.rest) ≡ gathered with_words 0
+      (types_at (length l.bytes) l.bytes);
 }

@@ -11,5 +11,6 @@ use Rattle.class_program.proofs.call_operand.named_parts.Goals as goal
 
 pub returns : goal.returns
 returns c =
-    subst (λ (r : Result (Ty × Signature) Refusal). Gives (λ x. x) r (named_parts (classes_of c.args.world.now) (member_seen c.args.names))) (sym c.together.ensures)
+    subst (λ (r : Result (Ty × Signature) Refusal). Gives (λ x. x) r
+    (named_parts (classes_of c.args.world.now) (member_seen c.args.names))) (sym c.together.ensures)
     (together_gives _ _ _ _ c.type_named.ensures c.signature_of.ensures)

@@ -4,4 +4,5 @@ use Rattle.class_program.proofs.Closed.{made_within}
 use Rattle.class_program.proofs.class_operand.new_made.Goals as goal
 
 pub new_differs-requires : goal.new_differs-requires
-new_differs-requires c = made_within (classes_of c.args.world.now) c.args.class (sym c.has_instances.ensures ∙ c.if-not-has_instances.false)
+new_differs-requires c = made_within (classes_of c.args.world.now) c.args.class
+    (sym c.has_instances.ensures ∙ c.if-not-has_instances.false)

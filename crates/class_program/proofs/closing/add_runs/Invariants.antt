@@ -7,4 +7,5 @@ use Rattle.class_program.specs.Rows.{AreRows}
 use Rattle.class_program.proofs.closing.add_runs.Given as goal
 
 abbrev pub invariant-loop-insn : goal.invariant-loop-insn
-invariant-loop-insn l = (with_new l.refs (flat_map (λ x. runs (classes_of l.world) x.1) (drop l.insn-index l.insns)) ≡ with_new l.initial.refs (flat_map (λ x. runs (classes_of l.world) x.1) l.insns)) × AreRows (classes_of l.world) l.rows
+invariant-loop-insn l = (with_new l.refs (flat_map (λ x. runs (classes_of l.world) x.1) (drop l.insn-index l.insns)) ≡ with_new
+    l.initial.refs (flat_map (λ x. runs (classes_of l.world) x.1) l.insns)) × AreRows (classes_of l.world) l.rows

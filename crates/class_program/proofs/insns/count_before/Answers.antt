@@ -7,5 +7,6 @@ pub returns : goal.returns
 returns c =
     let rises = placed_rises c.args.insns.now c.requires in
     let parted = IsPartitionedBy-ltb (λ x. x.0) c.args.insns.now c.args.pc (places_rise 0 c.args.insns.now rises) in
-    let point = IsPartitionPoint-from_clause (λ x. ltb x.0 c.args.pc) _ _ c.partition_point.ensures.partitioned parted (λ a r q k. search (rules, of_calls)) in
+    let point = IsPartitionPoint-from_clause (λ x. ltb x.0 c.args.pc) _ _ c.partition_point.ensures.partitioned parted
+    (λ a r q k. search (rules, of_calls)) in
     found_there c.args.pc 0 c.args.insns.now c.partition_point.result rises c.partition_point.ensures.bound point

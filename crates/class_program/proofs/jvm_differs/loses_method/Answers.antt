@@ -12,4 +12,5 @@ unfolding loses_method
 returns c =
     let world = classes_of c.args.world.now in
     let m = method_content c.args.named.now in
-    sym (ap (λ b. is_selectable m && b) (none_lost world m.name m.desc (sym c.is_inherited.ensures ∙ c.if-is_inherited.false) (receivers world c.args.class)) ∙ and_false (is_selectable m))
+    sym (ap (λ b. is_selectable m && b) (none_lost world m.name m.desc (sym c.is_inherited.ensures ∙ c.if-is_inherited.false)
+    (receivers world c.args.class)) ∙ and_false (is_selectable m))

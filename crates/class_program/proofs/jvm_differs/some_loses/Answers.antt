@@ -6,7 +6,8 @@ use Rattle.class_world.proofs.HiddenFields.{any_below, none_more}
 use Rattle.class_program.specs.JvmDiffers.{loses}
 use Rattle.class_program.proofs.Differing.{any_filtered}
 use Rattle.class_program.proofs.jvm_differs.some_loses.Goals as goal
-use Rattle.class_program.proofs.jvm_differs.some_loses.Goals.{else-is_receiver-via-then-is_receiver+else-loses, else-is_receiver-via-else-is_receiver}
+use Rattle.class_program.proofs.jvm_differs.some_loses.Goals.{else-is_receiver-via-then-is_receiver+else-loses}
+use Rattle.class_program.proofs.jvm_differs.some_loses.Goals.{else-is_receiver-via-else-is_receiver}
 
 pub returns-then-loses : goal.returns-then-loses
 unfolding receivers
@@ -14,7 +15,8 @@ returns-then-loses c =
     let world = classes_of c.args.world.now in
     let q : ℕ → Bool = is_receiver world c.args.class in
     let p : ℕ → Bool = loses world c.args.named.now.name.now c.args.named.now.desc.now in
-    sym (any_below (λ x. q x && p x) (length world) c.loop-receiver.receiver (omega (arith, c.len-receiver-end.ensures, c.loop-receiver-test.true))
+    sym (any_below (λ x. q x && p x) (length world) c.loop-receiver.receiver
+    (omega (arith, c.len-receiver-end.ensures, c.loop-receiver-test.true))
     (ap₂ (λ a b. a && b) (sym c.is_receiver.ensures ∙ c.if-is_receiver.true) (sym c.loses.ensures ∙ c.if-loses.true)))
     ∙ any_filtered q p (range_with_len 0 (length world))
 
@@ -24,8 +26,10 @@ loop-receiver-preserved c =
     let q : ℕ → Bool = is_receiver world c.args.class in
     let p : ℕ → Bool = loses world c.args.named.now.name.now c.args.named.now.desc.now in
     none_more (λ x. q x && p x) c.loop-receiver.receiver c.loop-receiver.invariant (elim c.else-is_receiver.branch [
-      | else-is_receiver-via-then-is_receiver+else-loses w ↦ ap₂ (λ a b. a && b) (sym c.is_receiver.ensures ∙ w.if-is_receiver.true) (sym w.loses.ensures ∙ w.if-loses.false)
-      | else-is_receiver-via-else-is_receiver w ↦ ap (λ a. a && p c.loop-receiver.receiver) (sym c.is_receiver.ensures ∙ w.if-is_receiver.false)
+      | else-is_receiver-via-then-is_receiver+else-loses w ↦ ap₂ (λ a b. a && b) (sym c.is_receiver.ensures ∙ w.if-is_receiver.true)
+          (sym w.loses.ensures ∙ w.if-loses.false)
+      | else-is_receiver-via-else-is_receiver w ↦ ap (λ a. a && p c.loop-receiver.receiver)
+          (sym c.is_receiver.ensures ∙ w.if-is_receiver.false)
     ])
 
 pub returns : goal.returns
@@ -34,5 +38,7 @@ returns c =
     let world = classes_of c.args.world.now in
     let q : ℕ → Bool = is_receiver world c.args.class in
     let p : ℕ → Bool = loses world c.args.named.now.name.now c.args.named.now.desc.now in
-    let all : length world ≡ c.loop-receiver.receiver = omega (arith, c.len-receiver-end.ensures, c.loop-receiver-test.false, c.loop-receiver.auto.receiver-end) in
-    sym (ap (λ n. list_any (λ x. q x && p x) (range_with_len 0 n)) all ∙ c.loop-receiver.invariant) ∙ any_filtered q p (range_with_len 0 (length world))
+    let all : length world ≡ c.loop-receiver.receiver = omega
+    (arith, c.len-receiver-end.ensures, c.loop-receiver-test.false, c.loop-receiver.auto.receiver-end) in
+    sym (ap (λ n. list_any (λ x. q x && p x) (range_with_len 0 n)) all ∙ c.loop-receiver.invariant)
+    ∙ any_filtered q p (range_with_len 0 (length world))

@@ -6,4 +6,5 @@ use Rattle.class_program.specs.JvmDiffers.{selects_outside}
 use Rattle.class_program.proofs.jvm_differs.some_selects_outside.Given as goal
 
 abbrev pub invariant-loop-receiver : goal.invariant-loop-receiver
-invariant-loop-receiver l = list_any (λ c. is_receiver (classes_of l.world) l.class c && selects_outside (classes_of l.world) l.home l.named.name.now l.named.desc.now c) (range_with_len 0 l.receiver) ≡ false
+invariant-loop-receiver l = list_any (λ c. is_receiver (classes_of l.world) l.class c && selects_outside (classes_of l.world) l.home
+    l.named.name.now l.named.desc.now c) (range_with_len 0 l.receiver) ≡ false

@@ -5,4 +5,5 @@ use Rattle.class_program.proofs.Rows.{row_found}
 use Rattle.class_program.proofs.jvm_differs.virtual_call_differs.Goals as goal
 
 pub virtual_differs-requires : goal.virtual_differs-requires
-virtual_differs-requires c = row_found (classes_of c.args.world.now) _ c.args.call.now.method (method_content c.in-Some.named.now) _ c.in_ok-add-in-Some.ensures (sym c.in-Some.ensures) c.row-row.ensures
+virtual_differs-requires c = row_found (classes_of c.args.world.now) _ c.args.call.now.method (method_content c.in-Some.named.now) _
+    c.in_ok-add-in-Some.ensures (sym c.in-Some.ensures) c.row-row.ensures

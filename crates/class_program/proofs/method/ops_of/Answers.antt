@@ -16,8 +16,10 @@ returns-in_err-op_said-clause-ops c =
     let x = c.in-Some.insn in
     let steps : into_iter_items at.insn-iterator ≡ x ∷ into_iter_items c.next.new.self = c.in-Some.ensures.steps.0 in
     answered _ _ _ _ c.from_residual-in_err-op_said.ensures.1
-    (first_broken (op_said (classes_of c.args.world.now) c.args.class c.args.name.now) c.args.insns.items at.yielded (into_iter_items c.next.new.self) x at.ops _
-    (sym c.into_iter-insn-iterator.ensures.into_iter_gives.0 ∙ sym at.invariant.0 ∙ ap (λ ys. at.yielded ++ ys) steps) at.invariant.1 c.in_err-op_said.ensures.op)
+    (first_broken (op_said (classes_of c.args.world.now) c.args.class c.args.name.now) c.args.insns.items at.yielded
+    (into_iter_items c.next.new.self) x at.ops _
+    (sym c.into_iter-insn-iterator.ensures.into_iter_gives.0 ∙ sym at.invariant.0 ∙ ap (λ ys. at.yielded ++ ys) steps)
+    at.invariant.1 c.in_err-op_said.ensures.op)
 
 pub loop-insn-preserved : goal.loop-insn-preserved
 loop-insn-preserved c =
@@ -25,7 +27,8 @@ loop-insn-preserved c =
     let x = c.in-Some.insn in
     let steps : into_iter_items at.insn-iterator ≡ x ∷ into_iter_items c.next.new.self = c.in-Some.ensures.steps.0 in (
       append_assoc at.yielded (x ∷ []) _ ∙ rw (← steps) at.invariant.0,
-      each_more (op_said (classes_of c.args.world.now) c.args.class c.args.name.now) at.yielded x at.ops _ at.invariant.1 c.in_ok-op_said.ensures.op ∙ ap Ok (sym c.in_ok-push.ensures.items),
+      each_more (op_said (classes_of c.args.world.now) c.args.class c.args.name.now) at.yielded x at.ops _ at.invariant.1
+          c.in_ok-op_said.ensures.op ∙ ap Ok (sym c.in_ok-push.ensures.items),
       let was = at.invariant.2 in
           let gone = c.in-Some.ensures.steps.1 in
           let short = ap length steps in

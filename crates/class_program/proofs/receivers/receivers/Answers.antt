@@ -9,7 +9,10 @@ pub loop-class-preserved : goal.loop-class-preserved
 loop-class-preserved c =
     let more : c.if-is_receiver.found ≡ cond c.is_receiver.result (c.loop-class.found ++ c.loop-class.class ∷ []) c.loop-class.found =
     elim c.if-is_receiver.branch [
-      | then-is_receiver+in_ok-push w ↦ w.found-is ∙ w.in_ok-push.ensures.items ∙ ap (λ b. cond b (c.loop-class.found ++ c.loop-class.class ∷ []) c.loop-class.found) (sym w.if-is_receiver.true)
-      | else-is_receiver w ↦ w.found-is ∙ ap (λ b. cond b (c.loop-class.found ++ c.loop-class.class ∷ []) c.loop-class.found) (sym w.if-is_receiver.false)
+      | then-is_receiver+in_ok-push w ↦ w.found-is ∙ w.in_ok-push.ensures.items
+          ∙ ap (λ b. cond b (c.loop-class.found ++ c.loop-class.class ∷ []) c.loop-class.found) (sym w.if-is_receiver.true)
+      | else-is_receiver w ↦ w.found-is ∙ ap (λ b. cond b (c.loop-class.found ++ c.loop-class.class ∷ []) c.loop-class.found)
+          (sym w.if-is_receiver.false)
     ] in
-    filter_more (is_receiver (classes_of c.args.world.now) c.args.named) c.loop-class.found c.if-is_receiver.found c.loop-class.class c.is_receiver.result c.loop-class.invariant c.is_receiver.ensures more
+    filter_more (is_receiver (classes_of c.args.world.now) c.args.named) c.loop-class.found c.if-is_receiver.found
+    c.loop-class.class c.is_receiver.result c.loop-class.invariant c.is_receiver.ensures more

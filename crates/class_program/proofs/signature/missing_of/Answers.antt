@@ -6,4 +6,5 @@ pub returns-in-Some : goal.returns-in-Some
 returns-in-Some c = missing_param (classes_of c.args.world.now) _ _ c.args.text.now.returned _ c.in-Some.ensures c.as_slice.ensures
 
 pub returns-in-Some-returned : goal.returns-in-Some-returned
-returns-in-Some-returned c = missing_result (classes_of c.args.world.now) _ _ c.args.text.now.returned _ _ c.in-None.ensures c.as_slice.ensures c.in-Some-returned.is c.missing_class.ensures
+returns-in-Some-returned c = missing_result (classes_of c.args.world.now) _ _ c.args.text.now.returned _ _ c.in-None.ensures
+    c.as_slice.ensures c.in-Some-returned.is c.missing_class.ensures

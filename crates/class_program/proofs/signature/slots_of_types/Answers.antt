@@ -12,9 +12,13 @@ loop-text-preserved c =
     let more : c.match-known_slot.slots ≡ c.loop-text.slots ++ option_to_list c.known_slot.result =
     elim c.match-known_slot.branch [
       | in-Some+in_ok-push w ↦ w.slots-is ∙ w.in_ok-push.ensures.items ∙ ap (λ o. c.loop-text.slots ++ option_to_list o) (sym w.in-Some.is)
-      | in_default w ↦ w.slots-is ∙ sym (append-nil c.loop-text.slots) ∙ ap (λ o. c.loop-text.slots ++ option_to_list o) (sym w.in_default.is)
+      | in_default w ↦ w.slots-is ∙ sym (append-nil c.loop-text.slots)
+          ∙ ap (λ o. c.loop-text.slots ++ option_to_list o) (sym w.in_default.is)
     ] in
-    filter_step (λ text. known_slot (meaning_of (classes_of c.args.world.now) text)) c.args.types.now c.loop-text.text-index c.text-item.result c.loop-text.slots c.match-known_slot.slots c.known_slot.result _ c.loop-text.invariant c.loop-text-test.true (c.known_slot.ensures ∙ ap (λ text. known_slot (meaning_of (classes_of c.args.world.now) text)) c.text-item.is) more
+    filter_step (λ text. known_slot (meaning_of (classes_of c.args.world.now) text)) c.args.types.now c.loop-text.text-index
+    c.text-item.result c.loop-text.slots c.match-known_slot.slots c.known_slot.result _ c.loop-text.invariant
+    c.loop-text-test.true (c.known_slot.ensures ∙ ap (λ text. known_slot (meaning_of (classes_of c.args.world.now) text))
+    c.text-item.is) more
 
 pub returns : goal.returns
 returns c = grind (arith, common_steps, c.loop-text.invariant)

@@ -10,7 +10,10 @@ pub loop-index-preserved : goal.loop-index-preserved
 loop-index-preserved c =
     let more : c.match-static_at.statics ≡ c.loop-index.statics ++ option_to_list c.static_at.result =
     elim c.match-static_at.branch [
-      | in-Some+in_ok-push w ↦ w.statics-is ∙ w.in_ok-push.ensures.items ∙ ap (λ o. c.loop-index.statics ++ option_to_list o) (sym w.in-Some.is)
-      | in_default w ↦ w.statics-is ∙ sym (append-nil c.loop-index.statics) ∙ ap (λ o. c.loop-index.statics ++ option_to_list o) (sym w.in_default.is)
+      | in-Some+in_ok-push w ↦ w.statics-is ∙ w.in_ok-push.ensures.items ∙ ap (λ o. c.loop-index.statics ++ option_to_list o)
+          (sym w.in-Some.is)
+      | in_default w ↦ w.statics-is ∙ sym (append-nil c.loop-index.statics) ∙ ap (λ o. c.loop-index.statics ++ option_to_list o)
+          (sym w.in_default.is)
     ] in
-    statics_step (static_at (classes_of c.args.world.now) c.args.named.now c.args.class) _ c.loop-index.statics c.match-static_at.statics c.loop-index.index c.static_at.result c.loop-index.invariant c.static_at.ensures more
+    statics_step (static_at (classes_of c.args.world.now) c.args.named.now c.args.class) _ c.loop-index.statics
+    c.match-static_at.statics c.loop-index.index c.static_at.result c.loop-index.invariant c.static_at.ensures more

@@ -5,4 +5,5 @@ use Rattle.class_program.specs.Statics.{static_at}
 use Rattle.class_program.proofs.statics.add_statics.Given as goal
 
 abbrev pub invariant-loop-index : goal.invariant-loop-index
-invariant-loop-index l = l.statics ≡ l.initial.statics ++ filter_map (static_at (classes_of l.world) l.named l.class) (range_with_len 0 l.index)
+invariant-loop-index l = l.statics ≡ l.initial.statics ++ filter_map (static_at (classes_of l.world) l.named l.class)
+    (range_with_len 0 l.index)

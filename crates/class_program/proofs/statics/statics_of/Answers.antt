@@ -5,4 +5,5 @@ use Rattle.class_program.proofs.statics.statics_of.Goals as goal
 
 pub loop-class-preserved : goal.loop-class-preserved
 loop-class-preserved c =
-    classes_step (statics_in (classes_of c.args.world.now) c.args.named.now) c.loop-class.statics _ c.loop-class.class c.loop-class.invariant c.in_ok-add_statics.ensures
+    classes_step (statics_in (classes_of c.args.world.now) c.args.named.now) c.loop-class.statics _ c.loop-class.class
+    c.loop-class.invariant c.in_ok-add_statics.ensures

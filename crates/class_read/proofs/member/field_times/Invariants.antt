@@ -10,5 +10,6 @@ abbrev pub invariant-fields : goal.invariant-fields
 invariant-fields l = record {
   numbers : AreNumbers l.pool l.seen;
   keys : SameKeys (keys_in l.pool l.seen) (field_keys (map field_content l.fields));
-  same : repeated (more_fields_at l.total l.pool) (l.count - l.counter) (map field_content l.fields) l.rest ≡ repeated (more_fields_at l.total l.pool) l.count [] l.bytes;
+  same : repeated (more_fields_at l.total l.pool) (l.count - l.counter) (map field_content l.fields) l.rest ≡ repeated
+      (more_fields_at l.total l.pool) l.count [] l.bytes;
 }

@@ -10,5 +10,6 @@ abbrev pub invariant-methods : goal.invariant-methods
 invariant-methods l = record {
   numbers : AreNumbers l.pool l.seen;
   keys : SameKeys (keys_in l.pool l.seen) (method_keys (map method_content l.methods));
-  same : repeated (more_methods_at l.total l.pool) (l.count - l.counter) (map method_content l.methods) l.rest ≡ repeated (more_methods_at l.total l.pool) l.count [] l.bytes;
+  same : repeated (more_methods_at l.total l.pool) (l.count - l.counter) (map method_content l.methods) l.rest ≡ repeated
+      (more_methods_at l.total l.pool) l.count [] l.bytes;
 }

@@ -6,10 +6,13 @@ use Rattle.class_read.proofs.method.attribute_times.Goals as goal
 pub returns-in_err-more : goal.returns-in_err-more
 returns-in_err-more c =
     let p = err_from_is_err_and c.from_residual.result c.from_residual.ensures.1 in
-    ends _ _ _ _ (method_attribute_at c.args.total c.args.pool.now c.args.coded) _ _ _ _ _ p.1 p.2 c.attributes-test.true c.in_err-more.ensures c.attributes.invariant
+    ends _ _ _ _ (method_attribute_at c.args.total c.args.pool.now c.args.coded) _ _ _ _ _ p.1 p.2 c.attributes-test.true
+    c.in_err-more.ensures c.attributes.invariant
 
 pub attributes-preserved : goal.attributes-preserved
-attributes-preserved c = goes (method_attribute_at c.args.total c.args.pool.now c.args.coded) _ _ _ _ _ _ _ c.attributes-test.true c.in_ok-more.ensures c.attributes.invariant
+attributes-preserved c = goes (method_attribute_at c.args.total c.args.pool.now c.args.coded) _ _ _ _ _ _ _ c.attributes-test.true
+    c.in_ok-more.ensures c.attributes.invariant
 
 pub returns : goal.returns
-returns c = is_done (method_attribute_at c.args.total c.args.pool.now c.args.coded) _ _ _ _ _ c.attributes-test.false c.attributes.invariant
+returns c = is_done (method_attribute_at c.args.total c.args.pool.now c.args.coded) _ _ _ _ _ c.attributes-test.false
+    c.attributes.invariant

@@ -6,4 +6,5 @@ use Rattle.class_read.proofs.method.attribute_times.Given as goal
 
 abbrev pub invariant-attributes : goal.invariant-attributes
 invariant-attributes l =
-    repeated (method_attribute_at l.total l.pool l.coded) (l.count - l.counter) (code_contents l.found) l.rest ≡ repeated (method_attribute_at l.total l.pool l.coded) l.count None l.bytes
+    repeated (method_attribute_at l.total l.pool l.coded) (l.count - l.counter) (code_contents l.found) l.rest ≡ repeated
+    (method_attribute_at l.total l.pool l.coded) l.count None l.bytes

@@ -7,7 +7,9 @@ use Rattle.class_read.proofs.rules.are_handlers.Goals as goal
 
 pub returns : goal.returns
 returns c =
-    let found = cases_from_all _ _ c.all.result (IsHandler c.args.pool.now) (λ h. IsHandler c.args.pool.now h → ⊥) c.all.ensures.ran (YieldsList-from_slice c.args.table.now cc) (λ x q k. search (rules, tests)) (λ x q k. search (rules, tests)) in (
+    let found = cases_from_all _ _ c.all.result (IsHandler c.args.pool.now) (λ h. IsHandler c.args.pool.now h → ⊥) c.all.ensures.ran
+    (YieldsList-from_slice c.args.table.now cc) (λ x q k. search (rules, tests)) (λ x q k. search (rules, tests)) in (
       λ is. λ k d lt. MatchBool-at_true _ _ is found k d (omega arith) lt,
-      λ all. true_from_All (IsHandler c.args.pool.now) (λ h. IsHandler c.args.pool.now h → ⊥) c.all.result c.args.table.now (λ x yes no. no yes) found all,
+      λ all. true_from_All (IsHandler c.args.pool.now) (λ h. IsHandler c.args.pool.now h → ⊥) c.all.result c.args.table.now
+          (λ x yes no. no yes) found all,
     )

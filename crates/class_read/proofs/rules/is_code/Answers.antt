@@ -17,7 +17,8 @@ returns c =
         table_fits = counts.2;
         handlers = recursion_from_All (IsHandler c.args.pool.now) c.args.table.now (c.are_handlers.ensures.0 c.if-not-are_handlers.false);
         attributes_fit = counts.3;
-        skipped = recursion_from_All (IsAttribute c.args.pool.now) c.args.attributes.now (c.are_attributes.ensures.0 c.if-not-are_attributes.false);
+        skipped = recursion_from_All (IsAttribute c.args.pool.now) c.args.attributes.now
+            (c.are_attributes.ensures.0 c.if-not-are_attributes.false);
         content_fits = size.0 is;
       },
       λ rule. size.1 rule.content_fits,

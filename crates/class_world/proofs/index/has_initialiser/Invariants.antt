@@ -6,4 +6,5 @@ use Rattle.class_world.specs.Resolve.{is_initialiser}
 use Rattle.class_world.proofs.index.has_initialiser.Given as goal
 
 abbrev pub invariant-loop-method : goal.invariant-loop-method
-invariant-loop-method l = list_any is_initialiser (map method_content (drop l.method-index l.methods)) ≡ list_any is_initialiser (map method_content l.methods)
+invariant-loop-method l = list_any is_initialiser (map method_content (drop l.method-index l.methods)) ≡ list_any is_initialiser
+    (map method_content l.methods)

@@ -6,4 +6,5 @@ use Rattle.class_world.specs.Linking.{is_default}
 use Rattle.class_world.proofs.linking.has_default.Given as goal
 
 abbrev pub invariant-loop-method : goal.invariant-loop-method
-invariant-loop-method l = list_any is_default (map method_content (drop l.method-index l.methods)) ≡ list_any is_default (map method_content l.methods)
+invariant-loop-method l = list_any is_default (map method_content (drop l.method-index l.methods)) ≡ list_any is_default
+    (map method_content l.methods)

@@ -17,9 +17,11 @@ pub returns-in_err-keeps-3 : goal.returns-in_err-keeps-3
 unfolding later_fault
 returns-in_err-keeps-3 c =
     passed_on _ _ _ c.from_residual-in_err-keeps-3.ensures.1
-    (says_along _ _ _ (after_none _ _ c.in_ok-keeps.ensures ∙ after_none _ _ c.in_ok-keeps-2.ensures) (first_says _ _ _ c.in_err-keeps-3.ensures))
+    (says_along _ _ _ (after_none _ _ c.in_ok-keeps.ensures ∙ after_none _ _ c.in_ok-keeps-2.ensures)
+    (first_says _ _ _ c.in_err-keeps-3.ensures))
 
 pub returns : goal.returns
 unfolding later_fault
 returns c =
-    refuses_along _ _ _ (after_none _ _ c.in_ok-keeps.ensures ∙ after_none _ _ c.in_ok-keeps-2.ensures ∙ after_none _ _ c.in_ok-keeps-3.ensures) c.keeps-4.ensures
+    refuses_along _ _ _ (after_none _ _ c.in_ok-keeps.ensures ∙ after_none _ _ c.in_ok-keeps-2.ensures
+    ∙ after_none _ _ c.in_ok-keeps-3.ensures) c.keeps-4.ensures

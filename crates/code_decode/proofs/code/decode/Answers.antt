@@ -11,8 +11,10 @@ returns-clause-found c = is_found c.args.code.now c.whole.result (λ i. omega (a
 
 pub returns-clause-only : goal.returns-clause-only
 returns-clause-only c =
-    λ insns reading. subst (λ (r : Result (List (ℕ × Insn)) CodeFault). Gives (λ v. v.items) c.whole.result r) (reads_again c.args.code.now insns reading) c.whole.ensures
+    λ insns reading. subst (λ (r : Result (List (ℕ × Insn)) CodeFault). Gives (λ v. v.items) c.whole.result r)
+    (reads_again c.args.code.now insns reading) c.whole.ensures
 
 pub returns-clause-again : goal.returns-clause-again
 returns-clause-again c =
-    can_be_written c.args.code.now c.whole.result c.requires (is_found c.args.code.now c.whole.result (λ i. omega (arith, c.type_inv.code i)) c.requires c.whole.ensures)
+    can_be_written c.args.code.now c.whole.result c.requires
+    (is_found c.args.code.now c.whole.result (λ i. omega (arith, c.type_inv.code i)) c.requires c.whole.ensures)

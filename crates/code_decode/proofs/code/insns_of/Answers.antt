@@ -12,12 +12,16 @@ returns c = loop_is_done c.args.code.now c.loop-op.insns.items c.loop-op.rest.no
 pub returns-in_err-insn : goal.returns-in_err-insn
 returns-in_err-insn c =
     let p = err_from_is_err_and c.from_residual.result c.from_residual.ensures.1 in
-    rw (p.1, p.2) (loop_ends c.args.code.now c.loop-op.insns.items c.loop-op.rest.now c.in-Some.op.now c.in-Some.bytes.now c.in_err-insn.field-0.0 c.in-Some.ensures.cases.0 c.loop-op.invariant c.in_err-insn.ensures)
+    rw (p.1, p.2) (loop_ends c.args.code.now c.loop-op.insns.items c.loop-op.rest.now c.in-Some.op.now c.in-Some.bytes.now
+    c.in_err-insn.field-0.0 c.in-Some.ensures.cases.0 c.loop-op.invariant c.in_err-insn.ensures)
 
 pub loop-op-smaller : goal.loop-op-smaller
 loop-op-smaller c =
-    loop_shrinks c.args.code.now c.loop-op.insns.items c.loop-op.rest.now c.in-Some.op.now c.in-Some.bytes.now _ c.in_ok-insn.insn c.in_ok-insn.after.now c.in-Some.ensures.cases.0 c.loop-op.invariant c.in_ok-insn.ensures
+    loop_shrinks c.args.code.now c.loop-op.insns.items c.loop-op.rest.now c.in-Some.op.now c.in-Some.bytes.now _ c.in_ok-insn.insn
+    c.in_ok-insn.after.now c.in-Some.ensures.cases.0 c.loop-op.invariant c.in_ok-insn.ensures
 
 pub loop-op-preserved : goal.loop-op-preserved
 loop-op-preserved c =
-    loop_goes_on c.args.code.now c.loop-op.insns.items c.push.new.self.items c.loop-op.rest.now c.in-Some.op.now c.in-Some.bytes.now c.in_ok-insn.insn c.in_ok-insn.after.now c.in-Some.ensures.cases.0 c.loop-op.invariant c.in_ok-insn.ensures c.in_ok-push.ensures.items
+    loop_goes_on c.args.code.now c.loop-op.insns.items c.push.new.self.items c.loop-op.rest.now c.in-Some.op.now c.in-Some.bytes.now
+    c.in_ok-insn.insn c.in_ok-insn.after.now c.in-Some.ensures.cases.0 c.loop-op.invariant c.in_ok-insn.ensures
+    c.in_ok-push.ensures.items

@@ -6,11 +6,15 @@ use Rattle.code_decode.proofs.reading.cases_at.Goals as goal
 pub returns-in_err-case : goal.returns-in_err-case
 returns-in_err-case c =
     let p = err_from_is_err_and c.from_residual.result c.from_residual.ensures.1 in
-    rw (p.1, p.2) (ends c.in_err-case.field-0.0 (case_at c.args.pc) c.loop.cases c.args.count c.loop.counter c.loop.rest.now (repeat_at (case_at c.args.pc) c.args.count c.args.bytes.now) c.loop-test.true c.in_err-case.ensures c.loop.invariant)
+    rw (p.1, p.2) (ends c.in_err-case.field-0.0 (case_at c.args.pc) c.loop.cases c.args.count c.loop.counter c.loop.rest.now
+    (repeat_at (case_at c.args.pc) c.args.count c.args.bytes.now) c.loop-test.true c.in_err-case.ensures c.loop.invariant)
 
 pub loop-preserved : goal.loop-preserved
 loop-preserved c =
-    rw c.in_ok-push.ensures.items (goes_on (case_at c.args.pc) c.loop.cases c.args.count c.loop.counter c.loop.rest.now c.in_ok-case.case c.in_ok-case.after.now (repeat_at (case_at c.args.pc) c.args.count c.args.bytes.now) c.loop-test.true c.in_ok-case.ensures c.loop.invariant)
+    rw c.in_ok-push.ensures.items (goes_on (case_at c.args.pc) c.loop.cases c.args.count c.loop.counter c.loop.rest.now
+    c.in_ok-case.case c.in_ok-case.after.now (repeat_at (case_at c.args.pc) c.args.count c.args.bytes.now) c.loop-test.true
+    c.in_ok-case.ensures c.loop.invariant)
 
 pub returns : goal.returns
-returns c = is_done (case_at c.args.pc) c.loop.cases c.args.count c.loop.counter c.loop.rest.now (repeat_at (case_at c.args.pc) c.args.count c.args.bytes.now) c.loop-test.false c.loop.invariant
+returns c = is_done (case_at c.args.pc) c.loop.cases c.args.count c.loop.counter c.loop.rest.now
+    (repeat_at (case_at c.args.pc) c.args.count c.args.bytes.now) c.loop-test.false c.loop.invariant

@@ -7,11 +7,16 @@ use Rattle.code_decode.proofs.reading.targets_at.Goals as goal
 pub returns-in_err-target : goal.returns-in_err-target
 returns-in_err-target c =
     let p = err_from_is_err_and c.from_residual.result c.from_residual.ensures.1 in
-    rw (p.1, p.2) (ends c.in_err-target.field-0.0 (target_at w32 c.args.pc) c.loop.targets c.args.count c.loop.counter c.loop.rest.now (repeat_at (target_at w32 c.args.pc) c.args.count c.args.bytes.now) c.loop-test.true c.in_err-target.ensures c.loop.invariant)
+    rw (p.1, p.2) (ends c.in_err-target.field-0.0 (target_at w32 c.args.pc) c.loop.targets c.args.count c.loop.counter
+    c.loop.rest.now (repeat_at (target_at w32 c.args.pc) c.args.count c.args.bytes.now) c.loop-test.true
+    c.in_err-target.ensures c.loop.invariant)
 
 pub loop-preserved : goal.loop-preserved
 loop-preserved c =
-    rw c.in_ok-push.ensures.items (goes_on (target_at w32 c.args.pc) c.loop.targets c.args.count c.loop.counter c.loop.rest.now c.in_ok-target.target c.in_ok-target.after.now (repeat_at (target_at w32 c.args.pc) c.args.count c.args.bytes.now) c.loop-test.true c.in_ok-target.ensures c.loop.invariant)
+    rw c.in_ok-push.ensures.items (goes_on (target_at w32 c.args.pc) c.loop.targets c.args.count c.loop.counter c.loop.rest.now
+    c.in_ok-target.target c.in_ok-target.after.now (repeat_at (target_at w32 c.args.pc) c.args.count c.args.bytes.now)
+    c.loop-test.true c.in_ok-target.ensures c.loop.invariant)
 
 pub returns : goal.returns
-returns c = is_done (target_at w32 c.args.pc) c.loop.targets c.args.count c.loop.counter c.loop.rest.now (repeat_at (target_at w32 c.args.pc) c.args.count c.args.bytes.now) c.loop-test.false c.loop.invariant
+returns c = is_done (target_at w32 c.args.pc) c.loop.targets c.args.count c.loop.counter c.loop.rest.now
+    (repeat_at (target_at w32 c.args.pc) c.args.count c.args.bytes.now) c.loop-test.false c.loop.invariant

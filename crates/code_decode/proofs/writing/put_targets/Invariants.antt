@@ -5,4 +5,5 @@ use Rattle.code_decode.specs.Texts.{signed, distance}
 use Rattle.code_decode.proofs.writing.put_targets.Given as goal
 
 abbrev pub invariant-loop-target : goal.invariant-loop-target
-invariant-loop-target l = l.out.items ≡ l.initial.out.items ++ flat_map (λ target. signed w32 (distance l.pc target)) (take l.target-index l.targets)
+invariant-loop-target l = l.out.items ≡ l.initial.out.items ++ flat_map (λ target. signed w32 (distance l.pc target))
+    (take l.target-index l.targets)

@@ -5,5 +5,6 @@ use Rattle.code_decode.proofs.writing.put_zeros.Goals as goal
 
 pub loop-preserved : goal.loop-preserved
 loop-preserved c =
-    adds_then c.args.out.now.items c.loop.out.items c.push.new.self.items (zeros c.loop.counter) (0 ∷ []) c.loop.invariant c.in_ok-push.ensures.items
+    adds_then c.args.out.now.items c.loop.out.items c.push.new.self.items (zeros c.loop.counter) (0 ∷ []) c.loop.invariant
+    c.in_ok-push.ensures.items
     ∙ ap (λ (t : List ℕ). c.args.out.now.items ++ t) (sym (zeros_push c.loop.counter))

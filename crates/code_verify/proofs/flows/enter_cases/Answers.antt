@@ -12,15 +12,20 @@ loop-case-init c = grown_none _ (laws_at c.args.world.now) _ c.requires.table
 
 pub returns-then-not-entered : goal.returns-then-not-entered
 returns-then-not-entered c =
-    next_refuses _ (laws_at c.args.world.now) (λ (cs : List Case). onward (seen c.args.frame.now) (map (λ (x : Case). x.target) cs)) (cases_add (seen c.args.frame.now)) c.args.cases.now c.loop-case.case-index _ _ _ (omega (arith, c.loop-case-test.true)) c.loop-case.invariant
+    next_refuses _ (laws_at c.args.world.now) (λ (cs : List Case). onward (seen c.args.frame.now) (map (λ (x : Case). x.target) cs))
+    (cases_add (seen c.args.frame.now)) c.args.cases.now c.loop-case.case-index _ _ _ (omega (arith, c.loop-case-test.true))
+    c.loop-case.invariant
     (did_not_come _ (laws_at c.args.world.now) _ _ _ _ c.if-not-entered.true c.in_ok-entered.ensures)
 
 pub loop-case-preserved : goal.loop-case-preserved
 loop-case-preserved c =
-    next_comes _ (laws_at c.args.world.now) (λ (cs : List Case). onward (seen c.args.frame.now) (map (λ (x : Case). x.target) cs)) (cases_add (seen c.args.frame.now)) c.args.cases.now c.loop-case.case-index _ _ _ _ (omega (arith, c.loop-case-test.true)) c.loop-case.invariant
+    next_comes _ (laws_at c.args.world.now) (λ (cs : List Case). onward (seen c.args.frame.now) (map (λ (x : Case). x.target) cs))
+    (cases_add (seen c.args.frame.now)) c.args.cases.now c.loop-case.case-index _ _ _ _ (omega (arith, c.loop-case-test.true))
+    c.loop-case.invariant
     (came _ (laws_at c.args.world.now) _ _ _ _ c.if-not-entered.false c.in_ok-entered.ensures)
 
 pub returns : goal.returns
 returns c =
     let e : c.loop-case.case-index ≡ length c.args.cases.now = omega (arith, c.loop-case-test.false) in
-    all_came _ (laws_at c.args.world.now) (λ (cs : List Case). onward (seen c.args.frame.now) (map (λ (x : Case). x.target) cs)) (cases_add (seen c.args.frame.now)) c.args.cases.now c.loop-case.case-index _ _ e c.loop-case.invariant
+    all_came _ (laws_at c.args.world.now) (λ (cs : List Case). onward (seen c.args.frame.now) (map (λ (x : Case). x.target) cs))
+    (cases_add (seen c.args.frame.now)) c.args.cases.now c.loop-case.case-index _ _ e c.loop-case.invariant

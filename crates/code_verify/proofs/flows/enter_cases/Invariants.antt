@@ -7,4 +7,5 @@ use Rattle.code_verify.specs.Flows.{onward}
 use Rattle.code_verify.proofs.flows.enter_cases.Given as goal
 
 abbrev pub invariant-loop-case : goal.invariant-loop-case
-invariant-loop-case l = IsGrown (types_of (classes_of l.world)) (onward (seen l.frame) (map (λ c. c.target) (take l.case-index l.cases))) l.fn.table l.table
+invariant-loop-case l = IsGrown (types_of (classes_of l.world))
+    (onward (seen l.frame) (map (λ c. c.target) (take l.case-index l.cases))) l.fn.table l.table

@@ -7,4 +7,6 @@ use Rattle.code_verify.specs.Flows.{caught}
 use Rattle.code_verify.proofs.flows.enter_handlers.Given as goal
 
 abbrev pub invariant-loop-range : goal.invariant-loop-range
-invariant-loop-range l = IsGrown (types_of (classes_of l.world)) (caught (classes_of l.world) l.place (seen l.fn.frame) (take l.range-index l.ranges)) l.fn.table l.table × (l.frame.locals ≡ l.fn.frame.locals)
+invariant-loop-range l = IsGrown (types_of (classes_of l.world))
+    (caught (classes_of l.world) l.place (seen l.fn.frame) (take l.range-index l.ranges)) l.fn.table l.table
+    × (l.frame.locals ≡ l.fn.frame.locals)

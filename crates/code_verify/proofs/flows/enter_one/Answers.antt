@@ -7,4 +7,5 @@ use Rattle.code_verify.proofs.FlowLaws.{none_come}
 use Rattle.code_verify.proofs.flows.enter_one.Goals as goal
 
 pub returns-in-None : goal.returns-in-None
-returns-in-None c = none_come _ (laws_at c.args.world.now) _ _ (ap (λ (x : Option ℕ). onward (seen c.args.frame.now) (option_to_list x)) c.in-None.is) c.requires.table
+returns-in-None c = none_come _ (laws_at c.args.world.now) _ _
+    (ap (λ (x : Option ℕ). onward (seen c.args.frame.now) (option_to_list x)) c.in-None.is) c.requires.table

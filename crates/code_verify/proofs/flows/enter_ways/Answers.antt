@@ -6,8 +6,12 @@ use Rattle.code_verify.proofs.flows.enter_ways.Goals as goal
 
 pub returns-then-not-entered : goal.returns-then-not-entered
 returns-then-not-entered c =
-    first_refuses _ (laws_at c.args.world.now) _ _ _ c.args.table.now (did_not_come _ (laws_at c.args.world.now) _ _ c.args.table.now _ c.if-not-entered.true c.in_ok-entered.ensures) (onward_two _ _ _ _ _ (ap option_to_list c.following.ensures) refl)
+    first_refuses _ (laws_at c.args.world.now) _ _ _ c.args.table.now
+    (did_not_come _ (laws_at c.args.world.now) _ _ c.args.table.now _ c.if-not-entered.true c.in_ok-entered.ensures)
+    (onward_two _ _ _ _ _ (ap option_to_list c.following.ensures) refl)
 
 pub returns : goal.returns
 returns c =
-    both_answer _ (laws_at c.args.world.now) _ _ _ _ _ _ _ (came _ (laws_at c.args.world.now) _ _ _ _ c.if-not-entered.false c.in_ok-entered.ensures) (onward_two _ _ _ _ _ (ap option_to_list c.following.ensures) refl) c.enter_jumps.ensures
+    both_answer _ (laws_at c.args.world.now) _ _ _ _ _ _ _
+    (came _ (laws_at c.args.world.now) _ _ _ _ c.if-not-entered.false c.in_ok-entered.ensures)
+    (onward_two _ _ _ _ _ (ap option_to_list c.following.ensures) refl) c.enter_jumps.ensures

@@ -10,7 +10,10 @@ use Rattle.code_verify.proofs.method.entry_frame.Goals as goal
 pub returns : goal.returns
 returns c =
     let frame : FrameType = record { locals = c.loop.locals; stack = c.new.result } in
-    let e : c.loop.counter ≡ c.args.method.now.max_locals = omega (arith, c.loop-test.false, c.loop.auto.counter, c.loop.auto.counter-end, c.len-counter.ensures, c.from-end.ensures, c.requires) in
-    frame_is frame (map (place_of (types_of (classes_of c.args.world.now))) c.args.method.now.params ++ replicate (c.args.method.now.max_locals - length c.args.method.now.params) places.Unset) []
-    (c.loop.invariant ∙ ap (λ (k : ℕ). map (place_of (types_of (classes_of c.args.world.now))) c.args.method.now.params ++ replicate (k - length c.args.method.now.params) places.Unset) e)
+    let e : c.loop.counter ≡ c.args.method.now.max_locals = omega
+    (arith, c.loop-test.false, c.loop.auto.counter, c.loop.auto.counter-end, c.len-counter.ensures, c.from-end.ensures, c.requires) in
+    frame_is frame (map (place_of (types_of (classes_of c.args.world.now))) c.args.method.now.params ++ replicate
+    (c.args.method.now.max_locals - length c.args.method.now.params) places.Unset) []
+    (c.loop.invariant ∙ ap (λ (k : ℕ). map (place_of (types_of (classes_of c.args.world.now))) c.args.method.now.params ++ replicate
+    (k - length c.args.method.now.params) places.Unset) e)
     c.new.ensures

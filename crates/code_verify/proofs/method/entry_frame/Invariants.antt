@@ -9,4 +9,5 @@ abbrev pub invariant-loop-slot : goal.invariant-loop-slot
 invariant-loop-slot l = l.locals ≡ map (place_of (types_of (classes_of l.world))) (take l.slot-index l.method.params)
 
 abbrev pub invariant-loop : goal.invariant-loop
-invariant-loop l = l.locals ≡ map (place_of (types_of (classes_of l.world))) l.method.params ++ replicate (l.counter - length l.method.params) places.Unset
+invariant-loop l = l.locals ≡ map (place_of (types_of (classes_of l.world))) l.method.params ++ replicate
+    (l.counter - length l.method.params) places.Unset

@@ -7,7 +7,8 @@ use Rattle.code_verify.specs.Solving.{IsSolving, IsPassed}
 use Rattle.code_verify.proofs.method.type_method.Given as goal
 
 abbrev pub invariant-loop-passed : goal.invariant-loop-passed
-invariant-loop-passed l = IsSolving (program_of l.program) l.method l.table × IsPassed (classes_of l.program.world) l.method.table (types_at l.table.types) l.passed
+invariant-loop-passed l = IsSolving (program_of l.program) l.method l.table × IsPassed (classes_of l.program.world) l.method.table
+    (types_at l.table.types) l.passed
 
 abbrev pub decreases-loop-passed : goal.decreases-loop-passed
 decreases-loop-passed l = work_left (types_of (classes_of l.program.world)) l.table

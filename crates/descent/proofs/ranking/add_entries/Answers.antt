@@ -8,11 +8,16 @@ use Rattle.descent.proofs.ranking.add_entries.Goals as goal
 use Rattle.descent.proofs.ranking.add_entries.Goals.{in-Some, in_default}
 
 pub slot_constant-requires-clause-slot : goal.slot_constant-requires-clause-slot
-slot_constant-requires-clause-slot c = (variables c.args.scratch.now, slot_fits (variables c.args.scratch.now) c.args.slots.now c.args.size _ c.in-Some.slot.now c.requires.slots c.in-Some.ensures)
+slot_constant-requires-clause-slot c = (
+  variables c.args.scratch.now,
+  slot_fits (variables c.args.scratch.now) c.args.slots.now
+      c.args.size _ c.in-Some.slot.now c.requires.slots c.in-Some.ensures,
+)
 
 pub add-requires-clause-rise : goal.add-requires-clause-rise
 add-requires-clause-rise c =
-    let fit = slot_fits (variables c.args.scratch.now) c.args.slots.now c.args.size _ c.in-Some.slot.now c.requires.slots c.in-Some.ensures in
+    let fit = slot_fits (variables c.args.scratch.now) c.args.slots.now c.args.size _ c.in-Some.slot.now c.requires.slots
+    c.in-Some.ensures in
     rw (c.as_slice.ensures, c.loop-id.invariant.count) fit.rise
 
 pub add-requires-clause-room : goal.add-requires-clause-room
@@ -26,8 +31,13 @@ loop-id-preserved c =
           let other : FitsSigned w64 w.signed.result = search rules in
           let number : to_z w64 (of_z w64 w.slot_constant.result) ≡ w.slot_constant.result = to_z-of_z one in
           let by : to_z w64 (of_z w64 w.signed.result) ≡ w.signed.result = to_z-of_z other in
-          rw w.scratch-is (adding_slot_more (weight_in c.args.weights.now) c.args.slots.now c.args.size _ _ _ c.args.entries.now w.in-Some.slot.now _ c.loop-id.id-index c.args.scratch.now c.loop-id.scratch _ c.loop-id-test.true c.loop-id.invariant w.in-Some.ensures (by ∙ w.signed.ensures.value) w.as_slice.ensures (number ∙ w.slot_constant.ensures) w.add.ensures)
-      | in_default w ↦ rw w.scratch-is (adding_none_more (weight_in c.args.weights.now) c.args.slots.now c.args.size _ c.args.entries.now c.loop-id.id-index c.args.scratch.now c.loop-id.scratch c.loop-id-test.true c.loop-id.invariant w.in_default.ensures)
+          rw w.scratch-is (adding_slot_more (weight_in c.args.weights.now) c.args.slots.now c.args.size _ _ _ c.args.entries.now
+          w.in-Some.slot.now _ c.loop-id.id-index c.args.scratch.now c.loop-id.scratch _ c.loop-id-test.true
+          c.loop-id.invariant w.in-Some.ensures (by ∙ w.signed.ensures.value) w.as_slice.ensures
+          (number ∙ w.slot_constant.ensures) w.add.ensures)
+      | in_default w ↦ rw w.scratch-is
+          (adding_none_more (weight_in c.args.weights.now) c.args.slots.now c.args.size _ c.args.entries.now c.loop-id.id-index
+          c.args.scratch.now c.loop-id.scratch c.loop-id-test.true c.loop-id.invariant w.in_default.ensures)
     ]
 
 pub returns : goal.returns

@@ -6,4 +6,5 @@ use Rattle.descent.specs.Splits.{is_misplaced, least}
 use Rattle.descent.proofs.splits.uncovered.Given as goal
 
 abbrev pub invariant-loop-part : goal.invariant-loop-part
-invariant-loop-part l = lesser l.least (least (filter (is_misplaced l.set l.parts) (concat (drop l.part-index l.parts)))) ≡ least (filter (is_misplaced l.set l.parts) (l.set ++ concat l.parts))
+invariant-loop-part l = lesser l.least (least (filter (is_misplaced l.set l.parts) (concat (drop l.part-index l.parts)))) ≡ least
+    (filter (is_misplaced l.set l.parts) (l.set ++ concat l.parts))

@@ -12,7 +12,13 @@ pub is_as_listed-requires-clause-room : goal.is_as_listed-requires-clause-room
 is_as_listed-requires-clause-room g c = over_at _ c.args.rules.now c.args.number c.in-Some.rule.now c.requires.room c.in-Some.ensures
 
 pub returns-in-Some-clause-fault : goal.returns-in-Some-clause-fault
-returns-in-Some-clause-fault g c = c.is_as_listed.ensures.fault ∙ ap (λ o. listed_fault (g.O.Order.weak_says c.args.order.now) (g.O.Order.strict_says c.args.order.now) (g.O.Order.bounded_says c.args.order.now) c.args.listed.now o) (sym c.in-Some.ensures)
+returns-in-Some-clause-fault g c = c.is_as_listed.ensures.fault
+    ∙ ap (λ o. listed_fault (g.O.Order.weak_says c.args.order.now) (g.O.Order.strict_says c.args.order.now)
+    (g.O.Order.bounded_says c.args.order.now) c.args.listed.now o) (sym c.in-Some.ensures)
 
 pub returns-in-None-clause-fault : goal.returns-in-None-clause-fault
-returns-in-None-clause-fault g c = ap (λ r. Some (NotCovered r)) c.rule_of.ensures ∙ none_listed (g.O.Order.weak_says c.args.order.now) (g.O.Order.strict_says c.args.order.now) (g.O.Order.bounded_says c.args.order.now) c.args.listed.now ∙ ap (λ o. listed_fault (g.O.Order.weak_says c.args.order.now) (g.O.Order.strict_says c.args.order.now) (g.O.Order.bounded_says c.args.order.now) c.args.listed.now o) (sym c.in-None.ensures)
+returns-in-None-clause-fault g c = ap (λ r. Some (NotCovered r)) c.rule_of.ensures
+    ∙ none_listed (g.O.Order.weak_says c.args.order.now) (g.O.Order.strict_says c.args.order.now)
+    (g.O.Order.bounded_says c.args.order.now) c.args.listed.now
+    ∙ ap (λ o. listed_fault (g.O.Order.weak_says c.args.order.now) (g.O.Order.strict_says c.args.order.now)
+    (g.O.Order.bounded_says c.args.order.now) c.args.listed.now o) (sym c.in-None.ensures)

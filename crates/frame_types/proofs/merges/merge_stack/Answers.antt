@@ -20,11 +20,13 @@ loop-i-preserved g c =
     let s = get_or_read c.args.more.now.0 _ _ m c.at-come.ensures places.Unset in
     elim c.if-not-same.branch [
       | then-not-same w ↦ (
-        next_is _ _ _ _ _ _ _ _ _ _ _ l c.loop-i.invariant.0 c.at-here.ensures s c.join_places-joined.ensures (λ e. absurd (false≢true (sym w.if-not-same.true ∙ c.is_same-same.ensures.1 e))) (ap (λ x. x.0) w.stack-is) w.grew-is,
+        next_is _ _ _ _ _ _ _ _ _ _ _ l c.loop-i.invariant.0 c.at-here.ensures s c.join_places-joined.ensures
+            (λ e. absurd (false≢true (sym w.if-not-same.true ∙ c.is_same-same.ensures.1 e))) (ap (λ x. x.0) w.stack-is) w.grew-is,
         set_next _ _ _ _ c.loop-i.invariant.1 c.in_default.not-Unset (ap (λ x. x.0) w.stack-is),
       )
       | else-not-same w ↦ (
-        stays_so _ _ _ _ _ _ _ _ _ _ _ l c.loop-i.invariant.0 c.at-here.ensures s c.join_places-joined.ensures (c.is_same-same.ensures.0 w.if-not-same.false) (ap (λ x. x.0) w.stack-is) w.grew-is,
+        stays_so _ _ _ _ _ _ _ _ _ _ _ l c.loop-i.invariant.0 c.at-here.ensures s c.join_places-joined.ensures
+            (c.is_same-same.ensures.0 w.if-not-same.false) (ap (λ x. x.0) w.stack-is) w.grew-is,
         rw w.stack-is c.loop-i.invariant.1,
       )
     ]

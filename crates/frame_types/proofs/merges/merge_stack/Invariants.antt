@@ -5,4 +5,5 @@ use Rattle.frame_types.proofs.Merging.{AreMerging}
 use Rattle.frame_types.proofs.merges.merge_stack.Given as goal
 
 abbrev pub invariant-loop-i : goal.invariant-loop-i
-invariant-loop-i g l = AreMerging (world_types (g.T.Types.sub l.types) (g.T.Types.erase l.types) (g.T.Types.classes l.types) (g.T.Types.fields l.types) (g.T.Types.can_be_made l.types)) l.i l.fn.stack.0 l.more.0 l.stack.0 l.grew × All IsSet l.stack.0
+invariant-loop-i g l = AreMerging (world_types (g.T.Types.sub l.types) (g.T.Types.erase l.types) (g.T.Types.classes l.types)
+    (g.T.Types.fields l.types) (g.T.Types.can_be_made l.types)) l.i l.fn.stack.0 l.more.0 l.stack.0 l.grew × All IsSet l.stack.0

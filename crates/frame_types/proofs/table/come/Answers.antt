@@ -9,7 +9,16 @@ pub merge_frames-requires-clause-old : goal.merge_frames-requires-clause-old
 merge_frames-requires-clause-old g c = c.requires.old _ (ap (option_map types_of) c.in-Some.is)
 
 pub returns-in-Some : goal.returns-in-Some
-returns-in-Some g c = answered _ (g.met.T.Types.laws c.args.types.now) _ _ _ _ _ _ (ap (option_map types_of) c.in-Some.is) c.merge_frames.ensures
+returns-in-Some g c = answered _ (g.met.T.Types.laws c.args.types.now) _ _ _ _ _ _ (ap (option_map types_of) c.in-Some.is)
+    c.merge_frames.ensures
 
 pub returns-in_ok-copy_of-in-None : goal.returns-in_ok-copy_of-in-None
-returns-in_ok-copy_of-in-None g c = (_, (refl, first _ (g.met.T.Types.laws c.args.types.now) _ _ _ _ (ap (option_map types_of) c.in-None.is) c.in_ok-copy_of-in-None.ensures c.requires.more, λ e. none-some _ (sym (ap (option_map types_of) c.in-None.is) ∙ sym e)))
+returns-in_ok-copy_of-in-None g c = (
+  _,
+  (
+    refl,
+    first _ (g.met.T.Types.laws c.args.types.now) _ _ _ _ (ap (option_map types_of) c.in-None.is)
+        c.in_ok-copy_of-in-None.ensures c.requires.more,
+    λ e. none-some _ (sym (ap (option_map types_of) c.in-None.is) ∙ sym e),
+  ),
+)

@@ -17,7 +17,8 @@ returns-in-Err-clause-nodes g c =
     let nodes = g.S.NodeSource.graph c.args.source.now in
     subst (λ (f : CheckFault). GoodNodesOr p typing nodes (Err f)) (sym c.fault_of.ensures)
     (first_bad p typing nodes c.loop-number.number c.loop-number.links c.in-Err.failure
-    (subst (λ (ns : List GraphNode). NodeLeavesOr p typing ns c.loop-number.number (Err c.in-Err.failure)) c.loop-number.invariant.same c.in-Err.ensures.leaves)
+    (subst (λ (ns : List GraphNode). NodeLeavesOr p typing ns c.loop-number.number (Err c.in-Err.failure))
+    c.loop-number.invariant.same c.in-Err.ensures.leaves)
     c.loop-number.invariant.good)
 
 pub loop-number-preserved : goal.loop-number-preserved
@@ -27,8 +28,10 @@ loop-number-preserved g c =
     let nodes = g.S.NodeSource.graph c.args.source.now in
     record {
       same = c.node_links.ensures.same ∙ c.loop-number.invariant.same;
-      good = subst (λ (ls : List (List Link)). AllZip (IsGoodNode p typing nodes) (take (c.loop-number.number + 1) nodes) ls) (sym c.in_ok-push-in-Ok.ensures.items)
+      good = subst (λ (ls : List (List Link)). AllZip (IsGoodNode p typing nodes) (take (c.loop-number.number + 1) nodes) ls)
+          (sym c.in_ok-push-in-Ok.ensures.items)
           (one_more_good p typing nodes c.loop-number.number c.loop-number.links c.in-Ok.found
-          (subst (λ (ns : List GraphNode). NodeLeavesOr p typing ns c.loop-number.number (Ok c.in-Ok.found)) c.loop-number.invariant.same c.in-Ok.ensures.leaves)
+          (subst (λ (ns : List GraphNode). NodeLeavesOr p typing ns c.loop-number.number (Ok c.in-Ok.found))
+          c.loop-number.invariant.same c.in-Ok.ensures.leaves)
           c.loop-number.invariant.good);
     }

@@ -8,5 +8,6 @@ use Rattle.graph_check.proofs.checking.all_links.Given as goal
 abbrev pub invariant-loop-number : goal.invariant-loop-number
 invariant-loop-number g l = record {
   same : g.S.NodeSource.graph l.source ≡ g.S.NodeSource.graph l.initial.source;
-  good : AllZip (IsGoodNode (program_of l.program) (typing_at l.typing) (g.S.NodeSource.graph l.initial.source)) (take l.number (g.S.NodeSource.graph l.initial.source)) l.links;
+  good : AllZip (IsGoodNode (program_of l.program) (typing_at l.typing) (g.S.NodeSource.graph l.initial.source))
+      (take l.number (g.S.NodeSource.graph l.initial.source)) l.links;
 }

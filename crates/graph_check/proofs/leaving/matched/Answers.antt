@@ -6,5 +6,14 @@ use Rattle.class_program.specs.Views.{program_of}
 use Rattle.graph_check.proofs.leaving.matched.Goals as goal
 
 pub returns-in-Ok-clause-links : goal.returns-in-Ok-clause-links
-returns-in-Ok-clause-links g c =
-    (c.in_ok-node.node, (c.in_ok-node.ensures.node, (subst (λ (s : AbstractState). InstanceOf (types_of (program_of c.args.program.now).world).sub c.args.state.now s c.args.map.now) c.state.ensures c.in-Ok.ensures.ok, c.new.ensures)))
+returns-in-Ok-clause-links g c = (
+  c.in_ok-node.node,
+  (
+    c.in_ok-node.ensures.node,
+    (
+      subst (λ (s : AbstractState). InstanceOf (types_of (program_of c.args.program.now).world).sub c.args.state.now s
+          c.args.map.now) c.state.ensures c.in-Ok.ensures.ok,
+      c.new.ensures,
+    ),
+  ),
+)

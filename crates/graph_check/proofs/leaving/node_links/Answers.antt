@@ -9,4 +9,5 @@ use Rattle.graph_check.proofs.leaving.node_links.Goals as goal
 pub returns-in_err-node-clause-leaves : goal.returns-in_err-node-clause-leaves
 returns-in_err-node-clause-leaves g c =
     let p = err_from_is_err_and c.from_residual.result c.from_residual.ensures.1 in
-    memory_leaves (program_of c.args.program.now) (typing_at c.args.typing.now) (g.S.NodeSource.graph c.args.source.now) c.args.number c.from_residual.result c.requires.there (p.1 ∙ ap (λ (e : Failure). Err e) p.2)
+    memory_leaves (program_of c.args.program.now) (typing_at c.args.typing.now) (g.S.NodeSource.graph c.args.source.now)
+    c.args.number c.from_residual.result c.requires.there (p.1 ∙ ap (λ (e : Failure). Err e) p.2)

@@ -9,4 +9,5 @@ overflow_cast-result c = int_fits c.in_ok-number.number (located c.args.view.now
 
 pub returns : goal.returns
 unfolding an_int
-returns c = sym c.in_ok-number.ensures ∙ ap (λ (z : ℤ). Ok z) (sym (int_same c.in_ok-number.number (located c.args.view.now) c.in_ok-number.ensures))
+returns c = sym c.in_ok-number.ensures
+    ∙ ap (λ (z : ℤ). Ok z) (sym (int_same c.in_ok-number.number (located c.args.view.now) c.in_ok-number.ensures))

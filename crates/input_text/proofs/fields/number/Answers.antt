@@ -9,4 +9,5 @@ overflow_cast-result c = number_fits c.in_ok-number.number (located c.args.view.
 
 pub returns : goal.returns
 unfolding a_number
-returns c = rw (← c.in_ok-number.ensures) (ap (λ (z : ℤ). Ok (nat_abs z)) (sym (number_same c.in_ok-number.number (located c.args.view.now) c.in_ok-number.ensures)))
+returns c = rw (← c.in_ok-number.ensures)
+    (ap (λ (z : ℤ). Ok (nat_abs z)) (sym (number_same c.in_ok-number.number (located c.args.view.now) c.in_ok-number.ensures)))

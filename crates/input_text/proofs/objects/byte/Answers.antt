@@ -9,4 +9,5 @@ overflow_cast-result c = byte_fits c.in_ok-number.number (located c.args.view.no
 
 pub returns : goal.returns
 unfolding a_byte
-returns c = rw (← c.in_ok-number.ensures) (ap (λ (z : ℤ). Ok (nat_abs z)) (sym (byte_same c.in_ok-number.number (located c.args.view.now) c.in_ok-number.ensures)))
+returns c = rw (← c.in_ok-number.ensures)
+    (ap (λ (z : ℤ). Ok (nat_abs z)) (sym (byte_same c.in_ok-number.number (located c.args.view.now) c.in_ok-number.ensures)))

@@ -7,4 +7,6 @@ use Rattle.std.proofs.Common.{tests}
 use Rattle.json_view.proofs.names.is_listed.Goals as goal
 
 pub returns : goal.returns
-returns c = any_from_yields_List (λ other. bytes_eq other c.args.name.now) _ _ _ c.any.ensures.ran (YieldsList-from_str_split 32 c.args.names.now (lit< tt) c.split.ensures.text c.split.ensures.has_more c.split.ensures.pattern) (λ x b q k. search (rules, tests))
+returns c = any_from_yields_List (λ other. bytes_eq other c.args.name.now) _ _ _ c.any.ensures.ran
+    (YieldsList-from_str_split 32 c.args.names.now (lit< tt) c.split.ensures.text c.split.ensures.has_more c.split.ensures.pattern)
+    (λ x b q k. search (rules, tests))

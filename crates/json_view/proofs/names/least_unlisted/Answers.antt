@@ -8,5 +8,8 @@ use Rattle.json_view.proofs.names.least_unlisted.Goals as goal
 
 pub returns : goal.returns
 returns c =
-    let found = find_from_yields_List (λ key. not (is_listed c.args.names.now (string_bytes key))) _ _ c.find.result c.find.ensures.ran (YieldsList-from_shown (TakesFirst deref) (λ x. x.now) (λ s. s) (λ s t h. search rules) (λ s x t h. search rules) c.keys.result) (λ x b q k. search (rules, tests)) in
-    least_unlisted-first c.args.names.now c.args.members.now.entries c.keys.result c.find.result c.keys.ensures.rest c.keys.ensures.ordered found
+    let found = find_from_yields_List (λ key. not (is_listed c.args.names.now (string_bytes key))) _ _ c.find.result
+    c.find.ensures.ran (YieldsList-from_shown (TakesFirst deref) (λ x. x.now) (λ s. s) (λ s t h. search rules)
+    (λ s x t h. search rules) c.keys.result) (λ x b q k. search (rules, tests)) in
+    least_unlisted-first c.args.names.now c.args.members.now.entries c.keys.result c.find.result c.keys.ensures.rest
+    c.keys.ensures.ordered found

@@ -6,7 +6,11 @@ use Rattle.jvm_heaps.proofs.DagTurns.{next_enter, last_enter}
 use Rattle.jvm_heaps.proofs.dags.enter_all.Goals as goal
 
 pub loop-value-preserved : goal.loop-value-preserved
-loop-value-preserved c = ap (λ (ts : List Turn). all_enter (drop (c.loop-value.value-index + 1) c.args.values.now) ts) c.in_ok-enter.ensures ∙ sym (next_enter c.args.values.now c.loop-value.value-index (Int (pos 0)) c.loop-value.todo.0 c.loop-value-test.true) ∙ c.loop-value.invariant
+loop-value-preserved c = ap (λ (ts : List Turn). all_enter (drop (c.loop-value.value-index + 1) c.args.values.now) ts)
+    c.in_ok-enter.ensures
+    ∙ sym (next_enter c.args.values.now c.loop-value.value-index (Int (pos 0)) c.loop-value.todo.0 c.loop-value-test.true)
+    ∙ c.loop-value.invariant
 
 pub returns : goal.returns
-returns c = sym (last_enter c.args.values.now c.loop-value.value-index c.loop-value.todo.0 c.loop-value-test.false) ∙ c.loop-value.invariant
+returns c = sym (last_enter c.args.values.now c.loop-value.value-index c.loop-value.todo.0 c.loop-value-test.false)
+    ∙ c.loop-value.invariant

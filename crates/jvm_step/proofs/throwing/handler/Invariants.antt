@@ -6,4 +6,5 @@ use Rattle.jvm_step.proofs.throwing.handler.Given as goal
 
 -- the entry is among those that are left
 abbrev pub invariant-loop-range : goal.invariant-loop-range
-invariant-loop-range l = find (takes (classes_of l.world) l.object l.pc) (drop l.range-index l.table) ≡ find (takes (classes_of l.world) l.object l.pc) l.table
+invariant-loop-range l = find (takes (classes_of l.world) l.object l.pc) (drop l.range-index l.table) ≡ find
+    (takes (classes_of l.world) l.object l.pc) l.table

@@ -3,4 +3,5 @@ use Rattle.jvm_values.proofs.IntLaws.{byte_is}
 use Rattle.jvm_values.proofs.types.low_byte.Goals as goal
 
 pub returns : goal.returns
-returns c = byte_is c.args.value c.rem_euclid-low.result c.cast_signed.result c.from.result c.ranges.value (search rules) (search rules) c.rem_euclid-low.ensures.value c.cast_signed.ensures c.from.ensures
+returns c = byte_is c.args.value c.rem_euclid-low.result c.cast_signed.result c.from.result c.ranges.value (search rules)
+    (search rules) c.rem_euclid-low.ensures.value c.cast_signed.ensures c.from.ensures

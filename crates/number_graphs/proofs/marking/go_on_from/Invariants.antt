@@ -3,4 +3,5 @@ use Rattle.number_graphs.specs.Marking.{visit}
 use Rattle.number_graphs.proofs.marking.go_on_from.Given as goal
 
 abbrev pub invariant-loop-number : goal.invariant-loop-number
-invariant-loop-number l = visit (drop l.number-index l.row) (record { marks = l.marks.items; todo = l.todo }) ≡ visit l.row (record { marks = l.initial.marks.items; todo = l.initial.todo })
+invariant-loop-number l = visit (drop l.number-index l.row) (record { marks = l.marks.items; todo = l.todo }) ≡ visit l.row
+    (record { marks = l.initial.marks.items; todo = l.initial.todo })

@@ -11,7 +11,8 @@ returns-then-lo-hi c =
     let h = ap (λ (x : Bounds). x.hi) c.self.view_is in
     let m = ap (λ (x : Bounds). x.lo) c.other.view_is in
     let k = ap (λ (x : Bounds). x.hi) c.other.view_is in
-    some_is (to_z w64 (of_z w64 c.max-lo.result)) (to_z w64 (of_z w64 c.min-hi.result)) (int_max c.args.self.lo c.args.other.lo) (int_min c.args.self.hi c.args.other.hi) (omega (arith, ints, clamps)) (omega (arith, ints, clamps)) (omega (arith, ints, clamps))
+    some_is (to_z w64 (of_z w64 c.max-lo.result)) (to_z w64 (of_z w64 c.min-hi.result)) (int_max c.args.self.lo c.args.other.lo)
+    (int_min c.args.self.hi c.args.other.hi) (omega (arith, ints, clamps)) (omega (arith, ints, clamps)) (omega (arith, ints, clamps))
 
 pub returns-else-lo-hi : goal.returns-else-lo-hi
 returns-else-lo-hi c =

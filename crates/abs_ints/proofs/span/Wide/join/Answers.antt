@@ -11,4 +11,5 @@ returns c =
     let h = ap (λ (x : Bounds). x.hi) c.self.view_is in
     let m = ap (λ (x : Bounds). x.lo) c.other.view_is in
     let k = ap (λ (x : Bounds). x.hi) c.other.view_is in
-    ends_are _ _ (int_min c.args.self.lo c.args.other.lo) (int_max c.args.self.hi c.args.other.hi) (omega (arith, ints, clamps)) (omega (arith, ints, clamps))
+    ends_are _ _ (int_min c.args.self.lo c.args.other.lo) (int_max c.args.self.hi c.args.other.hi) (omega (arith, ints, clamps))
+    (omega (arith, ints, clamps))

@@ -9,7 +9,9 @@ pub returns-then-lo-hi : goal.returns-then-lo-hi
 returns-then-lo-hi c =
     let l = ap (λ (x : Bounds). x.lo) c.self.view_is in
     let h = ap (λ (x : Bounds). x.hi) c.self.view_is in
-    made c.new.result (to_z w64 (of_z w64 c.max-lo.result)) (to_z w64 (of_z w64 c.min-hi.result)) (int_max c.args.interval.lo c.args.self.lo) (int_min c.args.interval.hi c.args.self.hi) c.new.ensures (omega (arith, ints, clamps)) (omega (arith, ints, clamps))
+    made c.new.result (to_z w64 (of_z w64 c.max-lo.result)) (to_z w64 (of_z w64 c.min-hi.result))
+    (int_max c.args.interval.lo c.args.self.lo) (int_min c.args.interval.hi c.args.self.hi) c.new.ensures
+    (omega (arith, ints, clamps)) (omega (arith, ints, clamps))
 
 pub returns-else-lo-hi : goal.returns-else-lo-hi
 returns-else-lo-hi c =

@@ -14,4 +14,5 @@ pub walk_all-requires-clause-there : goal.walk_all-requires-clause-there
 walk_all-requires-clause-there g c = all_named_of c.args.state.now c.requires c.cells.result.now c.cells.ensures
 
 pub returns : goal.returns
-returns g c id = subst (λ (cs : List (ℕ × Cell)). (has_id c.walk_all.result.met id ≡ true) ↔ IsReachedInside All cs c.args.starts.now id) c.cells.ensures (c.walk_all.ensures.met id)
+returns g c id = subst (λ (cs : List (ℕ × Cell)). (has_id c.walk_all.result.met id ≡ true) ↔ IsReachedInside All cs
+    c.args.starts.now id) c.cells.ensures (c.walk_all.ensures.met id)

@@ -12,5 +12,6 @@ pub returns-clause-sound : goal.returns-clause-sound
 returns-clause-sound g c =
     let sound = subst (λ (here : Here). IsSound (types_of here.program.world) here.state) c.self.view_is c.self.invariant in
     let cells = c.cells.ensures ∙ ap (λ (here : Here). here.state.cells) c.self.view_is in
-    let found = subst (λ listed. MatchOption c.cell_of.result (cell_in listed c.args.id ≡ None) (λ cell. cell_in listed c.args.id ≡ Some cell.now)) cells c.cell_of.ensures in
+    let found = subst (λ listed. MatchOption c.cell_of.result (cell_in listed c.args.id ≡ None)
+    (λ cell. cell_in listed c.args.id ≡ Some cell.now)) cells c.cell_of.ensures in
     found_sound (types_of c.args.self.now.program.world) c.args.self.now.state (λ cell. cell.now) c.args.id c.cell_of.result sound found

@@ -7,4 +7,5 @@ use Rattle.abs_turns.specs.Needs.{known_partner}
 use Rattle.abs_turns.proofs.spot.Spot.known_partner.Given as goal
 
 abbrev pub invariant-loop-other : goal.invariant-loop-other
-invariant-loop-other g l = find (λ (other : ℕ). is_of_sort is_known (cell_at l.self.state other) && has l.id other l.self.state.eq) (map (λ (c : ℕ × Cell). c.0) (drop l.other-index l.cells)) ≡ known_partner l.self.state l.id
+invariant-loop-other g l = find (λ (other : ℕ). is_of_sort is_known (cell_at l.self.state other) && has l.id other l.self.state.eq)
+    (map (λ (c : ℕ × Cell). c.0) (drop l.other-index l.cells)) ≡ known_partner l.self.state l.id

@@ -4,7 +4,9 @@ use Rattle.asm_codes.proofs.FoundLabels.{lookup-map}
 use Rattle.asm_codes.proofs.labels.Labels.place.Goals as goal
 
 pub returns-in-Some : goal.returns-in-Some
-returns-in-Some c = rw (← c.self.view_is) (c.in-Some.ensures.value ∙ sym (lookup-map (λ k. k.now) (bytes_eq c.args.label.now) c.self.inside.places.entries))
+returns-in-Some c = rw (← c.self.view_is)
+    (c.in-Some.ensures.value ∙ sym (lookup-map (λ k. k.now) (bytes_eq c.args.label.now) c.self.inside.places.entries))
 
 pub returns-in-None : goal.returns-in-None
-returns-in-None c = rw (← c.self.view_is) (c.in-None.ensures.value ∙ sym (lookup-map (λ k. k.now) (bytes_eq c.args.label.now) c.self.inside.places.entries))
+returns-in-None c = rw (← c.self.view_is)
+    (c.in-None.ensures.value ∙ sym (lookup-map (λ k. k.now) (bytes_eq c.args.label.now) c.self.inside.places.entries))

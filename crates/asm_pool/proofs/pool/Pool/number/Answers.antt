@@ -10,7 +10,8 @@ at_place numbers o = option_map_or (λ place. slice_index_or numbers place 0) o 
 pub returns-in-Some : goal.returns-in-Some
 returns-in-Some c =
     let found = entry_position c.args.entry c.self.inside.lines.entries ∙ sym c.get_index_of.ensures.index ∙ c.in-Some.is in
-    let shown : c.number_at.result ≡ at_place c.self.inside.numbers (Some c.in-Some.place) = c.number_at.ensures ∙ ap (λ ns. slice_index_or ns c.in-Some.place 0) c.as_slice.ensures in
+    let shown : c.number_at.result ≡ at_place c.self.inside.numbers (Some c.in-Some.place) = c.number_at.ensures
+    ∙ ap (λ ns. slice_index_or ns c.in-Some.place 0) c.as_slice.ensures in
     rw (← c.self.view_is) (shown ∙ sym (ap (at_place c.self.inside.numbers) found))
 
 -- src/pool.rt:141:5

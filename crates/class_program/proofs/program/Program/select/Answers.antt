@@ -14,4 +14,5 @@ pub returns-in-None : goal.returns-in-None
 returns-in-None c =
     let p = c.args.self.now in
     let whole = subst (λ (refs : List MethodRef). is_closed (classes_of p.world) refs p.methods ≡ true) p.numbers p.whole in
-    never_none _ _ Abstract c.selected_at.ensures c.in-None.is (place_answered (program_of p) c.args.method c.args.pc c.args.class whole c.requires)
+    never_none _ _ Abstract c.selected_at.ensures c.in-None.is
+    (place_answered (program_of p) c.args.method c.args.pc c.args.class whole c.requires)

@@ -5,4 +5,5 @@ use Rattle.class_program.specs.Rows.{Rows}
 use Rattle.class_program.proofs.selections.Selections.put.Goals as goal
 
 pub returns : goal.returns
-returns c = λ other. c.in_ok-insert.ensures.updates.0 other ∙ ap (λ (rows : Rows). cond (same_method c.args.method other) (Some c.args.row) (lookup (same_method other) rows)) c.self.view_is
+returns c = λ other. c.in_ok-insert.ensures.updates.0 other
+    ∙ ap (λ (rows : Rows). cond (same_method c.args.method other) (Some c.args.row) (lookup (same_method other) rows)) c.self.view_is

@@ -13,7 +13,8 @@ pub returns-in-Some : goal.returns-in-Some
 returns-in-Some c =
     let kind : c.args.kind ≡ Method = cc in
     let words : c.kinds-kinds.result.words ≡ Some c.in-Some.words = cc in
-    method_asked c.args.flags c.in-Some.words c.receiver_words.result c.args.kind c.kinds-kinds.result (utf8_at c.args.self.now c.args.i) kind c.kinds-kinds.ensures words c.receiver_words.ensures
+    method_asked c.args.flags c.in-Some.words c.receiver_words.result c.args.kind c.kinds-kinds.result
+    (utf8_at c.args.self.now c.args.i) kind c.kinds-kinds.ensures words c.receiver_words.ensures
 
 pub returns-in-None : goal.returns-in-None
 returns-in-None c =

@@ -15,13 +15,22 @@ loop-field-init c =
     }
 
 pub kept_with-kept-requires : goal.kept_with-kept-requires
-kept_with-kept-requires c = omega (arith, c.requires, c.loop-field-test.true, c.loop-field.invariant.kept, kept_most c.args.self.now.classes (map field_content c.args.fields.now) c.loop-field.field-index)
+kept_with-kept-requires c = omega (
+  arith,
+  c.requires,
+  c.loop-field-test.true,
+  c.loop-field.invariant.kept,
+  kept_most
+      c.args.self.now.classes (map field_content c.args.fields.now) c.loop-field.field-index,
+)
 
 pub loop-field-preserved : goal.loop-field-preserved
 loop-field-preserved c =
     let world = c.args.self.now.classes in
-    let more = kept_step world c.args.fields.now c.loop-field.field-index c.loop-field.kept c.kept_with-kept.result _ c.loop-field-test.true c.loop-field.invariant.kept c.kept_with-kept.ensures in
+    let more = kept_step world c.args.fields.now c.loop-field.field-index c.loop-field.kept c.kept_with-kept.result _
+    c.loop-field-test.true c.loop-field.invariant.kept c.kept_with-kept.ensures in
     record {
       kept = more;
-      counts = counts_more (kept_before world (map field_content c.args.fields.now)) (c.loop-field.field-index + 1) _ _ _ c.loop-field.invariant.counts c.in_ok-push-2.ensures.items more;
+      counts = counts_more (kept_before world (map field_content c.args.fields.now)) (c.loop-field.field-index + 1) _ _ _
+          c.loop-field.invariant.counts c.in_ok-push-2.ensures.items more;
     }

@@ -5,4 +5,5 @@ pub loop-class-init : goal.loop-class-init
 loop-class-init c = rows_none c.args.self.now.classes _ c.new-rows.ensures
 
 pub loop-class-preserved : goal.loop-class-preserved
-loop-class-preserved c = rows_more c.args.self.now.classes c.loop-class.class c.loop-class.rows _ _ c.loop-class.invariant c.in_ok-sought_in.ensures c.in_ok-push.ensures.items
+loop-class-preserved c = rows_more c.args.self.now.classes c.loop-class.class c.loop-class.rows _ _ c.loop-class.invariant
+    c.in_ok-sought_in.ensures c.in_ok-push.ensures.items

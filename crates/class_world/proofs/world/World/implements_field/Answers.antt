@@ -8,14 +8,16 @@ use Rattle.class_world.proofs.Onces.{any_once}
 use Rattle.class_world.proofs.world.World.implements_field.Goals as goal
 
 pub has_field_above-requires : goal.has_field_above-requires
-has_field_above-requires c = interface_within c.args.self.now.roster.classes c.args.class c.loop-interface.interface-index _ 0 _ c.interfaces_once-interface-items.ensures c.loop-interface-test.true refl
+has_field_above-requires c = interface_within c.args.self.now.roster.classes c.args.class c.loop-interface.interface-index _ 0 _
+    c.interfaces_once-interface-items.ensures c.loop-interface-test.true refl
 
 pub returns-then-has_field_above : goal.returns-then-has_field_above
 unfolding implements_field interfaces_once
 returns-then-has_field_above c =
     let classes = c.args.self.now.roster.classes in
     let p = has_field_above classes c.args.name.now c.args.desc.now in
-    any_at p _ c.loop-interface.interface-index 0 _ c.loop-interface.invariant c.loop-interface-test.true (sym c.has_field_above.ensures ∙ c.if-has_field_above.true)
+    any_at p _ c.loop-interface.interface-index 0 _ c.loop-interface.invariant c.loop-interface-test.true
+    (sym c.has_field_above.ensures ∙ c.if-has_field_above.true)
     ∙ ap (list_any p) c.interfaces_once-interface-items.ensures ∙ any_once p (interfaces_of classes c.args.class)
 
 pub returns : goal.returns

@@ -9,4 +9,5 @@ abbrev pub invariant-loop : goal.invariant-loop
 invariant-loop l =
     let classes = l.self.roster.classes in
     let p = implements_field classes l.name l.desc in
-    Seeks (super_of classes) p l.declaring (list_any p (before l.declaring (line_from (super_of classes) (length classes) l.class))) (length classes - l.counter) l.next
+    Seeks (super_of classes) p l.declaring (list_any p (before l.declaring (line_from (super_of classes) (length classes) l.class)))
+    (length classes - l.counter) l.next

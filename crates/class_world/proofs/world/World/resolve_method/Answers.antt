@@ -18,6 +18,7 @@ returns c =
     let found : c.match-first_along.found ≡ first_found place (line ++ over) =
     elim c.match-first_along.branch [
       | in-Some w ↦ found_below place line over c.first_along.result _ _ c.first_along.ensures w.in-Some.is w.found-is
-      | in-None w ↦ found_over place line over c.first_along.result _ c.first_along.ensures w.in-None.is (w.found-is ∙ w.first_in_interfaces-found.ensures)
+      | in-None w ↦ found_over place line over c.first_along.result _ c.first_along.ensures w.in-None.is
+          (w.found-is ∙ w.first_in_interfaces-found.ensures)
     ] in
     c.method_ref.ensures ∙ ap (option_map method_ref) found

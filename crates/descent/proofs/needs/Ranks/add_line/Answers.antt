@@ -7,7 +7,8 @@ pub add_entries-requires-clause-entries : goal.add_entries-requires-clause-entri
 add_entries-requires-clause-entries c = rw c.ints.ensures (ints_fit c.args.self.now.forms c.args.cut c.requires.forms)
 
 pub add_entries-requires-2-clause-entries : goal.add_entries-requires-2-clause-entries
-add_entries-requires-2-clause-entries c = rw c.sizes.ensures (sizes_fit c.args.self.now.sizes c.args.self.now.forms c.args.cut c.requires.forms)
+add_entries-requires-2-clause-entries c = rw c.sizes.ensures
+    (sizes_fit c.args.self.now.sizes c.args.self.now.forms c.args.cut c.requires.forms)
 
 pub returns : goal.returns
 returns c =

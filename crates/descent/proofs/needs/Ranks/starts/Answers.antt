@@ -9,7 +9,9 @@ returns-then-leaves_start-clause-fault c =
     let weights = ap (λ (r : Ranking). r.weights) c.self.view_is in
     let sum = rw weights at c.in_ok-combined.ensures.sum in
     let none = rw weights at c.in_ok-combined.ensures.fault in
-    let need = need_told c.leaves_start.result c.args.missing (weigh_of c.args.self.now) c.args.rule.now _ (start_of c.args.self.now c.args.rule.now) c.args.multipliers.now c.combined.new.scratch c.requires.rule (under_start c.args.self.now c.args.rule.now c.requires.rule) c.leaves_start.ensures.shown sum none in
+    let need = need_told c.leaves_start.result c.args.missing (weigh_of c.args.self.now) c.args.rule.now _
+    (start_of c.args.self.now c.args.rule.now) c.args.multipliers.now c.combined.new.scratch c.requires.rule
+    (under_start c.args.self.now c.args.rule.now c.requires.rule) c.leaves_start.ensures.shown sum none in
     shown_done _ _ _ _ (sym (rw c.as_slice.ensures at c.takes.ensures) ∙ c.if-not-takes.false) need c.if-leaves_start.true
 
 pub returns-else-leaves_start-clause-fault : goal.returns-else-leaves_start-clause-fault
@@ -17,5 +19,7 @@ returns-else-leaves_start-clause-fault c =
     let weights = ap (λ (r : Ranking). r.weights) c.self.view_is in
     let sum = rw weights at c.in_ok-combined.ensures.sum in
     let none = rw weights at c.in_ok-combined.ensures.fault in
-    let need = need_told c.leaves_start.result c.args.missing (weigh_of c.args.self.now) c.args.rule.now _ (start_of c.args.self.now c.args.rule.now) c.args.multipliers.now c.combined.new.scratch c.requires.rule (under_start c.args.self.now c.args.rule.now c.requires.rule) c.leaves_start.ensures.shown sum none in
+    let need = need_told c.leaves_start.result c.args.missing (weigh_of c.args.self.now) c.args.rule.now _
+    (start_of c.args.self.now c.args.rule.now) c.args.multipliers.now c.combined.new.scratch c.requires.rule
+    (under_start c.args.self.now c.args.rule.now c.requires.rule) c.leaves_start.ensures.shown sum none in
     missing_done _ _ _ _ (sym (rw c.as_slice.ensures at c.takes.ensures) ∙ c.if-not-takes.false) need c.if-leaves_start.false

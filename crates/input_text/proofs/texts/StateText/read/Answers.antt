@@ -6,4 +6,5 @@ use Rattle.input_text.proofs.texts.StateText.read.Goals as goal
 pub returns : goal.returns
 returns c =
     let said = rw c.root.ensures at c.in-Err.ensures in
-    faulty state_of c.args.bytes.now (view c.in_ok-value.value) c.in-Err.fault c.from.result of_state c.in_ok-value.ensures said c.from.ensures
+    faulty state_of c.args.bytes.now (view c.in_ok-value.value) c.in-Err.fault c.from.result of_state c.in_ok-value.ensures said
+    c.from.ensures

@@ -15,7 +15,8 @@ invariant_of-self c =
     let one = simp to_z-of_z at c.count_of.ensures in
     let other = simp to_z-of_z at c.count_of-2.ensures in
     let cell = simp to_z-of_z at c.new.ensures in
-    written_counts c.self.inside c.args.variable _ c.coefficient-before.result c.added-after.result c.new.result c.self.invariant (omega arith) read (cc) cell _ refl refl refl
+    written_counts c.self.inside c.args.variable _ c.coefficient-before.result c.added-after.result c.new.result c.self.invariant
+    (omega arith) read (cc) cell _ refl refl refl
 
 pub returns : goal.returns
 returns c =
@@ -24,5 +25,11 @@ returns c =
     let cell = simp to_z-of_z at c.new.ensures in
     let sum = simp to_z-of_z at c.added-after.ensures in
     let e : c.added-after.result ≡ coefficient_in c.args.self.now c.args.variable +ℤ c.args.amount.now = cc in
-    let is : Inside = record { cells = with_item c.self.inside.cells c.args.variable c.new.result; round = c.self.inside.round; nonzero = c.self.inside.nonzero + c.count_of.result - c.count_of-2.result; constant = c.self.inside.constant } in
-    rw (← e) (written_sum c.self.inside c.args.self.now c.args.variable c.added-after.result c.new.result is c.self.view_is refl cell refl refl)
+    let is : Inside = record {
+      cells = with_item c.self.inside.cells c.args.variable c.new.result;
+      round = c.self.inside.round;
+      nonzero = c.self.inside.nonzero + c.count_of.result - c.count_of-2.result;
+      constant = c.self.inside.constant;
+    } in
+    rw (← e) (written_sum c.self.inside c.args.self.now c.args.variable c.added-after.result c.new.result is c.self.view_is refl
+    cell refl refl)

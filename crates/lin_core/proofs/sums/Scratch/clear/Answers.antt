@@ -9,4 +9,10 @@ pub returns : goal.returns
 returns c =
     let count = sized c.self.inside c.args.self.now c.self.view_is in
     let below = c.next_round-self-inside.ensures.round in
-    cleared_sum (record { cells = c.next_round-self-inside.new.cells; round = c.next_round-self-inside.result; nonzero = 0; constant = pos 0 }) _ below refl (omega arith)
+    cleared_sum (record {
+      cells = c.next_round-self-inside.new.cells;
+      round = c.next_round-self-inside.result;
+      nonzero = 0;
+      constant
+          = pos 0;
+    }) _ below refl (omega arith)

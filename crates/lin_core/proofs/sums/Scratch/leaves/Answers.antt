@@ -12,4 +12,5 @@ returns-then-has_nonzero c = (
 )
 
 pub returns-else-has_nonzero : goal.returns-else-has_nonzero
-returns-else-has_nonzero c = (λ h. absurd (cc), λ leaves. c.has_nonzero.ensures.1 (sym (count_from_zeros c.args.self.now.coefficients leaves.coefficients)))
+returns-else-has_nonzero c =
+    (λ h. absurd (cc), λ leaves. c.has_nonzero.ensures.1 (sym (count_from_zeros c.args.self.now.coefficients leaves.coefficients)))

@@ -8,7 +8,8 @@ pair_low : (p : ℕ × ℕ) (pairs : List (ℕ × ℕ)) → IsRising pairs → h
 pair_low p [] r e = absurd (false≢true e)
 pair_low p (q ∷ rest) r e = at (is_same p q) refl e (λ h. pair_low p rest r.1.1 h)
   where
-    at : (b : Bool) → is_same p q ≡ b → (b || has_pair p rest) ≡ true → (has_pair p rest ≡ true → (p.0 < p.1) × (p.1 < 2048)) → (p.0 < p.1) × (p.1 < 2048)
+    at : (b : Bool) → is_same p q ≡ b → (b || has_pair p rest) ≡ true → (has_pair p rest ≡ true → (p.0 < p.1) × (p.1 < 2048))
+        → (p.0 < p.1) × (p.1 < 2048)
     at true f h later = subst (λ (x : ℕ × ℕ). (x.0 < x.1) × (x.1 < 2048)) (sym (same_is p q f)) r.0
     at false f h later = later h
 
