@@ -47,7 +47,7 @@ LAYER = {
         'machine': 'jvm_values jvm_heaps frame_types jvm_step code_verify jvm_run',
         'abstract states': 'abs_cells abs_reach abs_sound abs_equal abs_heap abs_match abs_widen term_graph abs_ints term_enc '
                            'abs_turns abs_rows abs_plans abs_expand',
-        'certificates': 'input_root descent turn_fits form_steps frame_steps object_steps access_steps step_laws its_front steady_plans one_expansion graph_check graph_fill plan_links cert_check '
+        'certificates': 'input_root descent form_steps object_steps step_laws its_front steady_plans one_expansion graph_check graph_fill plan_links cert_check '
                         'cert_form cert_write path_rules graph_build rule_links rank_forms rank_search chain_proofs prove_core',
         'program': 'input_steps run_call describe desc_steps prove_call check_call jterm',
     }.items() for crate in crates_of.split()

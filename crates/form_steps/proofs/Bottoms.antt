@@ -23,7 +23,7 @@ use Rattle.code_verify.specs.TypedStates.{IsTypedFrame, AreCallers}
 use Rattle.jvm_run.proofs.Lists.{zip_get}
 use Rattle.abs_expand.specs.BadStates.{IsOfField, IsPlaced, AreCallersPlaced, statics_under}
 use Rattle.abs_expand.specs.Table.{locals_of_method}
-use Rattle.turn_fits.proofs.Tops.{BottomHas, nothing_behind}
+use Rattle.form_steps.proofs.Tops.{BottomHas, nothing_behind}
 
 -- the bottom one of frames
 abbrev pub last_of : AbstractFrame → List AbstractFrame → AbstractFrame

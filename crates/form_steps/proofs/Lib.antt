@@ -1,7 +1,17 @@
 pub mod Bottoms
+pub mod Carry
 pub mod Effects
+pub mod Fitted
+pub mod Formed
+pub mod Keys
 pub mod Needs
 pub mod Operands
+pub mod Results
 pub mod RowsHold
+pub mod SameTerms
+pub mod Sized
+pub mod SomeOf
 pub mod Standing
+pub mod Steps
+pub mod Tops
 pub mod TurnKinds

@@ -33,8 +33,8 @@ use Rattle.jvm_run.proofs.Named.{IsNamed}
 use Rattle.abs_expand.specs.Building.{HoldsIds}
 use Rattle.abs_expand.specs.Turns.{Here}
 use Rattle.form_steps.specs.Laws.{Lows}
-use Rattle.turn_fits.proofs.Formed.{frames_held}
-use Rattle.turn_fits.proofs.Tops.{FitFrames}
+use Rattle.form_steps.proofs.Formed.{frames_held}
+use Rattle.form_steps.proofs.Tops.{FitFrames}
 use Rattle.form_steps.proofs.Bottoms.{StandsOnStatics, last_of}
 
 -- the running frame is at an instruction of a form

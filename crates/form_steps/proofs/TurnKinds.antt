@@ -47,11 +47,11 @@ use Rattle.abs_expand.specs.Building.{HoldsIds}
 use Rattle.abs_expand.specs.Children.{IsTurnChild, IsLean, gone_to, top_with}
 use Rattle.abs_expand.specs.Expansions.{AreChildren}
 use Rattle.abs_expand.specs.Turns.{emptied, throws_after}
-use Rattle.turn_fits.specs.Laws.{IsPlainCell, Moved}
-use Rattle.turn_fits.proofs.Carry.{in_list, IsAlike, alike_of, sort_stays}
-use Rattle.turn_fits.proofs.Steps.{FitsChild, formed, ints_stay, mid_fits, moved_goes, kept_goes, written_goes, made_goes}
-use Rattle.turn_fits.proofs.Tops.{FitFrames, tops, from_tops, pushed_id, local_set}
-use Rattle.turn_fits.proofs.SomeOf.{SomeOf}
+use Rattle.form_steps.specs.Laws.{IsPlainCell, Moved}
+use Rattle.form_steps.proofs.Carry.{in_list, IsAlike, alike_of, sort_stays}
+use Rattle.form_steps.proofs.Steps.{FitsChild, formed, ints_stay, mid_fits, moved_goes, kept_goes, written_goes, made_goes}
+use Rattle.form_steps.proofs.Tops.{FitFrames, tops, from_tops, pushed_id, local_set}
+use Rattle.form_steps.proofs.SomeOf.{SomeOf}
 use Rattle.form_steps.proofs.Standing.{Stands, types, here, held, lower_held, going, raised}
 
 -- a step of the machine leads to a state that each child of the turn fits

@@ -50,12 +50,12 @@ use Rattle.abs_expand.specs.Plans.{Turn, Plan, steps, no_child, no_rows}
 use Rattle.abs_expand.specs.Table.{cell_here, is_null_here, unless_null, accessed, one_step, called_frame, invokes, runs_or_lacks}
 use Rattle.abs_expand.specs.Table.{static_plan, special_plan, class_of_cell, answered, selecting_plan}
 use Rattle.abs_expand.specs.Turns.{moves, throws, with_stack as stack_at}
-use Rattle.turn_fits.proofs.Tops.{from_tops, nothing_behind}
+use Rattle.form_steps.proofs.Tops.{from_tops, nothing_behind}
 use Rattle.form_steps.proofs.Standing.{rests, Stands, here, Work_, held, lower_held, going, by_effect, not_stuck, no_frame_effect}
 use Rattle.form_steps.proofs.Standing.{raises_frame}
 use Rattle.form_steps.proofs.TurnKinds.{Fitting, Meets, moving_turn, throwing_turn}
 use Rattle.form_steps.proofs.Needs.{need_null_meets}
-use Rattle.frame_steps.proofs.References.{null_agrees, accessed_meets}
+use Rattle.object_steps.proofs.References.{null_agrees, accessed_meets}
 
 -- ---- lists
 

@@ -37,13 +37,13 @@ use Rattle.abs_expand.specs.Table.{cell_here, is_null_cell, one_step, number_cel
 use Rattle.abs_expand.specs.Table.{with_bound, cell_bound, is_bound_below, may_be_below, is_known_cell, undecided, cast_plan}
 use Rattle.abs_expand.specs.Table.{checkcast_plan, instanceof_plan}
 use Rattle.abs_expand.specs.Turns.{narrows, with_stack as stack_at}
-use Rattle.turn_fits.proofs.SomeOf.{SomeOf}
+use Rattle.form_steps.proofs.SomeOf.{SomeOf}
 use Rattle.form_steps.proofs.Standing.{rests, Stands, here, onward, Work_, no_frame_effect, goes_next, raises_frame}
 use Rattle.form_steps.proofs.TurnKinds.{sound_at, Fitting, Meets, IsChange, throwing_turn}
 use Rattle.form_steps.proofs.Needs.{need_null_meets, comparable, array_reference}
-use Rattle.frame_steps.proofs.IntSteps.{narrowing_turn}
-use Rattle.frame_steps.proofs.Moves.{by_reference, pushed_turn}
-use Rattle.frame_steps.proofs.References.{top_is_reference}
+use Rattle.object_steps.proofs.IntSteps.{narrowing_turn}
+use Rattle.object_steps.proofs.Moves.{by_reference, pushed_turn}
+use Rattle.object_steps.proofs.References.{top_is_reference}
 
 pub some_later : {X : Type 0} (P : X → Type 0) (xs ys : List X) → SomeOf P ys → SomeOf P (xs ++ ys)
 some_later P [] ys h = h

@@ -42,14 +42,14 @@ use Rattle.abs_expand.specs.Plans.{Turn, Plan, steps, no_rows}
 use Rattle.abs_expand.specs.Table.{cell_here, is_null_here, unless_null, step_if, one_step, field_id, getfield_plan, length_id}
 use Rattle.abs_expand.specs.Table.{length_plan, athrow_plan, new_of_base, new_plan}
 use Rattle.abs_expand.specs.Turns.{goes_on, moves, emptied, throws}
-use Rattle.turn_fits.proofs.SomeOf.{SomeOf}
-use Rattle.turn_fits.proofs.Tops.{stacked}
+use Rattle.form_steps.proofs.SomeOf.{SomeOf}
+use Rattle.form_steps.proofs.Tops.{stacked}
 use Rattle.form_steps.proofs.Standing.{rests, Stands, here, onward, Work_, held, raised, by_effect, no_frame_effect, no_heap_effect}
 use Rattle.form_steps.proofs.Standing.{goes_after, goes_next, raises_frame}
 use Rattle.form_steps.proofs.TurnKinds.{Fitting, Meets, throwing_turn, throws_turn, object_turn}
 use Rattle.form_steps.proofs.Needs.{need_null_meets}
-use Rattle.frame_steps.proofs.Moves.{by_reference, by_reference_at, going_turn}
-use Rattle.frame_steps.proofs.References.{null_agrees, top_is_reference, accessed_meets}
+use Rattle.object_steps.proofs.Moves.{by_reference, by_reference_at, going_turn}
+use Rattle.object_steps.proofs.References.{null_agrees, top_is_reference, accessed_meets}
 
 -- ---- effects
 

@@ -1,2 +1,3 @@
-//! The forms of objects are true of the machine: fields that are read, lengths, new objects, casts and calls. The lemmas have no calls.
+//! The forms that change frames alone, and those of objects, are true of the machine: ints, moves, jumps, tests, returns, static fields; fields
+//! that are read, lengths, new objects, casts and calls. The lemmas have no calls.
 #![tactic(auto)]

@@ -23,19 +23,19 @@ use Rattle.code_verify.specs.Rows.{types_after}
 use Rattle.jvm_step.specs.Table.{effect_of}
 use Rattle.abs_expand.specs.Table.{row_of}
 use Rattle.jvm_run.proofs.Named.{IsNamed}
-use Rattle.access_steps.proofs.Arrays.{numbers_made, references_made, number_read}
+use Rattle.step_laws.proofs.Arrays.{numbers_made, references_made, number_read}
 use Rattle.object_steps.proofs.Calls.{static_called, special_called, selecting_called}
 use Rattle.object_steps.proofs.Casts.{cast_checked, type_tested}
-use Rattle.frame_steps.proofs.IntSteps.{is_operator}
-use Rattle.frame_steps.proofs.Moves.{nothing_done, pushed_null, constant, load_int, load_reference, store_int, store_reference}
-use Rattle.frame_steps.proofs.Moves.{increment, shuffle, arithmetic, negation, narrowing, comparing_zero, comparing, jumping}
-use Rattle.frame_steps.proofs.Moves.{table_switching, lookup_switching}
+use Rattle.object_steps.proofs.IntSteps.{is_operator}
+use Rattle.object_steps.proofs.Moves.{nothing_done, pushed_null, constant, load_int, load_reference, store_int, store_reference}
+use Rattle.object_steps.proofs.Moves.{increment, shuffle, arithmetic, negation, narrowing, comparing_zero, comparing, jumping}
+use Rattle.object_steps.proofs.Moves.{table_switching, lookup_switching}
 use Rattle.object_steps.proofs.Objects.{field_read, length_taken, thrown, made}
-use Rattle.frame_steps.proofs.Returns.{int_returned, reference_returned, nothing_returned}
-use Rattle.access_steps.proofs.Fields.{field_put}
-use Rattle.access_steps.proofs.Writes.{item_read, number_stored, item_written}
-use Rattle.frame_steps.proofs.References.{null_test, equal_test}
-use Rattle.frame_steps.proofs.Statics.{static_read, static_put}
+use Rattle.object_steps.proofs.Returns.{int_returned, reference_returned, nothing_returned}
+use Rattle.step_laws.proofs.Fields.{field_put}
+use Rattle.step_laws.proofs.Writes.{item_read, number_stored, item_written}
+use Rattle.object_steps.proofs.References.{null_test, equal_test}
+use Rattle.object_steps.proofs.Statics.{static_read, static_put}
 use Rattle.form_steps.proofs.Standing.{Stands, here, Work_}
 use Rattle.form_steps.proofs.TurnKinds.{Meets}
 

@@ -1,6 +1,10 @@
+pub mod Accesses
+pub mod Arrays
 pub mod Covering
+pub mod Fields
 pub mod Going
 pub mod Handlers
 pub mod Meeting
 pub mod Premises
 pub mod Throwing
+pub mod Writes

@@ -54,10 +54,10 @@ use Rattle.abs_expand.specs.Children.{IsTurnChild, IsLean}
 use Rattle.abs_expand.specs.Expansions.{plan_here, plan_in, plan_of, AreExpanded}
 use Rattle.abs_expand.specs.Laws.{IsAfter, GoesToChild, IsMet}
 use Rattle.abs_expand.proofs.ZipLists.{beside}
-use Rattle.turn_fits.proofs.SomeOf.{SomeOf}
-use Rattle.turn_fits.specs.Laws.{DroppedKeepSized}
-use Rattle.turn_fits.proofs.Steps.{FitsChild, dropped_fits, dropped_sort, sized_there}
-use Rattle.turn_fits.proofs.Tops.{FitFrames, tops, from_tops}
+use Rattle.form_steps.proofs.SomeOf.{SomeOf}
+use Rattle.form_steps.specs.Laws.{DroppedKeepSized}
+use Rattle.form_steps.proofs.Steps.{FitsChild, dropped_fits, dropped_sort, sized_there}
+use Rattle.form_steps.proofs.Tops.{FitFrames, tops, from_tops}
 use Rattle.form_steps.proofs.Bottoms.{StandsOnStatics, last_of, on_statics_of}
 use Rattle.form_steps.specs.Laws.{Lows}
 use Rattle.form_steps.proofs.Standing.{rests, Stands, here, held}

@@ -9,7 +9,7 @@ use Rattle.abs_heap.specs.Laws.{ValuesGoOn}
 use Rattle.class_world.specs.World.{World}
 use Rattle.class_world.specs.BuiltIns.{IsWorld, HasNoInterfacesBelow}
 use Rattle.class_program.specs.Programs.{Program, IsClosed}
-use Rattle.turn_fits.specs.Laws.{IsPlainCell, FreshIdsGoOn, DroppedKeepSized}
+use Rattle.form_steps.specs.Laws.{IsPlainCell, FreshIdsGoOn, DroppedKeepSized}
 use Rattle.form_steps.specs.Laws.{AreThrowablesErased}
 
 plain_none : (cell : Cell) → IsPlainCell cell → is_reference cell ≡ false

@@ -42,9 +42,9 @@ use Rattle.abs_expand.specs.Needs.{Passing, passes, splits, passing_id, may_be_n
 use Rattle.abs_expand.specs.Plans.{Plan, steps}
 use Rattle.abs_expand.specs.Throwing.{takes, may_take, before_taker, handled, caught_plan, if_passes, throwing_plan}
 use Rattle.abs_expand.specs.Turns.{moves}
-use Rattle.turn_fits.proofs.Formed.{frames_held}
-use Rattle.turn_fits.proofs.Steps.{moved_goes}
-use Rattle.turn_fits.proofs.Tops.{FitFrames, tops, from_tops}
+use Rattle.form_steps.proofs.Formed.{frames_held}
+use Rattle.form_steps.proofs.Steps.{moved_goes}
+use Rattle.form_steps.proofs.Tops.{FitFrames, tops, from_tops}
 use Rattle.form_steps.specs.Laws.{Lows, AreThrowablesErased}
 use Rattle.step_laws.proofs.Handlers.{is_caught, none_may, finds_same}
 use Rattle.step_laws.proofs.Meeting.{TopFrames, top_frames, closed_state}

@@ -47,17 +47,17 @@ use Rattle.term_graph.specs.declared.links.LinkRow.{LinkRow}
 use Rattle.abs_expand.specs.Plans.{makes as makes_act, on_stack, Turn, Plan, no_child, no_rows}
 use Rattle.abs_expand.specs.Table.{cell_here, natural, negative, array_turn, array_plan, length_id, access_at, of_kind, number_load_plan}
 use Rattle.abs_expand.specs.Turns.{throws_after, with_stack as stack_at, interval_of_id}
-use Rattle.turn_fits.proofs.SomeOf.{SomeOf}
-use Rattle.turn_fits.proofs.Tops.{stacked}
-use Rattle.access_steps.proofs.Accesses.{access_meets}
+use Rattle.form_steps.proofs.SomeOf.{SomeOf}
+use Rattle.form_steps.proofs.Tops.{stacked}
+use Rattle.step_laws.proofs.Accesses.{access_meets}
 use Rattle.object_steps.proofs.Casts.{some_later}
 use Rattle.form_steps.proofs.Standing.{Stands, here, onward, Work_, held, going, raised, no_frame_effect, no_heap_effect}
 use Rattle.form_steps.proofs.Standing.{goes_after, goes_next, raises_frame, raises_heap}
 use Rattle.form_steps.proofs.TurnKinds.{Fitting, Meets, IsChange, throwing_turn, array_making_turn}
 use Rattle.form_steps.proofs.Operands.{IntAt, int_at, bounded, by_int, narrow_to}
-use Rattle.frame_steps.proofs.Moves.{pushed_turn}
+use Rattle.object_steps.proofs.Moves.{pushed_turn}
 use Rattle.object_steps.proofs.Objects.{newarray_stuck, newarray_by, anewarray_stuck, anewarray_by}
-use Rattle.frame_steps.proofs.References.{accessed_meets}
+use Rattle.object_steps.proofs.References.{accessed_meets}
 
 missing : {A : Type 0} (xs : List A) (i : ℕ) → length xs ≤ i → slice_get xs i ≡ None
 missing [] i l = refl

@@ -28,11 +28,11 @@ use Rattle.term_graph.specs.declared.links.LinkRow.{LinkRow}
 use Rattle.term_graph.specs.Edges.{HoldsBetween, is_size_variable, HasSameSize, id_after, Edge}
 use Rattle.abs_expand.specs.Building.{HoldsIds}
 use Rattle.abs_expand.specs.Children.{IsLean}
-use Rattle.turn_fits.specs.Laws.{DroppedKeepSized, Moved}
-use Rattle.turn_fits.proofs.Carry.{IsAlike, alike_of, described_of, sort_stays, all_kept, given_fits, sizes_kept}
-use Rattle.turn_fits.proofs.Formed.{changed_formed, stays as changed_there}
-use Rattle.turn_fits.proofs.SameTerms.{size_kept}
-use Rattle.turn_fits.proofs.Sized.{sized_moved}
+use Rattle.form_steps.specs.Laws.{DroppedKeepSized, Moved}
+use Rattle.form_steps.proofs.Carry.{IsAlike, alike_of, described_of, sort_stays, all_kept, given_fits, sizes_kept}
+use Rattle.form_steps.proofs.Formed.{changed_formed, stays as changed_there}
+use Rattle.form_steps.proofs.SameTerms.{size_kept}
+use Rattle.form_steps.proofs.Sized.{sized_moved}
 
 -- a child fits a state of the machine, and the edge to it holds
 pub record FitsChild (types : WorldTypes) (state : AbstractState) (machine : MachineState) (meaning : Meaning)

@@ -7,7 +7,7 @@ use Rattle.abs_cells.specs.AbstractStates.{AbstractFrame, AbstractState}
 use Rattle.abs_cells.specs.Cells.{cell_at}
 use Rattle.abs_cells.specs.Patterns.{Pattern, Patterns, with_first, patterns_by, pattern_of_cell, pattern_within, IsSized}
 use Rattle.abs_cells.specs.Patterns.Pattern.{node}
-use Rattle.turn_fits.specs.Laws.{Moved}
+use Rattle.form_steps.specs.Laws.{Moved}
 
 same_patterns : (f g : ℕ → Option (Option Pattern)) → ((id : ℕ) → f id ≡ g id) → (ids : List ℕ) → patterns_by f ids ≡ patterns_by g ids
 same_patterns f g h [] = refl

@@ -21,8 +21,8 @@ use Rattle.abs_cells.specs.Fits.{Meaning, FitsFrame, FitsMode, with_statics, Des
 use Rattle.abs_cells.proofs.Fitting.{known_apart}
 use Rattle.term_graph.specs.Edges.{is_size_variable, HasSameSize}
 use Rattle.abs_heap.specs.Given.{IsGiven, first_cell, with_cells}
-use Rattle.turn_fits.proofs.Fitted.{FitsBy, fits_given}
-use Rattle.turn_fits.proofs.SameTerms.{size_kept}
+use Rattle.form_steps.proofs.Fitted.{FitsBy, fits_given}
+use Rattle.form_steps.proofs.SameTerms.{size_kept}
 
 -- what holds of each id and cell of a list
 pub in_list : (P : ℕ → Cell → Type 0) (list : List (ℕ × Cell)) (k : ℕ) (cell : Cell)

@@ -48,9 +48,9 @@ use Rattle.abs_expand.specs.Turns.{with_stack as stack_at, narrows, turn_of_resu
 use Rattle.abs_expand.specs.Turns.{are_one, rows_over, turn_of_case, turns_of, rows_if, place_of_way, branch_of_case, branches}
 use Rattle.abs_expand.specs.Turns.{switch_turn}
 use Rattle.abs_expand.specs.Switches.{parts_of}
-use Rattle.turn_fits.proofs.SomeOf.{SomeOf, some_of, some_mapped}
-use Rattle.turn_fits.proofs.Results.{gives_result, HasResult, results, NamesNone, rows_of_two}
-use Rattle.turn_fits.proofs.Keys.{Leads, key_target, parts_cover}
+use Rattle.form_steps.proofs.SomeOf.{SomeOf, some_of, some_mapped}
+use Rattle.form_steps.proofs.Results.{gives_result, HasResult, results, NamesNone, rows_of_two}
+use Rattle.form_steps.proofs.Keys.{Leads, key_target, parts_cover}
 use Rattle.form_steps.proofs.RowsHold.{rows_hold, rows_hold_without}
 use Rattle.form_steps.proofs.Standing.{Stands, here, onward, held, going, raised}
 use Rattle.form_steps.proofs.TurnKinds.{Fitting, Meets, IsChange, RowsHold, top_turn, throwing_turn}

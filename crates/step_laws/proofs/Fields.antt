@@ -59,15 +59,15 @@ use Rattle.abs_expand.specs.Children.{set_field, field_with}
 use Rattle.abs_expand.specs.Building.{HoldsIds}
 use Rattle.abs_expand.specs.Table.{cell_here as cell_of, on_instance, put_slot, putfield_plan}
 use Rattle.abs_expand.specs.Turns.{moves, turn_narrowing, turns_narrowing, interval_of_id, with_stack as stack_at}
-use Rattle.turn_fits.proofs.SomeOf.{SomeOf, some_one, some_of_map}
+use Rattle.form_steps.proofs.SomeOf.{SomeOf, some_one, some_of_map}
 use Rattle.abs_heap.specs.Laws.{HasOtherCells}
-use Rattle.turn_fits.proofs.Formed.{changed_formed, frames_held, thrown_held}
-use Rattle.turn_fits.proofs.Steps.{formed, mid_fits, field_goes}
-use Rattle.turn_fits.proofs.Tops.{stacked, from_tops}
+use Rattle.form_steps.proofs.Formed.{changed_formed, frames_held, thrown_held}
+use Rattle.form_steps.proofs.Steps.{formed, mid_fits, field_goes}
+use Rattle.form_steps.proofs.Tops.{stacked, from_tops}
 use Rattle.form_steps.proofs.Standing.{Stands, here, onward, Work_, held, lower_held, going, no_heap_effect, goes_after, raises_heap}
 use Rattle.form_steps.proofs.TurnKinds.{Fitting, Meets, sound_at, writing_turn, keeping_turn}
 use Rattle.form_steps.proofs.Operands.{IntAt, int_at, bounded, stack_is, stack_held}
-use Rattle.frame_steps.proofs.References.{accessed_meets}
+use Rattle.object_steps.proofs.References.{accessed_meets}
 
 -- ---- effects
 

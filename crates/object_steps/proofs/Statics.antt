@@ -41,9 +41,9 @@ use Rattle.abs_expand.specs.Table.{step_if, bottom_of, bottom_with, static_local
 use Rattle.abs_expand.specs.Table.{putstatic_plan}
 use Rattle.abs_expand.specs.Turns.{moves, goes_on, turn_narrowing, turns_narrowing, interval_of_id, with_stack as stack_at}
 use Rattle.abs_plans.proofs.Holding.{set_held}
-use Rattle.turn_fits.proofs.SomeOf.{SomeOf, some_one, some_of_map}
-use Rattle.turn_fits.specs.Laws.{Moved}
-use Rattle.turn_fits.proofs.Tops.{BottomHas, bottom_set, stacked, from_tops}
+use Rattle.form_steps.proofs.SomeOf.{SomeOf, some_one, some_of_map}
+use Rattle.form_steps.specs.Laws.{Moved}
+use Rattle.form_steps.proofs.Tops.{BottomHas, bottom_set, stacked, from_tops}
 use Rattle.form_steps.proofs.Bottoms.{StandsOnStatics, bottom_is}
 use Rattle.form_steps.proofs.Standing.{Stands, here, onward, Work_, held, lower_held, going, goes_after, goes_next, some_effect}
 use Rattle.form_steps.proofs.Standing.{no_frame_effect}

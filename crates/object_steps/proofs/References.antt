@@ -45,7 +45,7 @@ use Rattle.form_steps.proofs.Standing.{rests, Stands, onward, here, Work_, raise
 use Rattle.form_steps.proofs.TurnKinds.{Meets, throwing_turn}
 use Rattle.form_steps.proofs.Needs.{IsTypedId, need_null_meets, need_object_meets, equal_meets}
 use Rattle.form_steps.proofs.Operands.{stack_held}
-use Rattle.frame_steps.proofs.Moves.{by_reference, branched, going_turn}
+use Rattle.object_steps.proofs.Moves.{by_reference, branched, going_turn}
 
 -- ---- effects
 

@@ -28,11 +28,11 @@ use Rattle.abs_expand.specs.Plans.{Plan, no_rows}
 use Rattle.abs_expand.specs.Building.{HoldsIds}
 use Rattle.abs_expand.specs.Table.{step_if, returned_to, value_plan}
 use Rattle.abs_expand.specs.Turns.{moves}
-use Rattle.turn_fits.proofs.Tops.{FitFrames, tops, from_tops, stacked}
+use Rattle.form_steps.proofs.Tops.{FitFrames, tops, from_tops, stacked}
 use Rattle.form_steps.proofs.Standing.{Stands, here, Work_, lower_held, going, by_effect, not_stuck, no_frame_effect}
 use Rattle.form_steps.proofs.TurnKinds.{Meets, moving_turn}
 use Rattle.form_steps.proofs.Operands.{by_int}
-use Rattle.frame_steps.proofs.Moves.{by_reference}
+use Rattle.object_steps.proofs.Moves.{by_reference}
 
 ireturn_by : (result : Option Slot) (f : MachineFrame) (n : ℤ) (below : List Value) → top_int f.stack ≡ Some (n, below)
     → ireturn_effect result f ≡ cond (is_number_slot result) (Some (Effect.Return (Some (values.Int n)))) None

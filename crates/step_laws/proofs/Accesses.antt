@@ -42,8 +42,8 @@ use Rattle.term_graph.specs.declared.links.LinkRow.{LinkRow}
 use Rattle.abs_expand.specs.Plans.{Turn, no_rows}
 use Rattle.abs_expand.specs.Table.{natural, negative, in_bounds, out_of_bounds, access_at}
 use Rattle.abs_expand.specs.Turns.{id, interval_of_id, narrowings, rows_over, throws_after}
-use Rattle.turn_fits.proofs.SomeOf.{SomeOf, some_one}
-use Rattle.turn_fits.proofs.Results.{NamesNone}
+use Rattle.form_steps.proofs.SomeOf.{SomeOf, some_one}
+use Rattle.form_steps.proofs.Results.{NamesNone}
 use Rattle.form_steps.proofs.RowsHold.{rows_hold_without}
 use Rattle.object_steps.proofs.Casts.{some_later}
 use Rattle.form_steps.proofs.Standing.{Stands, here, raised}

@@ -15,7 +15,7 @@ use Rattle.abs_ints.specs.IntIntervals.{all_ints, just}
 use Rattle.abs_ints.proofs.Covering.{in_interval}
 use Rattle.jvm_step.specs.Effects.{target_at, target_of}
 use Rattle.abs_expand.specs.Switches.{table_keys, lookup_keys, parts_from, parts_of}
-use Rattle.turn_fits.proofs.SomeOf.{SomeOf}
+use Rattle.form_steps.proofs.SomeOf.{SomeOf}
 
 -- where a switch of keys leads
 abbrev pub key_target : ℕ → List (ℤ × ℕ) → ℤ → ℕ

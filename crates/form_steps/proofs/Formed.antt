@@ -13,7 +13,7 @@ use Rattle.abs_reach.proofs.Walks.{named_has_cell}
 use Rattle.abs_heap.specs.Given.{IsGiven, first_cell, with_cells}
 use Rattle.abs_heap.proofs.Placing.{cell_there}
 use Rattle.abs_expand.specs.Building.{HoldsIds}
-use Rattle.turn_fits.proofs.Carry.{in_list, still_there}
+use Rattle.form_steps.proofs.Carry.{in_list, still_there}
 
 -- ---- lists
 

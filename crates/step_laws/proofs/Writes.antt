@@ -43,17 +43,17 @@ use Rattle.abs_expand.specs.Plans.{nothing, nowhere, on_stack, item, writes, Tur
 use Rattle.abs_expand.specs.Table.{cell_here, is_null_cell, is_null_here, access_at, length_id, items_length_id, items_of}
 use Rattle.abs_expand.specs.Table.{number_store_plan, aaload_plan, aastore_plan}
 use Rattle.abs_expand.specs.Turns.{throws_after, with_stack as stack_at}
-use Rattle.turn_fits.proofs.SomeOf.{SomeOf}
-use Rattle.turn_fits.proofs.Carry.{described_of}
-use Rattle.turn_fits.proofs.Tops.{stacked}
-use Rattle.access_steps.proofs.Accesses.{access_meets}
-use Rattle.access_steps.proofs.Arrays.{IndexOver, index_of, by_index, length_held, top_array, outside_item}
+use Rattle.form_steps.proofs.SomeOf.{SomeOf}
+use Rattle.form_steps.proofs.Carry.{described_of}
+use Rattle.form_steps.proofs.Tops.{stacked}
+use Rattle.step_laws.proofs.Accesses.{access_meets}
+use Rattle.step_laws.proofs.Arrays.{IndexOver, index_of, by_index, length_held, top_array, outside_item}
 use Rattle.form_steps.proofs.Standing.{Stands, here, onward, Work_, held, raised, no_frame_effect, no_heap_effect, goes_after}
 use Rattle.form_steps.proofs.Standing.{goes_next, raises_frame, raises_heap}
 use Rattle.form_steps.proofs.TurnKinds.{Fitting, Meets, IsChange, throwing_turn, item_turn, writing_turn, keeping_turn, alikes, nameds}
 use Rattle.form_steps.proofs.Operands.{int_at, by_int_at, TopInt}
-use Rattle.frame_steps.proofs.Moves.{by_reference_at}
-use Rattle.frame_steps.proofs.References.{top_is_reference, accessed_meets}
+use Rattle.object_steps.proofs.Moves.{by_reference_at}
+use Rattle.object_steps.proofs.References.{top_is_reference, accessed_meets}
 
 -- a reference isn't the id of an int
 other_id : (meaning : Meaning) (k index : ℕ) (n : ℤ) → meaning index ≡ values.Int n → reference_of (meaning k) ≡ Some (meaning k)

@@ -61,17 +61,17 @@ use Rattle.abs_expand.specs.Table.{local_here, step_if, one_step, unary, binary,
 use Rattle.abs_expand.specs.Table.{negation_plan, narrow_plan, switch_plan, number_cell}
 use Rattle.abs_expand.specs.Turns.{with_stack as stack_at, pushes, turn_narrowing, known, id, goes_on, interval_of_id, turns_of, branches}
 use Rattle.abs_plans.proofs.Holding.{local_held, set_held, reordered}
-use Rattle.turn_fits.proofs.SomeOf.{SomeOf, some_one, some_of_map}
-use Rattle.turn_fits.proofs.Keys.{key_target, lookup_target, table_target}
+use Rattle.form_steps.proofs.SomeOf.{SomeOf, some_one, some_of_map}
+use Rattle.form_steps.proofs.Keys.{key_target, lookup_target, table_target}
 use Rattle.form_steps.proofs.Effects.{constant_is, goto_is, sets_is, sets_none, shuffle_is, arith_is, ineg_is, narrow_is, if_is}
 use Rattle.form_steps.proofs.Effects.{if_icmp_is, table_is, lookup_is, shuffled_values}
-use Rattle.turn_fits.specs.Laws.{IsPlainCell}
-use Rattle.turn_fits.proofs.Tops.{stacked, local_set}
+use Rattle.form_steps.specs.Laws.{IsPlainCell}
+use Rattle.form_steps.proofs.Tops.{stacked, local_set}
 use Rattle.form_steps.proofs.Standing.{Stands, onward, here, Work_, held, going, no_frame_effect, goes_after, goes_next, goes_to}
 use Rattle.form_steps.proofs.Standing.{raises_frame}
 use Rattle.form_steps.proofs.TurnKinds.{Fitting, Meets, IsChange, RowsHold, top_turn, pushing_turn, setting_turn}
 use Rattle.form_steps.proofs.Operands.{IntAt, int_at, bounded, by_int, by_two_ints, stack_is, stack_held}
-use Rattle.frame_steps.proofs.IntSteps.{is_operator, operator, narrowing_turn, comparison, switched}
+use Rattle.object_steps.proofs.IntSteps.{is_operator, operator, narrowing_turn, comparison, switched}
 
 -- ---- effects
 

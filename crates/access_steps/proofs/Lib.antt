@@ -1,4 +1,0 @@
-pub mod Accesses
-pub mod Arrays
-pub mod Fields
-pub mod Writes
