@@ -470,7 +470,9 @@ impl Pairs for PackedPairs {
         nth_pair(&self.packed, n)
     }
 
-    fn rise(&self) {}
+    fn rise(&self) {
+        let _slots = self.packed.slots.len();
+    }
 
     fn list(&self, alloc: Global) -> Result<Vec<(Id, Id)>, AllocError> {
         list_pairs(&self.packed, alloc)

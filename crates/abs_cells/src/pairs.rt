@@ -205,7 +205,9 @@ impl Pairs for ListPairs {
         self.pairs.get(n).copied()
     }
 
-    fn rise(&self) {}
+    fn rise(&self) {
+        let _length = self.pairs.len();
+    }
 
     fn list(&self, alloc: Global) -> Result<Vec<(Id, Id)>, AllocError> {
         Ok(Vec::from_slice(alloc, &self.pairs)?)
