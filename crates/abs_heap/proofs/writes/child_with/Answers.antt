@@ -8,7 +8,7 @@ use Rattle.std.proofs.lemmas.Result.{IfOk-weaker}
 pub returns : goal.returns
 returns g c = IfOk-weaker c.whole.result _ _
     (λ child is.
-    let was = c.as_slice-shared.ensures ∙ c.in_ok-listed.ensures.value ∙ c.share-pairs.ensures in
+    let was = c.as_slice-shared.ensures.value ∙ c.in_ok-listed.ensures.value ∙ c.share-pairs.ensures in
     child_written c.args.state.now (write_of c.args.write.now.object c.args.write.now.field c.args.write.now.value)
     c.as_slice-names.result.now c.args.effect.now.names c.args.effect.now.null c.args.effect.now.no_cycle _ _ _ _ _ _ _
     c.args.affected.now _ _ _ _ _ _ _ _ _ _ _
@@ -20,7 +20,7 @@ returns g c = IfOk-weaker c.whole.result _ _
 
 pub listed_pairs-requires-clause-pairs : goal.listed_pairs-requires-clause-pairs
 listed_pairs-requires-clause-pairs g c =
-    subst IsRising (sym (c.as_slice-shared.ensures ∙ c.in_ok-listed.ensures.value)) c.in_ok-listed.ensures.rising
+    subst IsRising (sym (c.as_slice-shared.ensures.value ∙ c.in_ok-listed.ensures.value)) c.in_ok-listed.ensures.rising
 
-pub ids_beside-requires : goal.ids_beside-requires
-ids_beside-requires g c = subst IsRising (sym (c.as_slice-shared.ensures ∙ c.in_ok-listed.ensures.value)) c.in_ok-listed.ensures.rising
+pub ids_beside-beside-requires : goal.ids_beside-beside-requires
+ids_beside-beside-requires g c = subst IsRising (sym (c.as_slice-shared.ensures.value ∙ c.in_ok-listed.ensures.value)) c.in_ok-listed.ensures.rising
