@@ -38,11 +38,11 @@ use Rattle.abs_heap.proofs.Renamed.{maps_move}
 
 -- an id of the child is the new name of one of the state
 pub record Was (state : AbstractState) (names : List (ℕ × ℕ)) (change : Shape → Shape) (write : Write) (id : ℕ) (c : Cell) : Type 0 where
-  x : ℕ
-  old : Cell
-  old_is : cell_at state x ≡ Some old
-  named : name_in names x ≡ id
-  now : (cell_after names change write (x, old)).1 ≡ c
+  pub x : ℕ
+  pub old : Cell
+  pub old_is : cell_at state x ≡ Some old
+  pub named : name_in names x ≡ id
+  pub now : (cell_after names change write (x, old)).1 ≡ c
 
 pub was_in : (state : AbstractState) (names : List (ℕ × ℕ)) (change : Shape → Shape) (write : Write) (low : ℕ) (list : List (ℕ × Cell))
     → AreIdsRising low list → ((x : ℕ) (c : Cell) → cell_in list x ≡ Some c → cell_at state x ≡ Some c) → (id : ℕ) (c : Cell)

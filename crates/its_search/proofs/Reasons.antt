@@ -18,11 +18,11 @@ use Rattle.its_search.specs.Following.{first_coefficient, reason_from, reasons_o
 -- ---- what is before others
 
 pub record IsBefore {A : Type 0} (first : Option A) (rest : Option (List A)) (all : List A) : Type 0 where
-  item : A
-  others : List A
-  first_is : first ≡ Some item
-  rest_is : rest ≡ Some others
-  all_is : all ≡ item ∷ others
+  pub item : A
+  pub others : List A
+  pub first_is : first ≡ Some item
+  pub rest_is : rest ≡ Some others
+  pub all_is : all ≡ item ∷ others
 
 pub before_is : {A : Type 0} (first : Option A) (rest : Option (List A)) (all : List A) → before first rest ≡ Some all
     → IsBefore first rest all
@@ -34,31 +34,31 @@ before_is (Some item) (Some others) all e = record
 -- ---- rows that say how much a variable changes
 
 pub record IsReason (count : ℕ) (rows : List WRow) (n : ℕ) (term : ℕ × ℤ) (entry : ℕ × ℤ) (change : ℤ) : Type 0 where
-  k : ℕ
-  number : entry.0 ≡ n + k
-  row : WRow
-  at : slice_get rows k ≡ Some row
-  kind : row.kind ≡ IsZero
-  a : ℤ
-  unit : IsUnit a
-  terms : row.terms ≡ (term.0, a) ∷ (count + term.0, pos 0 -ℤ a) ∷ []
-  times : entry.1 ≡ term.1 *ℤ a
-  change_is : change ≡ a *ℤ row.constant
+  pub k : ℕ
+  pub number : entry.0 ≡ n + k
+  pub row : WRow
+  pub at : slice_get rows k ≡ Some row
+  pub kind : row.kind ≡ IsZero
+  pub a : ℤ
+  pub unit : IsUnit a
+  pub terms : row.terms ≡ (term.0, a) ∷ (count + term.0, pos 0 -ℤ a) ∷ []
+  pub times : entry.1 ≡ term.1 *ℤ a
+  pub change_is : change ≡ a *ℤ row.constant
 
 record SaysChange (count x : ℕ) (row : WRow) (change : ℤ) : Type 0 where
-  kind : row.kind ≡ IsZero
-  a : ℤ
-  unit : IsUnit a
-  terms : row.terms ≡ (x, a) ∷ (count + x, pos 0 -ℤ a) ∷ []
-  change_is : change ≡ a *ℤ row.constant
+  pub kind : row.kind ≡ IsZero
+  pub a : ℤ
+  pub unit : IsUnit a
+  pub terms : row.terms ≡ (x, a) ∷ (count + x, pos 0 -ℤ a) ∷ []
+  pub change_is : change ≡ a *ℤ row.constant
 
 pub same_term : (a b : ℕ × ℤ) → a.0 ≡ b.0 → a.1 ≡ b.1 → a ≡ b
 same_term a b e f = ap (λ (n : ℕ). (n, a.1)) e ∙ ap (λ (z : ℤ). (b.0, z)) f
 
 record IsBy (a b constant change : ℤ) : Type 0 where
-  unit : IsUnit a
-  other : b ≡ pos 0 -ℤ a
-  change_is : change ≡ a *ℤ constant
+  pub unit : IsUnit a
+  pub other : b ≡ pos 0 -ℤ a
+  pub change_is : change ≡ a *ℤ constant
 
 by_cases : (a b constant change : ℤ) (p q r s : Bool) → int_eq a (negsuc 0) ≡ p → int_eq b (pos 1) ≡ q → int_eq a (pos 1) ≡ r
     → int_eq b (negsuc 0) ≡ s → cond (p && q) (Some (pos 0 -ℤ constant)) (cond (r && s) (Some constant) None) ≡ Some change
@@ -202,11 +202,11 @@ Reasons count rows (term ∷ rest) (entry ∷ more) change = (d : ℤ) × (e : �
     × Reasons count rows rest more e × (change ≡ term.1 *ℤ d +ℤ e)
 
 record IsAdded (times : ℤ) (first rest : Option ℤ) (change : ℤ) : Type 0 where
-  one : ℤ
-  other : ℤ
-  first_is : first ≡ Some one
-  rest_is : rest ≡ Some other
-  sum : change ≡ times *ℤ one +ℤ other
+  pub one : ℤ
+  pub other : ℤ
+  pub first_is : first ≡ Some one
+  pub rest_is : rest ≡ Some other
+  pub sum : change ≡ times *ℤ one +ℤ other
 
 pub added_is : (times : ℤ) (first rest : Option ℤ) (change : ℤ) → added times first rest ≡ Some change → IsAdded times first rest change
 added_is times None rest change e = absurd (none-some change e)
