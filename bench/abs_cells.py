@@ -11,7 +11,6 @@ import tempfile
 
 from common import run_over_copies, peak_memory
 
-CRATES = ['list_views', 'lin_core', 'jvm_values', 'abs_cells']
 KEPT = 1000
 MAIN = '''//! Times calls on pairs of ids.
 #![tactic(auto)]
@@ -169,7 +168,7 @@ fn main(rt: HostRuntime) -> Result<()> {
 def main():
     with tempfile.TemporaryDirectory() as made:
         print('| form | ids | call | nanoseconds a call |\n|---|---|---|---|', flush=True)
-        built = str(run_over_copies(made, CRATES, 'cells_timed', 'abs_cells jvm_values list_views anyhow', MAIN))
+        built = str(run_over_copies(made, 'cells_timed', 'abs_cells jvm_values list_views anyhow', MAIN))
         some, more = (peak_memory(built, b'a\n' * count) for count in [KEPT, 2 * KEPT])
         print('packed pairs of 512 ids, all there are: %.1f KiB' % ((more - some) * 1024 / KEPT))
 

@@ -8,17 +8,16 @@ below it is made in a new folder, and the program is built over them without a p
 proved one doesn't make: nothing is claimed of it. No figures were taken yet.
 
 The states of 20 ids are those of the outside cases that `state_tables` answers, of each form, in which a child is made; ids that nothing
-reaches fill them up to 20, each an object that may share with every other object whose class isn't known.
+reaches fill them up to 20, each an object whose class isn't known, which may share with none, or with every other one.
 """
 import json
 import pathlib
-import shutil
 import subprocess
 import sys
 import tempfile
 
 from class_world import Pool
-from common import TOP, u2
+from common import TOP, program_over_copies, u2
 
 MAIN = '''//! Times expansions.
 #![tactic(auto)]
@@ -96,8 +95,8 @@ fn main(rt: HostRuntime) -> Result<()> {
 BELOW = 'abs_cells abs_expand abs_reach anyhow class_program code_verify entry_cases state_cases table_cases'
 
 
-def filled(state, count):
-    """A state with objects that nothing reaches, up to so many ids, each of which may share with all that aren't known."""
+def filled(state, count, sharing):
+    """A state with objects that nothing reaches, up to so many ids, each of which may share with none, or with all that aren't known."""
     state = json.loads(json.dumps(state))
     ids = {cell[0] for cell in state['cells']}
     hazy = [cell[0] for cell in state['cells'] if cell[1] == 'unk']
@@ -106,7 +105,7 @@ def filled(state, count):
         if len(ids) >= count:
             break
         if new not in ids:
-            share |= {tuple(sorted((new, other))) for other in hazy}
+            share |= {tuple(sorted((new, other))) for other in hazy if sharing}
             state['cells'].append([new, 'unk', 'java/lang/Object', True, 'any'])
             ids.add(new)
             hazy.append(new)
@@ -115,7 +114,7 @@ def filled(state, count):
     return state
 
 
-def outside_states(count):
+def outside_states(count, sharing):
     """The fields of the outside cases that have children, their states filled up."""
     folder = TOP / 'crates/state_tables'
     answers = (folder / 'stdout').read_text().splitlines()
@@ -124,7 +123,7 @@ def outside_states(count):
         if table == 'expand' and answer.startswith('Children') and not answer.startswith('Children 0'):
             state = json.loads(fields[0])
             if len(state['cells']) <= count:
-                yield [json.dumps(filled(state, count), separators=(',', ':'))] + fields[1:]
+                yield [json.dumps(filled(state, count, sharing), separators=(',', ':'))] + fields[1:]
 
 
 def one_class(name, over, fields, code=None, desc='()V'):
@@ -184,52 +183,33 @@ def answers(lines):
     """The number of children and the nanoseconds for each line."""
     text = ''.join(line + '\n' for line in lines)
     if len(sys.argv) > 1:
-        done = subprocess.run([pathlib.Path(sys.argv[1]).resolve()], input=text, capture_output=True, text=True, check=True)
+        done = subprocess.run([pathlib.Path(sys.argv[1]).resolve()], input=text, stdout=subprocess.PIPE, text=True, check=True)
     else:
-        with tempfile.TemporaryDirectory() as made:
-            done = tried(pathlib.Path(made), text)
+        with tempfile.TemporaryDirectory() as folder:
+            program = program_over_copies(folder, 'expansions_timed', BELOW, MAIN)
+            done = subprocess.run(['rt', 'try', '--seconds', '3600'], cwd=program, input=text, stdout=subprocess.PIPE, text=True, check=True)
     return [tuple(map(int, line.split())) for line in done.stdout.splitlines() if line.replace(' ', '').isdigit()]
 
 
-def tried(folder, text):
-    """Builds the program over copies without a proof, and runs it."""
-    rows = {line.split(':')[0].strip(): line for line in (TOP / 'crates.txt').read_text().splitlines() if ':' in line and not line.startswith('#')}
-    wanted, kept = BELOW.split(), []
-    while wanted:
-        crate = wanted.pop()
-        if crate in rows and crate not in kept:
-            kept.append(crate)
-            wanted += rows[crate].split(':')[1].split()
-    (folder / 'crates').mkdir()
-    for crate in kept:
-        shutil.copytree(TOP / 'crates' / crate, folder / 'crates' / crate, ignore=shutil.ignore_patterns('out'))
-    (folder / 'crates.txt').write_text(''.join(rows[crate] + '\n' for crate in kept) + 'expansions_timed: %s\n' % BELOW)
-    program = folder / 'crates/expansions_timed'
-    (program / 'src').mkdir(parents=True)
-    (program / 'src/main.rt').write_text(MAIN)
-    return subprocess.run(['rt', 'try', '--seconds', '600'], cwd=program, input=text, capture_output=True, text=True, check=True)
+def cases():
+    """The words of a row, the calls for a state and the states."""
+    yield '20 ids, each form; those that nothing reaches share with none', 100, list(outside_states(20, False))
+    yield 'the same; those that nothing reaches share with all that aren\'t known', 100, list(outside_states(20, True))
+    yield 'a split by class, 100 classes, 500 ids', 10, [split(100, 500)]
+    yield 'a write, 512 ids, 1,000 pairs', 100, [write(512)]
 
 
 def main():
-    forms = list(outside_states(20))
-    large = [('a split by class, 100 classes, 500 ids', split(100, 500), 20), ('a write, 512 ids, 1,000 pairs', write(512), 100)]
-    lines, cases = [], []
-    for form in ('packed', 'listed'):
-        for fields in forms:
-            lines.append('\t'.join([form, '1000'] + fields))
-        for _, fields, rounds in large:
-            lines.append('\t'.join([form, str(rounds)] + fields))
-    found = answers(lines)
-    if len(found) != len(lines) or any(children == 0 for children, _ in found):
-        sys.exit('not all cases have children')
-    print('| pairs | case | children | microseconds a child |\n|---|---|---|---|')
-    for n, form in enumerate(('packed', 'listed')):
-        part = found[n * (len(forms) + len(large)):][:len(forms) + len(large)]
-        each = sorted(nanoseconds / children / 1000 for children, nanoseconds in part[:len(forms)])
-        print('| %s | %d states of 20 ids, the middle one | | %.1f |' % (form, len(forms), each[len(each) // 2]))
-        print('| | the slowest one | | %.1f |' % each[-1])
-        for (words, _, rounds), (children, nanoseconds) in zip(large, part[len(forms):]):
-            print('| | %s | %d | %.1f |' % (words, children // rounds, nanoseconds / children / 1000))
+    kinds = [(form, words, rounds if len(sys.argv) > 1 else 1, states) for form in ('packed', 'listed') for words, rounds, states in cases()]
+    found = iter(answers(['\t'.join([form, str(rounds)] + fields) for form, _, rounds, states in kinds for fields in states]))
+    print('| pairs | state | states | children | microseconds a child: the middle one | the most |\n|---|---|---|---|---|---|')
+    for form, words, rounds, states in kinds:
+        times = [next(found, (0, 0)) for _ in states]
+        if any(children == 0 for children, _ in times):
+            sys.exit('not all cases have children')
+        each = sorted(nanoseconds / children / 1000 for children, nanoseconds in times)
+        made = sum(children for children, _ in times) // rounds
+        print('| %s | %s | %d | %d | %.1f | %.1f |' % (form, words, len(states), made, each[len(each) // 2], each[-1]))
 
 
 if __name__ == '__main__':

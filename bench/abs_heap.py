@@ -6,11 +6,8 @@ usage: abs_heap.py
 It makes a program over copies of `abs_heap` and the crates below it in a new folder, proves it, builds it with LLVM and runs
 it.
 """
-import tempfile
+from common import print_over_copies
 
-from common import run_over_copies
-
-CRATES = ['list_views', 'lin_core', 'jvm_values', 'jvm_heaps', 'abs_cells', 'abs_reach', 'term_graph', 'abs_heap']
 MAIN = '''//! Times a write.
 #![tactic(auto)]
 
@@ -107,12 +104,6 @@ fn main(rt: HostRuntime) -> Result<()> {
     Ok(())
 }
 '''
+BELOW = 'abs_heap abs_reach abs_cells jvm_values list_views anyhow'
 
-
-def main():
-    with tempfile.TemporaryDirectory() as made:
-        print('| form | value | nanoseconds a call | done |\n|---|---|---|---|', flush=True)
-        run_over_copies(made, CRATES, 'writes_timed', 'abs_heap abs_reach abs_cells jvm_values list_views anyhow', MAIN)
-
-
-main()
+print_over_copies(['form', 'value', 'nanoseconds a call', 'done'], 'writes_timed', BELOW, MAIN)

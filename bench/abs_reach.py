@@ -6,11 +6,8 @@ usage: abs_reach.py
 It makes a program over copies of `abs_reach` and the crates below it in a new folder, proves it, builds it with LLVM and runs
 it.
 """
-import tempfile
+from common import print_over_copies
 
-from common import run_over_copies
-
-CRATES = ['list_views', 'lin_core', 'jvm_values', 'jvm_heaps', 'abs_cells', 'abs_reach']
 MAIN = '''//! Times the tests of what ids reach.
 #![tactic(auto)]
 
@@ -194,12 +191,6 @@ fn main(rt: HostRuntime) -> Result<()> {
     Ok(())
 }
 '''
+BELOW = 'abs_reach abs_cells jvm_values list_views anyhow'
 
-
-def main():
-    with tempfile.TemporaryDirectory() as made:
-        print('| form | pairs | call | nanoseconds a call | yes |\n|---|---|---|---|---|', flush=True)
-        run_over_copies(made, CRATES, 'reach_timed', 'abs_reach abs_cells jvm_values list_views anyhow', MAIN)
-
-
-main()
+print_over_copies(['form', 'pairs', 'call', 'nanoseconds a call', 'yes'], 'reach_timed', BELOW, MAIN)

@@ -1,6 +1,6 @@
-"""What the scripts that time programs for tables share: a program's path, the time and the memory that it takes for a case, and
-the printed table."""
-import pathlib, resource, shutil, struct, subprocess, sys
+"""What the scripts that time programs share: a program's path, the time and the memory that it takes for a case, the printed table, and
+programs over copies of the crates that they stand on."""
+import pathlib, resource, shutil, struct, subprocess, sys, tempfile
 
 TOP = pathlib.Path(__file__).resolve().parent.parent
 BUILDING = """
@@ -76,18 +76,44 @@ def print_times(usage, heading, cases, name, memory=False):
         print_row(words + ['%.1f' % (1000 * (took - empty))] + ['%.1f' % peak_memory(path, line)] * memory)
 
 
-def run_over_copies(folder, crates, name, below, text):
-    """The path of a program of this text, over copies of crates below a folder, that is proved, built with LLVM and run."""
-    folder = pathlib.Path(folder)
-    (folder / 'crates').mkdir()
-    for crate in crates:
-        shutil.copytree(TOP / 'crates' / crate, folder / 'crates' / crate, ignore=shutil.ignore_patterns('out'))
-    lines = (TOP / 'crates.txt').read_text().splitlines()
-    kept = [line for line in lines if line.split(':')[0] in crates]
-    (folder / 'crates.txt').write_text('\n'.join(kept) + '\n%s: %s\n' % (name, below))
-    program = folder / 'crates' / name
-    (program / 'src').mkdir(parents=True)
-    (program / 'src' / 'main.rt').write_text(text)
+def crate_rows():
+    """What each crate stands on, in the order of crates.txt."""
+    lines = (line.split('#')[0] for line in (TOP / 'crates.txt').read_text().splitlines())
+    return {name.strip(): below.split() for name, _, below in (line.partition(':') for line in lines if ':' in line)}
+
+
+def crates_below(rows, names):
+    """The crates among the names and all that these stand on, each once, lower ones first."""
+    found = []
+    for name in names:
+        if name in rows:
+            found += [one for one in [*crates_below(rows, rows[name]), name] if one not in found]
+    return found
+
+
+def program_over_copies(folder, name, below, text):
+    """The folder of a program of this text, below the folder, beside copies of the crates that it stands on."""
+    rows = crate_rows()
+    crates, wanted = pathlib.Path(folder) / 'crates', crates_below(rows, below.split())
+    for crate in wanted:
+        shutil.copytree(TOP / 'crates' / crate, crates / crate, ignore=shutil.ignore_patterns('out'))
+    lines = ['%s: %s\n' % (crate, ' '.join(rows[crate])) for crate in wanted]
+    (crates.parent / 'crates.txt').write_text(''.join(lines) + '%s: %s\n' % (name, below))
+    (crates / name / 'src').mkdir(parents=True)
+    (crates / name / 'src/main.rt').write_text(text)
+    return crates / name
+
+
+def run_over_copies(folder, name, below, text):
+    """The path of a program of this text, over copies of the crates that it stands on, that is proved, built with LLVM and run."""
+    program = program_over_copies(folder, name, below, text)
     if subprocess.run(['rt', 'run'], cwd=program, stdin=subprocess.DEVNULL).returncode != 0:
         sys.exit('the program is not proved')
     return program / 'out' / name
+
+
+def print_over_copies(columns, name, below, text):
+    """Prints the table of these columns whose lines a program of this text prints, which is proved, built and run over copies of crates."""
+    print('| %s |\n|%s' % (' | '.join(columns), '---|' * len(columns)), flush=True)
+    with tempfile.TemporaryDirectory() as folder:
+        run_over_copies(folder, name, below, text)

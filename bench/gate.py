@@ -3,6 +3,7 @@ its tests, where it has some) and for its must-fail edits.
 
 usage: python3 bench/gate.py [CRATE..]
        python3 bench/gate.py --page TIMES [OLDER]
+       python3 bench/gate.py --ways
 
 Works in a fresh copy of this checkout's crates/, crates.txt and HANDLES below a new folder, which it removes at its end.
 Without names it takes every crate of crates.txt, lowest first. Libraries below a crate are built before its clock starts.
@@ -12,10 +13,13 @@ With --page it runs nothing: TIMES has lines of a crate, 'proof', 'tests', 'buil
 tabs, and what may stand behind them, as gate_watch.py notes them while a gate runs. It writes the table of gate.md, in Markdown, a row a crate, the tests, tables and readers of
 cases shared by the crates that they test, in proportion to their lines (TESTS_OF). Among the tests are the builds of their programs, each shared by all crates below the program, in
 proportion to their lines, since it compiles them all. A time that OLDER alone has, from an earlier run, has a star; one that neither has is a dash. Below it stand the layers of docs/MAP.md with their sums.
+
+With --ways it says in how many ways crates.txt leads down from each crate, and from all together: rt goes through each of them before it proves anything.
 """
 import collections, pathlib, resource, shutil, subprocess, sys, tempfile
 
-TOP = pathlib.Path(__file__).resolve().parent.parent
+from common import TOP, crate_rows, crates_below
+
 BUDGET = 240  # processor seconds for 1,000 lines
 # Crates of tests, tables, readers of cases and thin programs, and the crates whose budgets they share, each in proportion to its lines.
 TESTS_OF = {
@@ -31,6 +35,7 @@ TESTS_OF = {
     'rule_cases': 'descent rule_links rank_forms rank_search',
     'proof_tables': 'descent rule_links rank_forms rank_search',
     'cert_tables': 'cert_form cert_write cert_check path_rules',
+    'its_tables': 'its_front its_search its_call',
     'line_cases': 'input_steps run_call prove_call check_call',
     'command_tables': 'input_steps run_call desc_steps prove_core prove_call cert_check check_call',
     'describe_cli': 'describe',
@@ -47,7 +52,7 @@ LAYER = {
         'machine': 'jvm_values jvm_heaps frame_types jvm_step code_verify jvm_run',
         'abstract states': 'abs_cells abs_reach abs_sound abs_equal abs_heap abs_match abs_widen term_graph abs_ints term_enc '
                            'abs_turns abs_rows abs_plans abs_expand',
-        'certificates': 'input_root descent form_steps object_steps step_laws its_front steady_plans one_expansion graph_check graph_fill plan_links cert_check '
+        'certificates': 'input_root descent form_steps object_steps step_laws its_front its_search its_call steady_plans one_expansion graph_check graph_fill plan_links cert_check '
                         'cert_form cert_write path_rules graph_build rule_links rank_forms rank_search chain_proofs prove_core',
         'program': 'input_steps run_call describe desc_steps prove_call check_call jterm',
     }.items() for crate in crates_of.split()
@@ -55,25 +60,6 @@ LAYER = {
 # What the thirteen crates of the first measurement have become, each with its share of the tests.
 THIRTEEN = ('list_views io_ports class_base json_view lin_core jvm_values class_pool code_forms code_decode class_read asm_lines asm_codes '
             'asm_pool class_asm class_world class_program jterm').split()
-
-
-def crates():
-    """The crates' names with what they stand on, in the order of crates.txt."""
-    rows = {}
-    for line in (TOP / 'crates.txt').read_text().splitlines():
-        if line.strip() and not line.startswith('#'):
-            name, below = line.split(':')
-            rows[name.split()[0]] = below.split()
-    return rows
-
-
-def below(rows, name):
-    """The names of the crates that one stands on, over one or more steps, each once."""
-    found = []
-    for low in rows[name]:
-        if low in rows:
-            found += [one for one in [*below(rows, low), low] if one not in found]
-    return found
 
 
 def seconds(command, folder):
@@ -174,7 +160,7 @@ class Page:
 
     def write(self, rows):
         self.size = {name: lines(TOP / 'crates' / name) for name in rows}
-        self.below = {test: [name for name in below(rows, test) if name not in TESTS_OF] for test in TESTS_OF}
+        self.below = {test: [name for name in crates_below(rows, rows[test]) if name not in TESTS_OF] for test in TESTS_OF}
         head = '| %s | Lines | Proof | Tests | Edits | All | Budget |\n|---|---|---|---|---|---|---|'
         print(head % 'Crate, with its share of the tests')
         taken = {name: self.row(name) for name in rows if name not in TESTS_OF}
@@ -200,13 +186,26 @@ def be_complete(rows):
         sys.exit('gate.py: in neither table: %s; no more in crates.txt: %s; a test and tested: %s' % tuple(' '.join(them) or 'none' for them in (lacking, gone, twice)))
 
 
+def print_ways(rows):
+    """The ways that lead down from each crate, itself as one, the most first, and their sum."""
+    ways = {}
+    for name, below in rows.items():
+        ways[name] = 1 + sum(ways[low] for low in below if low in rows)
+    for name in sorted(ways, key=ways.get, reverse=True):
+        print('%-16s %12s' % (name, format(ways[name], ',')))
+    print('%-16s %12s' % ('all', format(sum(ways.values()), ',')))
+
+
 def main():
-    if sys.argv[1:2] == ['--page']:
-        be_complete(crates())
-        times = [noted(file) for file in sys.argv[2:4]]
-        Page(times[0], times[1] if len(times) > 1 else collections.defaultdict(dict)).write(crates())
+    if sys.argv[1:] == ['--ways']:
+        print_ways(crate_rows())
         return
-    rows = crates()
+    if sys.argv[1:2] == ['--page']:
+        be_complete(crate_rows())
+        times = [noted(file) for file in sys.argv[2:4]]
+        Page(times[0], times[1] if len(times) > 1 else collections.defaultdict(dict)).write(crate_rows())
+        return
+    rows = crate_rows()
     names = sys.argv[1:] or list(rows)
     print('%-16s %7s %7s %7s %7s %6s %7s %7s' % ('crate', 'lines', 'proof', 'tests', 'edits', '', 'all', 'budget'))
     total = [0] * 6

@@ -4,14 +4,12 @@
 Makes a program over copies of the crates in a temporary folder, and proves it and runs it as it
 is built for use.
 """
-import pathlib
-import shutil
 import subprocess
 import sys
 import tempfile
 
-TOP = pathlib.Path(__file__).resolve().parent.parent
-CRATES = ["list_views", "lin_core"]
+from common import program_over_copies
+
 MAIN = """//! Times sums of rows.
 #![tactic(auto)]
 
@@ -139,27 +137,10 @@ invariant-loop l = variables l.sum ≡ variables l.fn.sum
 
 def main():
     with tempfile.TemporaryDirectory() as folder:
-        top = pathlib.Path(folder)
-        (top / "crates").mkdir()
-        lines = (TOP / "crates.txt").read_text().splitlines()
-        wanted = [line for line in lines if line.split(":")[0].split(" ")[0] in CRATES]
-        (top / "crates.txt").write_text("\n".join(wanted) + "\n")
-        for name in CRATES:
-            shutil.copytree(TOP / "crates" / name, top / "crates" / name, ignore=shutil.ignore_patterns("out"))
-        subprocess.run(["rt", "new", "sums_timed", "start_io"], cwd=top / "crates", check=True, capture_output=True)
-        program = top / "crates" / "sums_timed"
-        for left in ["BUILD.bazel", "CLAUDE.md", "stdin", "stdout"]:
-            (program / left).unlink(missing_ok=True)
-        for left in ["specs", "proofs"]:
-            shutil.rmtree(program / left, ignore_errors=True)
-        for source in (program / "src").glob("*.rt"):
-            source.unlink()
-        (program / "src" / "main.rt").write_text(MAIN)
+        program = program_over_copies(folder, "sums_timed", "list_views lin_core", MAIN)
         for name, text in PROOFS.items():
             (program / "proofs" / name).mkdir(parents=True)
             (program / "proofs" / name / "Invariants.antt").write_text(text)
-        with (top / "crates.txt").open("a") as crates:
-            crates.write("sums_timed: list_views lin_core\n")
         return subprocess.run(["rt", "run"], cwd=program).returncode
 
 

@@ -6,11 +6,8 @@ usage: term_enc.py
 
 It makes a program over copies of `term_enc` and the crates below it in a new folder, proves it, builds it with LLVM and runs it.
 """
-import tempfile
+from common import print_over_copies
 
-from common import run_over_copies
-
-CRATES = ['list_views', 'lin_core', 'jvm_values', 'jvm_heaps', 'abs_cells', 'abs_reach', 'term_graph', 'term_enc']
 MAIN = '''//! Times the patterns of ids.
 #![tactic(auto)]
 
@@ -110,12 +107,6 @@ fn main(rt: HostRuntime) -> Result<()> {
     Ok(())
 }
 '''
+BELOW = 'term_enc abs_reach abs_cells list_views anyhow'
 
-
-def main():
-    with tempfile.TemporaryDirectory() as made:
-        print('| state | ids asked for | sized | nanoseconds for all |\n|---|---|---|---|', flush=True)
-        run_over_copies(made, CRATES, 'terms_timed', 'term_enc abs_reach abs_cells list_views anyhow', MAIN)
-
-
-main()
+print_over_copies(['state', 'ids asked for', 'sized', 'nanoseconds for all'], 'terms_timed', BELOW, MAIN)

@@ -1,34 +1,27 @@
 -- Walks through a good graph from cut to cut are turns of a chain, so runs end.
-use Rattle.std.proofs.Common.{◌≡◌, ◌<◌, ◌≤◌, ◌+◌, ◌∙◌, ◌==◌, ℕ, ℤ, zero, suc, Bool, true, false, cond, eqb, IsTrue, List, [], ◌∷◌}
+use Rattle.std.proofs.Common.{◌≡◌, ◌<◌, ◌≤◌, ◌+◌, ◌∙◌, ◌==◌, ℕ, ℤ, zero, suc, Bool, true, false, cond, List, [], ◌∷◌}
 use Rattle.std.proofs.Common.{◌++◌, length, set, replicate, Some, None, slice_get, ◌⊎◌, inl, inr, refl, sym, ap, subst, arith}
 use Rattle.std.proofs.Common.{eq-eqb}
-use Rattle.std.specs.Prelude.{All}
 use Rattle.std.specs.List.{AllZip, list_any}
 use Rattle.std.specs.Option.{option_map, option_and_then}
 use Rattle.std.proofs.Math.ListN.{length-set, length-replicate}
 use Rattle.std.proofs.lemmas.Bool.{false≢true, cases_Bool, or_left}
 use Rattle.std.proofs.lemmas.Option.{slice_get_within, get_or_from_slice_get, none-some}
 use Rattle.std.proofs.lemmas.List.{take_all}
-use Rattle.std.proofs.lemmas.List.Elements.{All-get_or, All-tail}
+use Rattle.std.proofs.lemmas.List.Elements.{All-get_or}
 use mathlib.Core.WellFounded.{Acc}
 use Rattle.jvm_values.proofs.Options.{some_is}
-use Rattle.jvm_values.specs.declared.heap.Value.{Value}
-use Rattle.jvm_values.specs.declared.heap.Heap.{Heap}
-use Rattle.jvm_values.specs.Heaps.{target, IsInHeap}
+use Rattle.jvm_values.specs.Heaps.{target}
 use Rattle.jvm_values.specs.Paths.{Steps, follow}
 use Rattle.jvm_values.specs.States.{MachineState}
 use Rattle.jvm_values.specs.Terms.{IsTerm}
-use Rattle.jvm_values.specs.TypedHeaps.{WorldTypes, TypedHeapsAreClosed}
 use Rattle.jvm_heaps.specs.Marks.{IsMarked}
 use Rattle.list_views.specs.Lists.{open_count}
 use Rattle.jvm_heaps.proofs.MarkLaws.{set_only}
 use Rattle.jvm_heaps.proofs.MarkTurns.{none_marked}
 use Rattle.jvm_heaps.proofs.TermLaws.{ComesTo, one_step, step_more, fewer_open}
-use Rattle.abs_cells.specs.declared.cells.Cell.{Cell}
-use Rattle.abs_cells.specs.declared.cells.Cell.TheVariants.{Int, Null, Obj, Nums, Refs, Unk}
 use Rattle.abs_cells.specs.AbstractStates.{AbstractState}
-use Rattle.abs_cells.specs.Cells.{is_int, cell_in}
-use Rattle.abs_cells.specs.Fits.{Meaning, Fits, Describes}
+use Rattle.abs_cells.specs.Fits.{Meaning, Fits}
 use Rattle.abs_cells.specs.Patterns.{Pattern}
 use Rattle.class_world.specs.WorldTypes.{types_of}
 use Rattle.class_program.specs.Programs.{Program, IsClosed}
@@ -53,8 +46,9 @@ use Rattle.term_graph.specs.Edges.{number_of}
 use Rattle.path_rules.specs.Paths.{Path, edges, is_cut, inner_edges, only_last, end_of}
 use Rattle.path_rules.specs.Stops.{Stop, Leg, child, instance, AreSizes, LinkedGraph, leg_by, stop_at, leg_at, ride_at, rides_from}
 use Rattle.path_rules.specs.Rules.{IsRuleOf}
-use Rattle.path_rules.specs.Conditions.{HasIntsAlone}
-use Rattle.path_rules.specs.Walks.{Spot, FitsStop, Crosses, IsWalk, last_of, weight_of, SlotIs, SlotsAre, WalksMeetRules}
+use Rattle.step_laws.proofs.Meeting.{closed_state}
+use Rattle.term_enc.specs.Sizes.{weight_of}
+use Rattle.path_rules.specs.Walks.{Spot, FitsStop, Crosses, IsWalk, last_of, SlotIs, SlotsAre, WalksMeetRules}
 use Rattle.abs_expand.specs.Laws.{IsAfter, IsMet}
 use Rattle.graph_check.specs.Good.{IsGoodNode}
 use Rattle.graph_check.specs.Laws.{GoesBy, EndsHere, GraphsHoldRuns}
@@ -65,28 +59,6 @@ use Rattle.cert_check.specs.Walks.{Station, IsAt, GoesTo, WalksEnd, IsLast}
 use Rattle.cert_check.specs.Laws.{CertifiedWalksEnd, LastNodesEnd, CertifiedRunsEnd}
 use Rattle.cert_check.proofs.Running.{ends_now, ends_before}
 use Rattle.cert_check.proofs.Terms.{one_term}
-
--- ---- states of ints
-
-pub found_int : (cells : List (ℕ × Cell)) (id : ℕ) (cell : Cell) → All (λ (c : ℕ × Cell). IsTrue (is_int c.1)) cells
-    → cell_in cells id ≡ Some cell → is_int cell ≡ true
-found_int [] id cell ints e = absurd (none-some cell e)
-found_int (c ∷ cells) id cell ints e = elim (cases_Bool (eqb c.0 id)) [
-  | inl t ↦
-      let same : c.1 ≡ cell = some_is (ap (λ b. cond b (Some c.1) (cell_in cells id)) (sym t) ∙ e) in
-      ap is_int (sym same) ∙ All-get_or (λ (d : ℕ × Cell). IsTrue (is_int d.1)) (c ∷ cells) 0 c (omega arith) ints
-  | inr f ↦ found_int cells id cell (All-tail (λ (d : ℕ × Cell). IsTrue (is_int d.1)) c cells ints)
-      (ap (λ b. cond b (Some c.1) (cell_in cells id)) (sym f) ∙ e)
-]
-
-int_in_heap : (types : WorldTypes) (heap : Heap) (meaning : Meaning) (cell : Cell) (value : Value) (count : ℕ) → is_int cell ≡ true
-    → Describes types heap meaning cell value → IsInHeap count value
-int_in_heap types heap meaning (Int interval) value count i d = λ a t. absurd (none-some a (sym (ap target d.1.0) ∙ t))
-int_in_heap types heap meaning Null value count i d = absurd (false≢true i)
-int_in_heap types heap meaning (Obj class ids) value count i d = absurd (false≢true i)
-int_in_heap types heap meaning (Nums kind len) value count i d = absurd (false≢true i)
-int_in_heap types heap meaning (Refs element len shape) value count i d = absurd (false≢true i)
-int_in_heap types heap meaning (Unk bound nullable shape) value count i d = absurd (false≢true i)
 
 -- ---- slots of two turns at one state
 
@@ -113,7 +85,7 @@ slot_at v spot slots n slot are at =
 module _ (p : Program) (typing : ℕ → CodeTypes) (nodes : List GraphNode) (cuts : List ℕ) (root : AbstractState)
     (c : IsCertified p typing nodes cuts root)
     (closed : IsClosed p) (widths : HasWidths p) (typing_is : IsTypingOf p typing) (holds : GraphsHoldRuns)
-    (typed_steps : StepsAreTyped) (heaps_closed : TypedHeapsAreClosed) (meets : WalksMeetRules) where
+    (typed_steps : StepsAreTyped) (meets : WalksMeetRules) where
   abbrev linked : LinkedGraph
   linked = record { graph = nodes; links = c.links; sizes = c.are.are.sizes }
 
@@ -139,20 +111,10 @@ module _ (p : Program) (typing : ℕ → CodeTypes) (nodes : List GraphNode) (cu
       ∙ ap (option_map (λ (l : List (ℕ × Pattern)). record { state = at.node.state; sizes = l }))
       (beside Sized nodes c.are.are.sizes s.node at.node c.are.are.are_sizes at.is).there
 
-  node_ints : (s : Station) (at : At s) → HasIntsAlone at.node.state
-  node_ints s at = subst (λ (m : GraphNode). HasIntsAlone m.state) (get_or_from_slice_get nodes s.node at.node at.node at.is)
-      (All-get_or (λ (m : GraphNode). HasIntsAlone m.state) nodes s.node at.node (slice_get_within nodes s.node at.node at.is)
-      c.ready.ints)
-
   fits_stop : (s : Station) (at : At s) → FitsStop (types_of p.world) (stop_of s at) s.spot
   fits_stop s at = record {
     fits = at.fits;
-    closed = record {
-      heap = heaps_closed (types_of p.world) s.spot.machine.heap at.typed.heap;
-      ids = λ id has. int_in_heap (types_of p.world) s.spot.machine.heap s.spot.meaning has.cell (s.spot.meaning id)
-          (length s.spot.machine.heap.objects)
-          (found_int at.node.state.cells id has.cell (node_ints s at) has.is) (at.fits.cells id has.cell has.is);
-    };
+    closed = closed_state (types_of p.world) at.node.state s.spot.machine s.spot.meaning at.typed.heap at.fits;
   }
 
   -- ---- one edge
@@ -452,17 +414,17 @@ module _ (p : Program) (typing : ℕ → CodeTypes) (nodes : List GraphNode) (cu
 
 -- ---- the laws
 
-pub walks_end : TypedHeapsAreClosed → StepsAreTyped → WalksMeetRules → GraphsHoldRuns → CertifiedWalksEnd
-walks_end heaps_closed typed_steps meets holds p typing nodes cuts root closed widths typing_is c spot at =
-    walks_end_at_root p typing nodes cuts root c closed widths typing_is holds typed_steps heaps_closed meets spot at
+pub walks_end : StepsAreTyped → WalksMeetRules → GraphsHoldRuns → CertifiedWalksEnd
+walks_end typed_steps meets holds p typing nodes cuts root closed widths typing_is c spot at =
+    walks_end_at_root p typing nodes cuts root c closed widths typing_is holds typed_steps meets spot at
 
-pub last_nodes_end : TypedHeapsAreClosed → StepsAreTyped → WalksMeetRules → GraphsHoldRuns → LastNodesEnd
-last_nodes_end heaps_closed typed_steps meets holds p typing nodes cuts root closed widths typing_is c station at last =
-    last_ends p typing nodes cuts root c closed widths typing_is holds typed_steps heaps_closed meets station at last
+pub last_nodes_end : StepsAreTyped → WalksMeetRules → GraphsHoldRuns → LastNodesEnd
+last_nodes_end typed_steps meets holds p typing nodes cuts root closed widths typing_is c station at last =
+    last_ends p typing nodes cuts root c closed widths typing_is holds typed_steps meets station at last
 
-pub runs_end : TypedHeapsAreClosed → StepsAreTyped → RunsAreNeverStuck → FittingStatesAreTyped → FittingStatesAreDescribed
+pub runs_end : StepsAreTyped → RunsAreNeverStuck → FittingStatesAreTyped → FittingStatesAreDescribed
     → WalksMeetRules → GraphsHoldRuns → CertifiedRunsEnd
-runs_end heaps_closed typed_steps never_stuck are_typed are_described meets holds p typing desc nodes cuts closed widths typing_is
+runs_end typed_steps never_stuck are_typed are_described meets holds p typing desc nodes cuts closed widths typing_is
     own c state fits =
     let typed = are_typed p desc typing state closed typing_is own fits in
     let spot : Spot = record { machine = state; meaning = input_values (fits.args ++ state.statics) } in
@@ -474,9 +436,9 @@ runs_end heaps_closed typed_steps never_stuck are_typed are_described meets hold
           (are_described p desc state closed own fits);
       typed = typed;
     } in
-    let walks = walks_end_at_root p typing nodes cuts (initial_of p desc) c closed widths typing_is holds typed_steps heaps_closed
+    let walks = walks_end_at_root p typing nodes cuts (initial_of p desc) c closed widths typing_is holds typed_steps
     meets spot at in (
-      runs_from p typing nodes cuts (initial_of p desc) c closed widths typing_is holds typed_steps heaps_closed meets
+      runs_from p typing nodes cuts (initial_of p desc) c closed widths typing_is holds typed_steps meets
           (record { node = 0; spot = spot }) walks at,
       never_stuck p typing closed widths typing_is state typed,
     )

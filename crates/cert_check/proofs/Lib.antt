@@ -1,7 +1,6 @@
 pub mod Bounded
 pub mod Ending
 pub mod Linking
-pub mod OtherStates
 pub mod Running
 pub mod Showing
 pub mod Terms

@@ -1,20 +1,19 @@
 -- What a valid certificate shows, and that runs end where it does.
-use Rattle.std.proofs.Common.{◌≡◌, ℕ, Bool, true, false, List, [], ◌∷◌, Some, slice_get, inl, refl, ap, subst}
-use Rattle.std.specs.Prelude.{All}
+use Rattle.std.proofs.Common.{◌≡◌, ℕ, Bool, true, false, List, [], ◌∷◌, Some, inl, inr, refl, ap, subst}
+use Rattle.std.specs.Prelude.{All, not}
 use Rattle.std.specs.List.{AllZip, AllByRecursion}
 use Rattle.std.proofs.lemmas.Bool.{false≢true}
-use Rattle.std.proofs.lemmas.Option.{slice_get_within, get_or_from_slice_get}
-use Rattle.std.proofs.lemmas.List.Elements.{All-get_or, All-from_recursion}
-use Rattle.plan_links.proofs.Links.{no_and_int}
+use Rattle.std.proofs.lemmas.Option.{none-some}
+use Rattle.std.proofs.lemmas.List.Elements.{All-from_recursion}
 use Rattle.plan_links.specs.Laws.{LinksFit}
 use Rattle.descent.specs.Steps.{ClosedProofsEnd}
 use Rattle.abs_cells.specs.declared.cells.Cell.{Cell}
 use Rattle.abs_cells.specs.declared.cells.Cell.TheVariants.{Int, Null, Obj, Nums, Refs, Unk}
 use Rattle.abs_cells.specs.AbstractStates.{AbstractState}
-use Rattle.abs_cells.specs.Cells.{is_int, HasCell}
+use Rattle.abs_cells.specs.Cells.{is_int, type_of_cell, HasCell}
 use Rattle.abs_cells.specs.Sound.{IsWellFormed}
 use Rattle.jvm_values.specs.declared.types.Ty.{Ty}
-use Rattle.abs_reach.specs.Instances.{IsOver, InstanceOf, whole_map, cells}
+use Rattle.abs_reach.specs.Instances.{IsOver, IsNullOrBelow, InstanceOf, whole_map, cells}
 use Rattle.class_world.specs.WorldTypes.{types_of}
 use Rattle.class_program.specs.Programs.{Program}
 use Rattle.frame_types.specs.Tables.{CodeTypes}
@@ -22,14 +21,15 @@ use Rattle.term_graph.specs.declared.links.Link.{Link}
 use Rattle.term_graph.specs.declared.nodes.By.{By}
 use Rattle.term_graph.specs.declared.nodes.By.TheVariants.{Expand, Instance, End, Todo}
 use Rattle.term_graph.specs.Graphs.{GraphNode}
-use Rattle.path_rules.specs.Conditions.{HasIntsAlone, IsMapBetween, IsGoodBy}
+use Rattle.path_rules.specs.Conditions.{AreBounded, IsMapBetween, IsGoodBy, IsReady}
+use Rattle.path_rules.specs.RuleLimits.{RulesFit}
 use Rattle.graph_check.specs.Good.{IsLeftBy, IsGoodNode}
 use Rattle.graph_check.proofs.Excluding.{good_by}
 use Rattle.cert_check.specs.Certified.{IsCertified}
 use Rattle.cert_check.specs.Laws.{CertifiedRunsEnd, ValidCertificatesEnd}
 use Rattle.cert_check.specs.Ready.{ValidIsCertified}
+use Rattle.cert_check.proofs.Bounded.{all_bounded}
 use Rattle.cert_check.proofs.Linking.{AreLinked, all_linked}
-use Rattle.cert_check.proofs.Ending.{found_int}
 
 -- ---- lists
 
@@ -57,31 +57,62 @@ int_image sub entries state (Nums kind len) below image i over has = absurd (fal
 int_image sub entries state (Refs element len shape) below image i over has = absurd (false≢true i)
 int_image sub entries state (Unk bound nullable shape) below image i over has = absurd (false≢true i)
 
-map_between : (sub : Ty → Ty → Bool) (state target : AbstractState) (entries : List (ℕ × ℕ)) → HasIntsAlone target
-    → InstanceOf sub state target entries → IsMapBetween state target entries
-map_between sub state target entries ints match = record {
+-- a cell with a type is no int's
+typed_no_int : (cell : Cell) (t : Ty) → type_of_cell cell ≡ Some t → not (is_int cell) ≡ true
+typed_no_int (Int interval) t e = absurd (none-some t e)
+typed_no_int Null t e = refl
+typed_no_int (Obj class ids) t e = refl
+typed_no_int (Nums kind len) t e = refl
+typed_no_int (Refs element len shape) t e = refl
+typed_no_int (Unk bound nullable shape) t e = refl
+
+null_or_below : (sub : Ty → Ty → Bool) (bound : Ty) (below : Cell) → IsNullOrBelow sub bound below → not (is_int below) ≡ true
+null_or_below sub bound below (inl e) = ap (λ (c : Cell). not (is_int c)) e
+null_or_below sub bound below (inr h) = typed_no_int below h.0 h.1.0
+
+-- what is under a reference's cell is a reference's
+no_int_image : (sub : Ty → Ty → Bool) (entries : List (ℕ × ℕ)) (cell below : Cell) → not (is_int cell) ≡ true
+    → IsOver sub entries cell below
+    → not (is_int below) ≡ true
+no_int_image sub entries (Int outer) below n over = absurd (false≢true n)
+no_int_image sub entries Null below n over = ap (λ (c : Cell). not (is_int c)) over
+no_int_image sub entries (Obj class ids) below n over = ap (λ (c : Cell). not (is_int c)) over.1.0
+no_int_image sub entries (Nums kind len) below n over = ap (λ (c : Cell). not (is_int c)) over.1.0
+no_int_image sub entries (Refs element len shape) below n over = ap (λ (c : Cell). not (is_int c)) over.is
+no_int_image sub entries (Unk bound nullable shape) below n over = null_or_below sub bound below over.1
+
+map_between : (sub : Ty → Ty → Bool) (state target : AbstractState) (entries : List (ℕ × ℕ)) → InstanceOf sub state target entries
+    → IsMapBetween state target entries
+map_between sub state target entries match = record {
   lists = (match whole_map).0;
   ints = λ id has.
       let under = (match cells).1 id has.cell has.is in
       let int = int_image sub entries state has.cell under.below under.image has.sort_is under.over
       (record { cell = under.below; is = under.stands; sort_is = refl }) in
       (under.image, (under.maps, record { cell = under.below; is = under.stands; sort_is = int.sort_is }));
-  references = λ id has. absurd (no_and_int (is_int has.cell) (found_int target.cells id has.cell ints has.is) has.sort_is);
+  references = λ id has.
+      let under = (match cells).1 id has.cell has.is in (
+        under.image,
+        (
+          under.maps,
+          record {
+            cell = under.below;
+            is = under.stands;
+            sort_is = no_int_image sub entries has.cell under.below has.sort_is under.over;
+          },
+        ),
+      );
 }
 
 -- ---- graphs
 
-module _ (p : Program) (typing : ℕ → CodeTypes) (nodes : List GraphNode) (ints : All (λ (n : GraphNode). HasIntsAlone n.state) nodes) where
+module _ (p : Program) (typing : ℕ → CodeTypes) (nodes : List GraphNode) where
   pub well_formed : (links : List (List Link)) → AllZip (IsGoodNode p typing nodes) nodes links
       → All (λ (n : GraphNode). IsWellFormed n.state) nodes
   well_formed links each =
       All-from_recursion (λ (n : GraphNode). IsWellFormed n.state) nodes
       (zip_all (IsGoodNode p typing nodes) (λ (n : GraphNode). IsWellFormed n.state)
       (λ n ls good. (good_by p typing nodes n.state n.by ls good).sound.well_formed) nodes links each)
-
-  ints_at : (n : ℕ) (node : GraphNode) → slice_get nodes n ≡ Some node → HasIntsAlone node.state
-  ints_at n node is = subst (λ (m : GraphNode). HasIntsAlone m.state) (get_or_from_slice_get nodes n node node is)
-      (All-get_or (λ (m : GraphNode). HasIntsAlone m.state) nodes n node (slice_get_within nodes n node is) ints)
 
   left_good : (state : AbstractState) (by : By) (links : List Link) → IsLeftBy p typing nodes state by links
       → AreLinked nodes (record { state = state; by = by }) links → IsGoodBy nodes state by links
@@ -90,8 +121,7 @@ module _ (p : Program) (typing : ℕ → CodeTypes) (nodes : List GraphNode) (in
     left.0.node,
     (
       left.0.is,
-      map_between (types_of p.world).sub state left.0.node.state entries
-          (ints_at target left.0.node left.0.is) left.0.instance,
+      map_between (types_of p.world).sub state left.0.node.state entries left.0.instance,
     ),
   )
   left_good state End links left linked = tt
@@ -105,28 +135,32 @@ module _ (p : Program) (typing : ℕ → CodeTypes) (nodes : List GraphNode) (in
 
 -- ---- the laws
 
-pub shows : ClosedProofsEnd → LinksFit → ValidIsCertified
-shows closed fit case valid widths typing_is ints rules steps = record {
-  links = valid.links;
-  graph = valid.graph;
-  ready = record {
-    states = well_formed case.program case.typing case.nodes ints valid.links valid.graph.each;
-    ints = ints;
-    nodes = all_good case.program case.typing case.nodes ints valid.links valid.graph.each
-        (all_linked fit case.program case.typing widths case.nodes case.nodes valid.links (λ n node at good. inl typing_is)
-        valid.graph.each);
-    first = valid.cuts.first;
-    rise = valid.cuts.rise;
-    cut_nodes = valid.cuts.nodes;
-  };
-  cut = valid.paths.0;
-  rules = valid.rules;
-  are = valid.paths.1;
-  ends = closed valid.rules (record { steps = case.steps }) rules steps valid.proof;
-}
+pub shows : ClosedProofsEnd → LinksFit → RulesFit → ValidIsCertified
+shows closed fit rules_fit case valid widths typing_is steps =
+    let ready : IsReady case.nodes valid.links case.cuts =
+    record {
+      states = well_formed case.program case.typing case.nodes valid.links valid.graph.each;
+      nodes = all_good case.program case.typing case.nodes valid.links valid.graph.each
+          (all_linked fit case.program case.typing widths typing_is case.nodes case.nodes valid.links valid.graph.each);
+      first = valid.cuts.first;
+      rise = valid.cuts.rise;
+      cut_nodes = valid.cuts.nodes;
+    } in
+    let bounded = All-from_recursion (λ (n : GraphNode). AreBounded n.state) case.nodes
+    (all_bounded case.program case.typing case.nodes case.nodes valid.links valid.graph.each) in
+    let rules = rules_fit case.nodes valid.links case.cuts valid.rules ready bounded valid.paths.1 in
+    record {
+      links = valid.links;
+      graph = valid.graph;
+      ready = ready;
+      cut = valid.paths.0;
+      rules = valid.rules;
+      are = valid.paths.1;
+      ends = closed valid.rules (record { steps = case.steps }) rules steps valid.proof;
+    }
 
 pub valid_runs_end : ValidIsCertified → CertifiedRunsEnd → ValidCertificatesEnd
-valid_runs_end shown ended case valid desc root closed widths typing_is own ints rules steps state fits =
+valid_runs_end shown ended case valid desc root closed widths typing_is own steps state fits =
     ended case.program case.typing desc case.nodes case.cuts closed widths typing_is own
-    (subst (IsCertified case.program case.typing case.nodes case.cuts) root (shown case valid widths typing_is ints rules steps))
+    (subst (IsCertified case.program case.typing case.nodes case.cuts) root (shown case valid widths typing_is steps))
     state fits

@@ -16,7 +16,7 @@ use Rattle.term_graph.specs.Graphs.{GraphNode}
 use Rattle.path_rules.specs.declared.fault.PathFault.{PathFault}
 use Rattle.path_rules.specs.declared.fault.PathFault.TheVariants as paths
 use Rattle.path_rules.specs.Answers.{Answers as PathAnswers}
-use Rattle.path_rules.specs.Conditions.{IsReady}
+use Rattle.path_rules.specs.Conditions.{AreGood, IsReady}
 use Rattle.graph_check.specs.declared.fault.CheckFault.{CheckFault}
 use Rattle.graph_check.specs.declared.fault.CheckFault.TheVariants as graphs
 use Rattle.graph_check.specs.Good.{GraphOk, Tells as GraphTells}
@@ -25,7 +25,7 @@ use Rattle.cert_check.specs.declared.refusal.Refusal.{Refusal}
 use Rattle.cert_check.specs.declared.refusal.Refusal.TheVariants.{Item}
 use Rattle.cert_check.specs.Certified.{IsCertified}
 use Rattle.cert_check.specs.Valid.{Case, HasGoodGraph, Tells}
-use Rattle.cert_check.specs.Parts.{case_of, graph_refusal, path_refusal, proof_refusal, AreCutsOf, IsPrepared, GraphOr, RulesOr}
+use Rattle.cert_check.specs.Parts.{case_of, graph_refusal, path_refusal, proof_refusal, AreCutsOf, GraphOr, RulesOr}
 use Rattle.cert_check.proofs.Preparing.{cuts_are, cuts_of, ready}
 
 pub bad_graph : (case : Case) (fault : CheckFault) → GraphTells case.program case.typing case.nodes case.root (Err fault)
@@ -61,7 +61,7 @@ valid case links rules graph is closed = record { links = links; graph = graph; 
 
 pub certified : (p : Program) (typing : ℕ → CodeTypes) (nodes : List GraphNode) (cuts : List ℕ) (root : AbstractState)
     (steps : List ProofStep) (links : List (List Link)) (rules : List PathRule) → GraphOk p typing nodes root links
-    → IsPrepared nodes links → RulesOr (case_of p typing root nodes cuts steps) links (Ok rules) → ChainsEnd rules
+    → AreGood nodes links → RulesOr (case_of p typing root nodes cuts steps) links (Ok rules) → ChainsEnd rules
     → IsCertified p typing nodes cuts root
 certified p typing nodes cuts root steps links rules graph is answered ends = record {
   links = links;
@@ -119,6 +119,6 @@ module _ (p : Program) (typing : ℕ → CodeTypes) (root : AbstractState) (node
         (bad_proof (case_of p typing root nodes cuts steps) links rules fault graph is fails)
 
 pub ready_for : (nodes : List GraphNode) (links : List (List Link)) (cuts : List ℕ) (count : ℕ) (are : Bool)
-    → IsPrepared nodes links → count ≡ length nodes → (IsTrue are ↔ AreCutsOf count cuts) → are ≡ true → IsReady nodes links cuts
+    → AreGood nodes links → count ≡ length nodes → (IsTrue are ↔ AreCutsOf count cuts) → are ≡ true → IsReady nodes links cuts
 ready_for nodes links cuts count are is counted tests t = ready nodes links cuts is
     (subst (λ (n : ℕ). AreCutsOf n cuts) counted (tests.0 t))

@@ -14,9 +14,8 @@ use Rattle.abs_cells.specs.AbstractStates.{AbstractState}
 use Rattle.term_graph.specs.declared.nodes.By.TheVariants.{End}
 use Rattle.term_graph.specs.Graphs.{GraphNode}
 use Rattle.path_rules.specs.Walks.{Spot}
-use Rattle.descent.specs.Conditions.{AreRules, AreSteps}
+use Rattle.descent.specs.Conditions.{AreSteps}
 use Rattle.cert_check.specs.Certified.{IsCertified}
-use Rattle.cert_check.specs.Ready.{AreOfInts}
 use Rattle.cert_check.specs.Valid.{Case, IsValid}
 use Rattle.cert_check.specs.Walks.{Station, IsAt, WalksEnd, IsLast}
 
@@ -44,10 +43,10 @@ CertifiedRunsEnd =
     → IsCertified p typing nodes cuts (initial_of p desc)
     → (state : MachineState) → FitsDescription p desc state → Ends p state × IsNeverStuck p state
 
--- So it is where a valid certificate begins with the description's initial state, and its states are such as rules take.
+-- So it is where a valid certificate begins with the description's initial state.
 abbrev pub ValidCertificatesEnd : Type 0
 ValidCertificatesEnd =
     (case : Case) (valid : IsValid case) (desc : Desc) → case.root ≡ initial_of case.program desc
     → IsClosed case.program → HasWidths case.program → IsTypingOf case.program case.typing → IsOwnDesc case.program desc
-    → AreOfInts case.nodes → AreRules valid.rules → AreSteps case.steps
+    → AreSteps case.steps
     → (state : MachineState) → FitsDescription case.program desc state → Ends case.program state × IsNeverStuck case.program state

@@ -1,4 +1,3 @@
-pub mod IntStates
 pub mod Certified
 pub mod Walks
 pub mod Valid

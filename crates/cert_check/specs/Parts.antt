@@ -1,8 +1,6 @@
 -- Words for the calls that check a certificate part by part.
-use Rattle.std.specs.Prelude.{◌≡◌, ◌<◌, ◌≤◌, ◌+◌, ℕ, suc, List, [], ◌∷◌, Some, slice_get, All, Result, Ok, Err}
-use Rattle.std.specs.List.{AllZip}
+use Rattle.std.specs.Prelude.{◌≡◌, ◌<◌, ◌≤◌, ◌+◌, ℕ, suc, List, [], ◌∷◌, Some, slice_get, Result, Ok, Err}
 use Rattle.abs_cells.specs.AbstractStates.{AbstractState}
-use Rattle.abs_cells.specs.Sound.{IsWellFormed}
 use Rattle.class_program.specs.Programs.{Program}
 use Rattle.frame_types.specs.Tables.{CodeTypes}
 use Rattle.descent.specs.declared.faults.StepFault.{StepFault}
@@ -14,7 +12,6 @@ use Rattle.term_graph.specs.declared.links.Links.{Links}
 use Rattle.term_graph.specs.Graphs.{GraphNode}
 use Rattle.path_rules.specs.declared.fault.PathFault.{PathFault}
 use Rattle.path_rules.specs.declared.fault.PathFault.TheVariants as paths
-use Rattle.path_rules.specs.Conditions.{HasIntsAlone, IsGoodBy}
 use Rattle.graph_check.specs.declared.fault.CheckFault.{CheckFault}
 use Rattle.graph_check.specs.declared.fault.CheckFault.TheVariants as graphs
 use Rattle.cert_check.specs.declared.refusal.Cause.TheVariants.{Graph, Path, Proof}
@@ -61,9 +58,3 @@ GraphOr case (Err refusal) = Tells case (Err refusal)
 abbrev pub RulesOr : Case → List (List Link) → Result (List PathRule) Refusal → Type 0
 RulesOr case links (Ok rules) = AreCuts case × HasPathRules case links rules
 RulesOr case links (Err refusal) = Tells case (Err refusal)
-
--- what the rules of paths ask of a graph's nodes and links
-pub record IsPrepared (nodes : List GraphNode) (links : List (List Link)) : Type 0 where
-  pub states : All (λ (n : GraphNode). IsWellFormed n.state) nodes
-  pub ints : All (λ (n : GraphNode). HasIntsAlone n.state) nodes
-  pub ways : AllZip (λ (n : GraphNode) (l : List Link). IsGoodBy nodes n.state n.by l) nodes links

@@ -3,12 +3,11 @@ ghost use Rattle.std.specs.Prelude.{◌≡◌, ◌≤◌, ◌^◌, ◌-◌, ℕ,
 ghost use Rattle.descent.specs.Conditions.{AreRules, AreSteps};
 ghost use Rattle.descent.specs.declared.proof.ProofStep.{ProofStep};
 ghost use Rattle.class_program.specs.Views.{program_of};
-ghost use Rattle.code_verify.specs.Typings.{typing_at};
-ghost use Rattle.cert_check.specs.IntStates.{HasIntStates};
+ghost use Rattle.code_verify.specs.Typings.{IsTypingOf, typing_at};
 ghost use Rattle.graph_check.specs.Good.{GraphOk};
 ghost use Rattle.cert_check.specs.Certified.{IsCertified};
 ghost use Rattle.cert_check.specs.Valid.{Tells};
-ghost use Rattle.cert_check.specs.Parts.{case_of, GraphOr, RulesOr, IsPrepared};
+ghost use Rattle.cert_check.specs.Parts.{case_of, GraphOr, RulesOr};
 
 use crate::cuts::are_cuts;
 use crate::part_faults::{graph_refusal, path_refusal, proof_refusal};
@@ -63,7 +62,7 @@ pub fn rules_between<P: Pairs, S: NodeSource<P>>(
     cuts: &[u32],
 ) -> Result<Seq<PathRule>, Refusal>
     requires graph { GraphOk (program_of program.now) (typing_at typing.now) (S.graph source.old) root.now links.now.nodes }
-    requires prepared { IsPrepared (S.graph source.old) links.now.nodes }
+    requires typing { IsTypingOf (program_of program.now) (typing_at typing.now) }
     requires few { length (S.graph source.old) ≤ 2 ^ 32 - 16 }
     ensures rules { (steps : List ProofStep)
         → RulesOr (case_of (program_of program.now) (typing_at typing.now) root.now (S.graph source.old) cuts.now steps)
@@ -71,6 +70,8 @@ pub fn rules_between<P: Pairs, S: NodeSource<P>>(
     ensures fit { IfOk result AreRules }
     ensures same { S.graph source.new ≡ S.graph source.old }
 {
+    links_fit();
+    program.is_good();
     let nodes = source.count();
     if !are_cuts(nodes, cuts) {
         return Err(Refusal::Item {
@@ -84,9 +85,9 @@ pub fn rules_between<P: Pairs, S: NodeSource<P>>(
     }
 }
 
-/// Whether a certificate is valid: its graph is a good one with the root's state at node 0, its cuts rise, are nodes and begin with node 0,
-/// every cycle has one, the paths between them have rules, and the proof is closed for these. Then walks and runs end (`IsCertified`).
-/// Each state that has an expansion is one of ints.
+/// Whether a certificate is valid: its graph is a good one with the root's state at node 0, its cuts rise, are nodes and begin with node
+/// 0, every cycle has one, the paths between them have rules, and the proof is closed for these. Then walks and runs end
+/// (`IsCertified`).
 ///
 /// # Errors
 ///
@@ -100,7 +101,7 @@ pub fn check_cert<P: Pairs, S: NodeSource<P>>(
     cuts: &[u32],
     proof: &Proof,
 ) -> Result<(), Refusal>
-    requires ints { HasIntStates (program_of program.now) (typing_at typing.now) (S.graph source.old) }
+    requires typing { IsTypingOf (program_of program.now) (typing_at typing.now) }
     requires few { length (S.graph source.old) ≤ 2 ^ 32 - 16 }
     requires steps { AreSteps proof.now.steps }
     ensures tells { Tells (case_of (program_of program.now) (typing_at typing.now) root.now (S.graph source.old) cuts.now

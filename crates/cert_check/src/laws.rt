@@ -6,8 +6,7 @@ use descent::closed_proofs_end;
 use graph_check::graphs_hold_runs;
 use input_root::{fitting_states_are_described, fitting_states_are_typed};
 use jvm_run::{runs_are_never_stuck, steps_are_typed};
-use jvm_values::typed_heaps_are_closed;
-use path_rules::walks_meet_rules;
+use path_rules::{rules_fit, walks_meet_rules};
 use plan_links::links_fit;
 
 /// Every walk of typed states that fit is finite, if it begins at node 0 and a certificate shows it: a good graph, cuts on all its
@@ -17,7 +16,6 @@ pub fn certified_walks_end()
     ensures finite { CertifiedWalksEnd }
     ensures last { LastNodesEnd }
 {
-    typed_heaps_are_closed();
     steps_are_typed();
     walks_meet_rules();
     graphs_hold_runs();
@@ -28,7 +26,6 @@ pub fn certified_walks_end()
 pub fn certified_runs_end()
     ensures { CertifiedRunsEnd }
 {
-    typed_heaps_are_closed();
     steps_are_typed();
     runs_are_never_stuck();
     fitting_states_are_typed();
@@ -37,17 +34,17 @@ pub fn certified_runs_end()
     graphs_hold_runs();
 }
 
-/// A valid certificate shows that walks and runs end, where the states of its graph are such as rules take, and its rules and steps are
-/// within the limits of proofs.
+/// A valid certificate shows that walks and runs end, where its steps are within the limits of proofs.
 pub fn valid_is_certified()
     ensures { ValidIsCertified }
 {
     closed_proofs_end();
     links_fit();
+    rules_fit();
 }
 
 /// Every state that a description fits ends, and none of its runs is stuck, if a valid certificate begins with the description's initial
-/// state, the states of its graph are such as rules take, and its rules and steps are within the limits of proofs.
+/// state, and its steps are within the limits of proofs.
 pub fn valid_certificates_end()
     ensures { ValidCertificatesEnd }
 {

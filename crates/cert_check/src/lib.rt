@@ -3,13 +3,11 @@
 
 mod checking;
 mod cuts;
-mod int_states;
 mod laws;
 mod part_faults;
 mod refusal;
 
 pub use checking::{check_cert, good_links, rules_between};
-pub use int_states::first_other_state;
 pub use laws::{
     certified_runs_end, certified_walks_end, valid_certificates_end, valid_is_certified,
 };

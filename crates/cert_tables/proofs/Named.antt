@@ -4,7 +4,8 @@ use Rattle.std.specs.List.{list_all}
 use Rattle.std.proofs.lemmas.Bool.{and_parts, and_from}
 use Rattle.class_base.specs.ClassNames.{is_class_name}
 
-pub named_more : (names : List (List ℕ)) (name : List ℕ) → list_all is_class_name names ≡ true → is_class_name name ≡ true → list_all is_class_name (names ++ name ∷ []) ≡ true
+pub named_more : (names : List (List ℕ)) (name : List ℕ) → list_all is_class_name names ≡ true → is_class_name name ≡ true
+    → list_all is_class_name (names ++ name ∷ []) ≡ true
 named_more [] name all e = and_from (is_class_name name) true e refl
 named_more (x ∷ xs) name all e =
     let parts = and_parts (is_class_name x) (list_all is_class_name xs) all in

@@ -69,7 +69,14 @@ fn again(alloc: Global, bytes: &[u8], text: &CertText<'_>, names: &Names) -> Res
 /// The certificate's graph in form 2.
 fn second(alloc: Global, text: &CertText<'_>, names: &Names) -> Result<Seq<u8>> {
     let mut graph = whole_graph(alloc, text)?;
-    Ok(encode(alloc, &mut graph, text.cuts(), text.proof(), &names.names)?)
+    Ok(encode(
+        alloc,
+        &mut graph,
+        true,
+        text.cuts(),
+        text.proof(),
+        &names.names,
+    )?)
 }
 
 /// The graph of a certificate whose nodes have their states.
@@ -103,7 +110,7 @@ fn written_by<P: Pairs>(
     text: &CertText<'_>,
     names: &Names,
 ) -> Result<Seq<u8>, AllocError> {
-    encode_parts::<P, CertText<'_>>(alloc, text, text.cuts(), text.proof(), &names.names)
+    encode_parts::<P, CertText<'_>>(alloc, text, true, text.cuts(), text.proof(), &names.names)
 }
 
 fn same(listed: Seq<u8>, packed: Seq<u8>) -> Result<Seq<u8>> {

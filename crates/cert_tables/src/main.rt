@@ -1,7 +1,7 @@
-//! Answers the cases of the tables of certificates: `cert`, `cert-2` and `second`, a certificate and class files, and the fault of reading,
-//! or the certificate once more, written from its nodes; and `paths`, the rules of a certificate's graph, or what is first in their way.
-//! Each line of the input is the name of a table, a tab and the input fields of a case, divided by tabs. The answer to each comes on a line
-//! of its own.
+//! Answers the cases of the tables of certificates: `cert`, `cert-2` and `second`, a certificate and class files, and the fault of
+//! reading, or the certificate once more, written from its nodes; and `paths`, the rules of a certificate's graph, or what is first in
+//! their way. Each line of the input is the name of a table, a tab and the input fields of a case, divided by tabs. The answer to each
+//! comes on a line of its own.
 #![tactic(auto)]
 
 mod certs;
@@ -9,7 +9,6 @@ mod graphs;
 mod names;
 mod paths;
 mod printing;
-mod ready;
 
 use anyhow::Result;
 use entry_cases::answer_in_program;

@@ -2,16 +2,13 @@
 //! paths of its graph, or what is first in their way.
 ghost use Rattle.std.specs.Prelude.{◌≤◌, length};
 ghost use Rattle.class_program.specs.Views.{program_of};
-ghost use Rattle.abs_expand.specs.IntForms.{HasIntForms};
+ghost use Rattle.code_verify.specs.Typings.{IsTypingOf, typing_at};
 ghost use Rattle.term_graph.specs.Limits.{most_nodes};
-ghost use Rattle.cert_tables.specs.Tests.{HaveIntStates};
 
 use crate::certs::value_of;
 use crate::graphs::graph;
 use crate::printing::{fault_text, rules_text};
-use crate::ready::is_int_graph;
 use abs_cells::{AbsState, ListPairs};
-use abs_expand::has_int_forms;
 use anyhow::{Context, Result, bail};
 use cert_check::{Cause, Refusal, good_links, rules_between};
 use class_program::Program;
@@ -21,10 +18,9 @@ use entry_cases::ProgramAnswers;
 use json_cases::{field, naturals_of};
 use json_view::View;
 use list_views::Seq;
-use plan_links::links_fit;
 use std::alloc::Global;
 use table_cases::Case;
-use term_graph::{Graph, copied_state};
+use term_graph::{Graph, MOST_NODES, copied_state};
 
 /// The cases of paths.
 pub struct Paths;
@@ -44,7 +40,9 @@ fn answer_for(
     case: &Case<'_>,
     program: &Program<'_>,
     typing: &Typing,
-) -> Result<String> {
+) -> Result<String>
+    requires { IsTypingOf (program_of program.now) (typing_at typing.now) }
+{
     let bytes = case.bytes(alloc, 0)?;
     let value = value_of(alloc, bytes.as_slice())?;
     answer_by(alloc, program, typing, &View::root(&value))
@@ -56,7 +54,9 @@ fn answer_by(
     program: &Program<'_>,
     typing: &Typing,
     view: &View<'_, '_>,
-) -> Result<String> {
+) -> Result<String>
+    requires { IsTypingOf (program_of program.now) (typing_at typing.now) }
+{
     let graph = graph(alloc, &program.world, &field(alloc, view, "nodes")?)?;
     let cuts = naturals_of(alloc, &field(alloc, view, "cuts")?)?;
     told(
@@ -72,44 +72,15 @@ fn rules(
     typing: &Typing,
     graph: Graph<ListPairs>,
     cuts: &[u32],
-) -> Result<std::result::Result<Seq<PathRule>, Refusal>> {
-    if !has_int_forms(program) {
-        bail!("instructions about ints are wanted");
-    }
-    rules_of_ints(alloc, program, typing, graph, cuts)
-}
-
-/// The same of a program of ints.
-fn rules_of_ints(
-    alloc: Global,
-    program: &Program<'_>,
-    typing: &Typing,
-    graph: Graph<ListPairs>,
-    cuts: &[u32],
 ) -> Result<std::result::Result<Seq<PathRule>, Refusal>>
-    requires { HasIntForms (program_of program.now) }
+    requires { IsTypingOf (program_of program.now) (typing_at typing.now) }
 {
-    if !is_int_graph(&graph) {
-        bail!("states of ints are wanted");
+    if graph.len() > MOST_NODES {
+        bail!("fewer nodes are wanted");
     }
-    rules_from_root(alloc, program, typing, graph, cuts)
-}
-
-/// The same of a graph of ints.
-fn rules_from_root(
-    alloc: Global,
-    program: &Program<'_>,
-    typing: &Typing,
-    graph: Graph<ListPairs>,
-    cuts: &[u32],
-) -> Result<std::result::Result<Seq<PathRule>, Refusal>>
-    requires forms { HasIntForms (program_of program.now) }
-    requires ints { HaveIntStates graph (length graph) }
-    requires few { length graph ≤ most_nodes }
-{
     let root = first_state(alloc, &graph)?;
     let mut graph = graph;
-    int_rules(alloc, program, typing, &mut graph, &root, cuts)
+    rules_from_root(alloc, program, typing, &mut graph, &root, cuts)
 }
 
 /// The state of a graph's first node.
@@ -121,7 +92,7 @@ fn first_state(alloc: Global, graph: &Graph<ListPairs>) -> Result<AbsState<ListP
 }
 
 /// The same where the first node has this state.
-fn int_rules(
+fn rules_from_root(
     alloc: Global,
     program: &Program<'_>,
     typing: &Typing,
@@ -129,12 +100,9 @@ fn int_rules(
     root: &AbsState<ListPairs>,
     cuts: &[u32],
 ) -> Result<std::result::Result<Seq<PathRule>, Refusal>>
-    requires forms { HasIntForms (program_of program.now) }
-    requires ints { HaveIntStates graph.old (length graph.old) }
+    requires typing { IsTypingOf (program_of program.now) (typing_at typing.now) }
     requires few { length graph.old ≤ most_nodes }
 {
-    links_fit();
-    program.is_good();
     match good_links(alloc, program, typing, graph, root) {
         Ok(links) => Ok(rules_between(alloc, program, typing, graph, root, &links, cuts)),
         Err(_) => bail!("the graph is not good"),

@@ -10,7 +10,7 @@ use Rattle.term_graph.specs.declared.nodes.By.{By}
 use Rattle.term_graph.specs.declared.nodes.By.TheVariants.{Expand, Instance, End, Todo}
 use Rattle.cert_form.specs.Fields.{of_length, longer_than, nth, a_word, only, field, a_number}
 use Rattle.cert_form.specs.Ways.{numbers_of, map_entry, map_of, expand_of, instance_of, by_of}
-use Rattle.cert_form.specs.Certificates.{is_named, whole_node, named_node, node_with, node_in}
+use Rattle.cert_form.specs.Certificates.{whole_node, named_node, lacks_state, node_with, node_in}
 use Rattle.cert_write.specs.Data.{natural, naturals, pair, pairs, by, node, part_of, parts_from}
 use Rattle.cert_write.specs.Readable.{IsNumber, IsId, IsState, IsWay, IsStated, AreParts, IsNode}
 use Rattle.cert_write.proofs.Backs.{Back, EachBack, then_back, a_number_back, all_back}
@@ -47,54 +47,55 @@ with_back names false way (Some state) all is stated place = then_back _ _ way _
     (then_back _ _ state _ (state_back names state all stated _) refl)
 with_back names false way None all is stated place = absurd stated
 
-pub node_back : (names : List (List ℕ)) (front : List GraphPart) (part : GraphPart) → AreNames names → IsWay part.by
-    → IsStated names (is_named (length front) front) part.state → Back (node_in names true front) (node names part) part
+pub node_back : (second : Bool) (names : List (List ℕ)) (front : List GraphPart) (part : GraphPart) → AreNames names → IsWay part.by
+    → IsStated names (lacks_state second front) part.state → Back (node_in names second front) (node names part) part
 unfolding node_in
-node_back names front part all is stated place = with_back names (is_named (length front) front) part.by part.state all is stated place
+node_back second names front part all is stated place = with_back names (lacks_state second front) part.by part.state all is stated place
 
-pub each_part : (names : List (List ℕ)) (front parts : List GraphPart) → AreNames names → AreParts names front parts
-    → EachBack (node_in names true) (node names) front parts
-each_part names front [] all are = tt
-each_part names front (part ∷ parts) all are = (
-  node_back names front part all are.0.0 are.0.1,
-  each_part names (front ++ part ∷ [])
-      parts all are.1,
-)
+pub each_part : (second : Bool) (names : List (List ℕ)) (front parts : List GraphPart) → AreNames names
+    → AreParts second names front parts → EachBack (node_in names second) (node names) front parts
+each_part second names front [] all are = tt
+each_part second names front (part ∷ parts) all are =
+    (node_back second names front part all are.0.0 are.0.1, each_part second names (front ++ part ∷ []) parts all are.1)
 
 -- ---- the nodes of a graph
 
--- the nodes behind these, each without its state where one in front of it names it
-abbrev behind : List GraphPart → List GraphNode → List GraphPart
-behind front [] = []
-behind front (n ∷ rest) = part_of (is_named (length front) front) n ∷ behind (front ++ part_of (is_named (length front) front) n ∷ []) rest
+-- the nodes behind these; in form 2 each without its state where one in front of it names it
+abbrev behind : Bool → List GraphPart → List GraphNode → List GraphPart
+behind second front [] = []
+behind second front (n ∷ rest) = part_of (lacks_state second front) n ∷ behind second
+    (front ++ part_of (lacks_state second front) n ∷ []) rest
 
-behind_is : (front : List GraphPart) (graph : List GraphNode) → parts_from front graph ≡ front ++ behind front graph
-behind_is front [] = sym (append-nil front)
-behind_is front (n ∷ rest) = behind_is (front ++ part_of (is_named (length front) front) n ∷ []) rest
-    ∙ append_assoc front (part_of (is_named (length front) front) n ∷ [])
-    (behind (front ++ part_of (is_named (length front) front) n ∷ []) rest)
+behind_is : (second : Bool) (front : List GraphPart) (graph : List GraphNode)
+    → parts_from second front graph ≡ front ++ behind second front graph
+behind_is second front [] = sym (append-nil front)
+behind_is second front (n ∷ rest) = behind_is second (front ++ part_of (lacks_state second front) n ∷ []) rest
+    ∙ append_assoc front (part_of (lacks_state second front) n ∷ [])
+    (behind second (front ++ part_of (lacks_state second front) n ∷ []) rest)
 
 stated : (names : List (List ℕ)) (lacks : Bool) (n : GraphNode) → IsState names n.state → IsStated names lacks (part_of lacks n).state
 stated names true n is = tt
 stated names false n is = is
 
-behind_are : (names : List (List ℕ)) (front : List GraphPart) (graph : List GraphNode) → All (IsNode names) graph
-    → AreParts names front (behind front graph)
-behind_are names front [] all = tt
-behind_are names front (n ∷ rest) all =
+behind_are : (second : Bool) (names : List (List ℕ)) (front : List GraphPart) (graph : List GraphNode) → All (IsNode names) graph
+    → AreParts second names front (behind second front graph)
+behind_are second names front [] all = tt
+behind_are second names front (n ∷ rest) all =
     let first : IsNode names n = All-head (IsNode names) n rest all in (
-      (first.way, stated names (is_named (length front) front) n first.state),
-      behind_are names
-          (front ++ part_of (is_named (length front) front) n ∷ []) rest (All-tail (IsNode names) n rest all),
+      (first.way, stated names (lacks_state second front) n first.state),
+      behind_are second names
+          (front ++ part_of (lacks_state second front) n ∷ []) rest (All-tail (IsNode names) n rest all),
     )
 
-pub graph_parts : (names : List (List ℕ)) (graph : List GraphNode) → All (IsNode names) graph → AreParts names [] (parts_from [] graph)
-graph_parts names graph all = subst (λ (parts : List GraphPart). AreParts names [] parts) (sym (behind_is [] graph))
-    (behind_are names [] graph all)
+pub graph_parts : (second : Bool) (names : List (List ℕ)) (graph : List GraphNode) → All (IsNode names) graph
+    → AreParts second names [] (parts_from second [] graph)
+graph_parts second names graph all = subst (λ (parts : List GraphPart). AreParts second names [] parts)
+    (sym (behind_is second [] graph)) (behind_are second names [] graph all)
 
-behind_count : (front : List GraphPart) (graph : List GraphNode) → length (behind front graph) ≡ length graph
-behind_count front [] = refl
-behind_count front (n ∷ rest) = ap (λ (m : ℕ). suc m) (behind_count (front ++ part_of (is_named (length front) front) n ∷ []) rest)
+behind_count : (second : Bool) (front : List GraphPart) (graph : List GraphNode) → length (behind second front graph) ≡ length graph
+behind_count second front [] = refl
+behind_count second front (n ∷ rest) = ap (λ (m : ℕ). suc m)
+    (behind_count second (front ++ part_of (lacks_state second front) n ∷ []) rest)
 
-pub graph_count : (graph : List GraphNode) → length (parts_from [] graph) ≡ length graph
-graph_count graph = ap (λ (parts : List GraphPart). length parts) (behind_is [] graph) ∙ behind_count [] graph
+pub graph_count : (second : Bool) (graph : List GraphNode) → length (parts_from second [] graph) ≡ length graph
+graph_count second graph = ap (λ (parts : List GraphPart). length parts) (behind_is second [] graph) ∙ behind_count second [] graph

@@ -193,11 +193,12 @@ a_step (Dead n multipliers rest) = as_list 4 _
 
 -- ---- the whole
 
-pub whole : (cuts : List ℕ) (nodes : Data) (proof : List ProofStep) → IsPlain 6 nodes → IsPlain 7 (w.certificate_of cuts nodes proof)
-whole cuts nodes proof p =
+pub whole : (second : Bool) (cuts : List ℕ) (nodes : Data) (proof : List ProofStep) → IsPlain 6 nodes
+    → IsPlain 7 (w.certificate_of second cuts nodes proof)
+whole second cuts nodes proof p =
     as_object 6 _
     (and_more 6 _ _ _ (deeper 1 6 _ (omega arith) (naturals cuts))
-    (and_more 6 _ _ _ (a_natural 6 2)
+    (and_more 6 _ _ _ (a_natural 6 (w.form_number second))
     (and_more 6 _ _ _ p
     (and_more 6 _ _ _ (listed 5 w.step proof a_step) (no_more 6)))))
 

@@ -1,5 +1,5 @@
 -- Nodes, written one after another with marks of those that are named.
-use Rattle.std.proofs.Common.{◌≡◌, ℕ, zero, suc, ◌+◌, ◌<◌, ◌≤◌, Bool, false, List, [], ◌∷◌, ◌++◌, map, length, take, drop}
+use Rattle.std.proofs.Common.{◌≡◌, ℕ, zero, suc, ◌+◌, ◌<◌, ◌≤◌, ◌&&◌, Bool, false, List, [], ◌∷◌, ◌++◌, map, length, take, drop}
 use Rattle.std.proofs.Common.{replicate, length-append, Option, Some, None, slice_get, refl, sym, ap, ◌∙◌, subst, arith}
 use Rattle.std.specs.Option.{unwrap_or}
 use Rattle.std.specs.Prelude.{option_map}
@@ -14,7 +14,7 @@ use Rattle.serde_json.specs.View.{view}
 use Rattle.serde_json.specs.declared.value.Value.{Value}
 use Rattle.term_graph.specs.Graphs.{GraphNode, GraphPart, by_at, state_at}
 use Rattle.cert_form.specs.Marks.{marked_by}
-use Rattle.cert_form.specs.Certificates.{is_named}
+use Rattle.cert_form.specs.Certificates.{is_named, lacks_state}
 use Rattle.cert_form.proofs.Marking.{Marked, marked_none, marked_on, length_marked, has_is}
 use Rattle.cert_write.specs.Data.{node, part_of, parts_from}
 
@@ -45,34 +45,36 @@ map_next f xs n x values value g v e =
 -- ---- nodes
 
 -- the nodes in front of number n were written, and the marks say which nodes they name
-pub record AreWritten (names : List (List ℕ)) (graph : List GraphNode) (n count : ℕ) (marks : List Bool) (values : List Data) : Type
-    0 where
+pub record AreWritten (second : Bool) (names : List (List ℕ)) (graph : List GraphNode) (n count : ℕ) (marks : List Bool) (values :
+    List Data) : Type 0 where
   pub front : List GraphPart
-  pub rest : parts_from front (drop n graph) ≡ parts_from [] graph
+  pub rest : parts_from second front (drop n graph) ≡ parts_from second [] graph
   pub number : length front ≡ n
   pub marked : Marked marks front
   pub room : length marks ≡ count
   pub written : values ≡ map (node names) front
 
-pub none_written : (names : List (List ℕ)) (graph : List GraphNode) (count : ℕ) (marks : List Bool) → marks ≡ replicate count false
-    → AreWritten names graph 0 count marks []
-none_written names graph count marks m =
-    subst (λ (bs : List Bool). AreWritten names graph 0 count bs []) (sym m)
+pub none_written : (second : Bool) (names : List (List ℕ)) (graph : List GraphNode) (count : ℕ) (marks : List Bool)
+    → marks ≡ replicate count false → AreWritten second names graph 0 count marks []
+none_written second names graph count marks m =
+    subst (λ (bs : List Bool). AreWritten second names graph 0 count bs []) (sym m)
     (record { front = []; rest = refl; number = refl; marked = marked_none count; room = length-replicate count false; written = refl })
 
-pub write_on : (names : List (List ℕ)) (graph : List GraphNode) (n count : ℕ) (marks later : List Bool) (values : List Data)
-    (lacks : Bool) (next : GraphNode) (value : Data) → AreWritten names graph n count marks values → n < count
-    → slice_get graph n ≡ Some next → lacks ≡ unwrap_or (slice_get marks n) false → value ≡ node names (part_of lacks next)
-    → later ≡ marked_by marks next.by → AreWritten names graph (n + 1) count later (values ++ value ∷ [])
-write_on names graph n count marks later values lacks next value all l g b v m =
+pub write_on : (second : Bool) (names : List (List ℕ)) (graph : List GraphNode) (n count : ℕ) (marks later : List Bool)
+    (values : List Data)
+    (lacks : Bool) (next : GraphNode) (value : Data) → AreWritten second names graph n count marks values → n < count
+    → slice_get graph n ≡ Some next → lacks ≡ (second && unwrap_or (slice_get marks n) false) → value ≡ node names (part_of lacks next)
+    → later ≡ marked_by marks next.by → AreWritten second names graph (n + 1) count later (values ++ value ∷ [])
+write_on second names graph n count marks later values lacks next value all l g b v m =
     let within : n < length marks = subst (λ (k : ℕ). n < k) (sym all.room) l in
-    let named : lacks ≡ is_named n all.front = b ∙ has_is marks all.front n all.marked within in
-    let named_so : lacks ≡ is_named (length all.front) all.front = named ∙ ap (λ (k : ℕ). is_named k all.front) (sym all.number) in
-    subst (λ (bs : List Bool). AreWritten names graph (n + 1) count bs (values ++ value ∷ [])) (sym m)
+    let named : unwrap_or (slice_get marks n) false ≡ is_named (length all.front) all.front = has_is marks all.front n all.marked within
+    ∙ ap (λ (k : ℕ). is_named k all.front) (sym all.number) in
+    let named_so : lacks ≡ lacks_state second all.front = b ∙ ap (λ (t : Bool). second && t) named in
+    subst (λ (bs : List Bool). AreWritten second names graph (n + 1) count bs (values ++ value ∷ [])) (sym m)
     (record {
       front = all.front ++ part_of lacks next ∷ [];
-      rest = ap (λ (t : Bool). parts_from (all.front ++ part_of t next ∷ []) (drop (n + 1) graph)) named_so
-          ∙ ap (parts_from all.front) (sym (next_of graph n next g)) ∙ all.rest;
+      rest = ap (λ (t : Bool). parts_from second (all.front ++ part_of t next ∷ []) (drop (n + 1) graph)) named_so
+          ∙ ap (parts_from second all.front) (sym (next_of graph n next g)) ∙ all.rest;
       number = length-append all.front (part_of lacks next ∷ []) ∙ ap (λ (k : ℕ). k + 1) all.number;
       marked = marked_on marks all.front (part_of lacks next) all.marked;
       room = length_marked marks next.by ∙ all.room;
@@ -80,10 +82,11 @@ write_on names graph n count marks later values lacks next value all l g b v m =
           ∙ sym (map-append (node names) all.front (part_of lacks next ∷ []));
     })
 
-pub all_written : (names : List (List ℕ)) (graph : List GraphNode) (n count : ℕ) (marks : List Bool) (values : List Data)
-    → AreWritten names graph n count marks values → length graph ≤ n → values ≡ map (node names) (parts_from [] graph)
-all_written names graph n count marks values all l =
-    all.written ∙ ap (map (node names)) (ap (parts_from all.front) (sym (drop_past graph n l)) ∙ all.rest)
+pub all_written : (second : Bool) (names : List (List ℕ)) (graph : List GraphNode) (n count : ℕ) (marks : List Bool)
+    (values : List Data)
+    → AreWritten second names graph n count marks values → length graph ≤ n → values ≡ map (node names) (parts_from second [] graph)
+all_written second names graph n count marks values all l =
+    all.written ∙ ap (map (node names)) (ap (parts_from second all.front) (sym (drop_past graph n l)) ∙ all.rest)
 
 -- ---- values
 

@@ -1,7 +1,7 @@
--- JSON values of certificates of form 2.
+-- JSON values of certificates, in form 1 or, where `second`, in form 2.
 --
--- A node that an `expand` node with a lower number names as a child is written without its state.
-use Rattle.std.specs.Prelude.{ℕ, ℤ, negsuc, Bool, ◌==◌, if◌then◌else◌, List, [], ◌∷◌, ◌++◌, length, map, reverse, replicate}
+-- In form 2 a node that an `expand` node with a lower number names as a child is written without its state.
+use Rattle.std.specs.Prelude.{ℕ, ℤ, negsuc, Bool, true, ◌==◌, if◌then◌else◌, List, [], ◌∷◌, ◌++◌, length, map, reverse, replicate}
 use Rattle.std.specs.Prelude.{slice_get, Option, Some, None, codes}
 use Rattle.std.specs.Option.{unwrap_or}
 use Rattle.serde_json.specs.Data.{Data, unsigned, null, boolean, number, string, array, object, Members, no_members, member}
@@ -27,7 +27,7 @@ use Rattle.descent.specs.declared.proof.RankRule.TheVariants.{Weak, Strict}
 use Rattle.descent.specs.declared.proof.RankStep.{RankStep}
 use Rattle.descent.specs.declared.proof.ProofStep.{ProofStep}
 use Rattle.descent.specs.declared.proof.ProofStep.TheVariants.{Empty, Split, Rank, Dead}
-use Rattle.cert_form.specs.Certificates.{CertContent, is_named}
+use Rattle.cert_form.specs.Certificates.{CertContent, lacks_state}
 
 -- ---- numbers, words and lists
 
@@ -168,21 +168,33 @@ step (Dead n multipliers rest) = dead n multipliers rest
 abbrev pub part_of : Bool → GraphNode → GraphPart
 part_of lacks n = record { state = if lacks then None else Some n.state; by = n.by }
 
--- the nodes, each without its state where one in front of it names it as a child
-abbrev pub parts_from : List GraphPart → List GraphNode → List GraphPart
-parts_from front [] = front
-parts_from front (n ∷ rest) = parts_from (front ++ part_of (is_named (length front) front) n ∷ []) rest
+-- the nodes; in form 2 each without its state where one in front of it names it as a child
+abbrev pub parts_from : Bool → List GraphPart → List GraphNode → List GraphPart
+parts_from second front [] = front
+parts_from second front (n ∷ rest) = parts_from second (front ++ part_of (lacks_state second front) n ∷ []) rest
 
 -- what is written of a graph, its cuts and a proof
-abbrev pub content_of : List GraphNode → List ℕ → List ProofStep → CertContent
-content_of graph cuts proof = record { cuts = cuts; parts = parts_from [] graph; proof = proof }
+abbrev pub content_in : Bool → List GraphNode → List ℕ → List ProofStep → CertContent
+content_in second graph cuts proof = record { cuts = cuts; parts = parts_from second [] graph; proof = proof }
 
-abbrev pub certificate_of : List ℕ → Data → List ProofStep → Data
-certificate_of cuts nodes proof =
+-- the number of the form
+abbrev pub form_number : Bool → ℕ
+form_number second = if second then 2 else 1
+
+abbrev pub certificate_of : Bool → List ℕ → Data → List ProofStep → Data
+certificate_of second cuts nodes proof =
     object (member (codes "cuts") (naturals cuts)
-    (member (codes "form") (natural 2)
+    (member (codes "form") (natural (form_number second))
     (member (codes "nodes") nodes
     (member (codes "proof") (list (map step proof)) no_members))))
 
+abbrev pub certificate_in : Bool → List (List ℕ) → CertContent → Data
+certificate_in second names content = certificate_of second content.cuts (list (map (node names) content.parts)) content.proof
+
+-- ---- in form 2, in which searches write theirs
+
+abbrev pub content_of : List GraphNode → List ℕ → List ProofStep → CertContent
+content_of graph cuts proof = content_in true graph cuts proof
+
 abbrev pub certificate : List (List ℕ) → CertContent → Data
-certificate names content = certificate_of content.cuts (list (map (node names) content.parts)) content.proof
+certificate names content = certificate_in true names content

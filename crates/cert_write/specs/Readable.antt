@@ -24,7 +24,7 @@ use Rattle.descent.specs.declared.proof.RankRule.TheVariants.{Weak, Strict}
 use Rattle.descent.specs.declared.proof.RankStep.{RankStep}
 use Rattle.descent.specs.declared.proof.ProofStep.{ProofStep}
 use Rattle.descent.specs.declared.proof.ProofStep.TheVariants.{Empty, Split, Rank, Dead}
-use Rattle.cert_form.specs.Certificates.{CertContent, is_named}
+use Rattle.cert_form.specs.Certificates.{CertContent, lacks_state}
 use Rattle.cert_form.specs.Steps.{number_of}
 
 -- ---- numbers and keys
@@ -88,11 +88,12 @@ IsStated names true None = Unit {0}
 IsStated names false (Some state) = IsState names state
 IsStated names false None = ⊥
 
--- the nodes behind those of `front`: each lacks its state exactly where one in front of it names it as a child
-abbrev pub AreParts : List (List ℕ) → List GraphPart → List GraphPart → Type 0
-AreParts names front [] = Unit {0}
-AreParts names front (part ∷ parts) = (IsWay part.by × IsStated names (is_named (length front) front) part.state)
-    × AreParts names (front ++ part ∷ []) parts
+-- the nodes behind those of `front`: in form 1 each has its state, and in form 2 each lacks it exactly where one in front of it names it
+-- as a child
+abbrev pub AreParts : Bool → List (List ℕ) → List GraphPart → List GraphPart → Type 0
+AreParts second names front [] = Unit {0}
+AreParts second names front (part ∷ parts) = (IsWay part.by × IsStated names (lacks_state second front) part.state)
+    × AreParts second names (front ++ part ∷ []) parts
 
 -- ---- proofs
 
@@ -143,12 +144,12 @@ IsStep (Dead rule multipliers rest) = IsNumber rule × (AreMultipliers multiplie
 abbrev pub AreDistinct : List (List ℕ) → Type 0
 AreDistinct names = (m n : ℕ) (name : List ℕ) → slice_get names m ≡ Some name → slice_get names n ≡ Some name → m ≡ n
 
-pub record IsReadable (names : List (List ℕ)) (content : CertContent) : Type 0 where
+pub record IsReadable (second : Bool) (names : List (List ℕ)) (content : CertContent) : Type 0 where
   pub named : IsTrue (list_all is_class_name names)
   pub distinct : AreDistinct names
   pub cuts : All IsNumber content.cuts
   pub few : length content.parts ≤ most_nodes
-  pub parts : AreParts names [] content.parts
+  pub parts : AreParts second names [] content.parts
   pub proof : All IsStep content.proof
 
 pub record IsNode (names : List (List ℕ)) (node : GraphNode) : Type 0 where

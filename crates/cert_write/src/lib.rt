@@ -1,4 +1,4 @@
-//! Certificates as they are written: in form 2, as compact JSON.
+//! Certificates as they are written: as compact JSON, in form 1 or in form 2.
 #![tactic(auto)]
 
 mod certs;

@@ -41,6 +41,34 @@ pub dealt_more : (given : Given) (next : ℕ) (set : List ℕ) → is_dealt give
 dealt_more given next set h e = let more : suc next ≡ next + 1 = omega arith in subst
     (λ (n : ℕ). is_dealt (slice_set given next (Some set)) n ≡ true) more (dealt_suc given next set h (free_is (slice_get given next) e))
 
+pub length_given : (given : Given) (step : ℕ) (set : Option (List ℕ)) → length (slice_set given step set) ≡ length given
+length_given [] step set = refl
+length_given (own ∷ rest) zero set = refl
+length_given (own ∷ rest) (suc step) set = ap suc (length_given rest step set)
+
+pub short_given : (given : Given) (step : ℕ) (set : Option (List ℕ)) → length given ≤ 4294967295
+    → length (slice_set given step set) ≤ 4294967295
+short_given given step set l = let same = length_given given step set in omega (arith, same, l)
+
+nones_long : (n : ℕ) → length {A = Option (List ℕ)} (replicate n None) ≡ n
+nones_long zero = refl
+nones_long (suc n) = ap suc (nones_long n)
+
+pub long_first : (rules below : ℕ) → length (given_first rules below) ≡ below
+long_first rules zero = refl
+long_first rules (suc below) = ap suc (nones_long below)
+
+pub short_first : (rules below : ℕ) → below ≤ 4294967295 → length (given_first rules below) ≤ 4294967295
+short_first rules below l = let same = long_first rules below in omega (arith, same, l)
+
+-- the next step is there, and has no set
+pub next_free : (given : Given) (next : ℕ) → is_dealt given next ≡ true → next < length given → is_free (slice_get given next) ≡ true
+next_free [] next h l = absurd (omega (arith, l))
+next_free (Some own ∷ rest) zero h l = absurd (false≢true h)
+next_free (None ∷ rest) zero h l = refl
+next_free (Some own ∷ rest) (suc next) h l = next_free rest next h (omega (arith, l))
+next_free (None ∷ rest) (suc next) h l = absurd (false≢true h)
+
 -- the next step is given its set
 pub give_next : (number next : ℕ) (set : List ℕ) (given : Given) → number < next → is_free (slice_get given next) ≡ true
     → give number ((next, set) ∷ []) given ≡ Some (slice_set given next (Some set))
@@ -57,6 +85,16 @@ none_after (Some own ∷ rest) (suc next) (suc j) set h l e = none_after rest ne
 none_after (None ∷ rest) zero zero set h l e = absurd cc
 none_after (None ∷ rest) zero (suc j) set h l e = none_after rest zero j set h (omega arith) e
 none_after (None ∷ rest) (suc next) j set h l e = false≢true h
+
+pub later : (given : Given) (number next : ℕ) (set : List ℕ) → is_dealt given next ≡ true → set_of (slice_get given number) ≡ Some set
+    → number < next
+later given number next set h e = let off : next ≤ number
+    → ⊥ = λ l. none_after given next number set h l (is (slice_get given number) e) in
+    omega (arith, off)
+  where
+    is : (found : Option (Option (List ℕ))) → set_of found ≡ Some set → found ≡ Some (Some set)
+    is None f = absurd (none-some set f)
+    is (Some own) f = ap Some f
 
 -- a step that has no set is none before the next one
 next_low : (given : Given) (next j : ℕ) → is_dealt given next ≡ true → set_of (slice_get given j) ≡ None → next ≤ j

@@ -1,25 +1,21 @@
 -- A set that is divided into the classes of rules that reach each other is divided as a proof asks.
-use Rattle.std.proofs.Common.{◌≡◌, ◌∙◌, inl, inr, ◌+◌, ◌<◌, ◌≤◌, ◌==◌, ◌&&◌, ◌++◌, not, cond, ℕ, zero, suc, Bool, true, false, List}
-use Rattle.std.proofs.Common.{[], ◌∷◌, length, take, length-append, Option, Some, None, is_none, slice_get, slice_set, nat_lt, refl}
+use Rattle.std.proofs.Common.{◌≡◌, ◌∙◌, inl, inr, ◌<◌, ◌==◌, ◌&&◌, ◌++◌, not, cond, ℕ, zero, suc, Bool, true, false, List}
+use Rattle.std.proofs.Common.{[], ◌∷◌, length, Option, Some, None, is_none, slice_get, slice_set, nat_lt, refl}
 use Rattle.std.proofs.Common.{sym, ap, subst, arith}
 use Rattle.std.specs.List.{AllZip, concat, filter_map}
 use Rattle.std.proofs.lemmas.Bool.{cases_Bool, eqb-true, le-ltb, and_left, and_right, or_cases, false≢true, false_from_ne_true}
 use Rattle.std.proofs.lemmas.Bool.{not_from_true}
 use Rattle.std.proofs.lemmas.List.Elements.{filter_map-append}
 use Rattle.std.proofs.lemmas.Option.{none-some, same_Some, slice_get_within}
-use Rattle.list_views.proofs.Items.{take_past}
 use Rattle.descent.specs.declared.faults.DescentFault.{DescentFault}
-use Rattle.descent.specs.declared.proof.ProofStep.TheVariants.{Split}
 use Rattle.descent.specs.declared.rules.PathRule.{PathRule}
 use Rattle.descent.specs.Components.{AreClasses}
-use Rattle.descent.specs.Conditions.{IsStep}
 use Rattle.descent.specs.Splits.{has, stands_in, place_in, is_misplaced, least, uncovered, is_followed, meet_at, is_below}
 use Rattle.descent.specs.Splits.{back_fault, back_edge, is_lone, loops_in, loops_at, first_loop, loop_fault, edge_fault}
 use Rattle.descent.specs.Splits.{cover_fault, split_fault}
-use Rattle.descent.specs.Steps.{Given, set_of, is_free, give, part_left, parts_left, same_option}
-use Rattle.chain_proofs.specs.Unfinished.{HoldsAt}
-use Rattle.chain_proofs.specs.Sets.{Rises, AreAt, AreOwn, IsStepOf, IsHanded, is_alone}
-use Rattle.chain_proofs.proofs.Owning.{zip_more}
+use Rattle.descent.specs.Steps.{Given, is_free, give, part_left, parts_left, same_option}
+use Rattle.chain_proofs.specs.Dealt.{Rises}
+use Rattle.chain_proofs.specs.Sets.{AreAt, AreOwn, IsStepOf, is_alone}
 use Rattle.chain_proofs.proofs.Places.{place_of, none_passes, none_found, same_place, in_parts, no_place, part_with}
 
 -- ---- rules of a set
@@ -214,52 +210,3 @@ gives_more number set parts steps part step given mid after lengths e f =
     (filter_map-append same_option (parts_left set parts steps) (part_left set part step ∷ []))
     ∙ give_then number (filter_map same_option (parts_left set parts steps)) (filter_map same_option (part_left set part step ∷ []))
     given mid after e f
-
--- ---- a set that is being divided
-
--- the parts of the first classes, with the steps that take them
-pub record IsDivided (own : List PathRule) (set : List ℕ) (classes : List (List ℕ)) (i number : ℕ) (given : Given)
-    (parts : List (List ℕ)) (steps : List (Option ℕ)) (after : Given) : Type 0 where
-  pub parts_are : AllZip (AreAt set) (take i classes) parts
-  pub steps_are : AllZip (IsStepOf own) (take i classes) steps
-  pub lengths : length parts ≡ length steps
-  pub gives : give number (filter_map same_option (parts_left set parts steps)) given ≡ Some after
-
-pub divided_first : (own : List PathRule) (set : List ℕ) (classes : List (List ℕ)) (number : ℕ) (given : Given)
-    → IsDivided own set classes 0 number given [] [] given
-divided_first own set classes number given = record { parts_are = tt; steps_are = tt; lengths = refl; gives = refl }
-
-pub divided_more : (own : List PathRule) (set : List ℕ) (classes : List (List ℕ)) (i number : ℕ) (given mid after : Given)
-    (parts more_parts : List (List ℕ)) (steps more_steps : List (Option ℕ)) (class part : List ℕ) (step : Option ℕ)
-    → slice_get classes i ≡ Some class → IsDivided own set classes i number given parts steps mid → AreAt set class part
-    → IsHanded own set class part number mid step after → more_parts ≡ parts ++ part ∷ [] → more_steps ≡ steps ++ step ∷ []
-    → IsDivided own set classes (i + 1) number given more_parts more_steps after
-divided_more own set classes i number given mid after parts more_parts steps more_steps class part step e h at handed f g = record {
-  parts_are = zip_more (AreAt set) classes parts more_parts i class part e h.parts_are at f;
-  steps_are = zip_more (IsStepOf own) classes steps more_steps i class step e h.steps_are handed.step_is g;
-  lengths = ap length f ∙ length-append parts (part ∷ []) ∙ ap (λ (k : ℕ). k + 1) h.lengths
-      ∙ sym (ap length g ∙ length-append steps (step ∷ []));
-  gives = ap (λ (ps : List (List ℕ)). give number (filter_map same_option (parts_left set ps more_steps)) given) f
-      ∙ ap (λ (ss : List (Option ℕ)). give number (filter_map same_option (parts_left set (parts ++ part ∷ []) ss)) given) g
-      ∙ gives_more number set parts steps part step given mid after h.lengths h.gives handed.gives;
-}
-
-pub split_holds : (rules : List PathRule) (set : List ℕ) (own : List PathRule) (number i : ℕ) (given after : Given)
-    (classes parts : List (List ℕ)) (steps : List (Option ℕ)) → AreOwn rules set own → Rises 0 set → AreClasses own classes
-    → set_of (slice_get given number) ≡ Some set → length classes ≤ i → IsDivided own set classes i number given parts steps after
-    → HoldsAt rules number given (Split parts steps) after
-split_holds rules set own number i given after classes parts steps are rise is has_set l h = record {
-  set = set;
-  given_set = has_set;
-  holds =
-      let whole = take_past i classes l in
-      divided rules set own are rise classes parts is
-      (subst (λ (cs : List (List ℕ)). AllZip (AreAt set) cs parts) whole h.parts_are) steps
-      (subst (λ (cs : List (List ℕ)). AllZip (IsStepOf own) cs steps) whole h.steps_are);
-  gives = h.gives;
-}
-
-pub split_within : (own : List PathRule) (set : List ℕ) (classes : List (List ℕ)) (i number : ℕ) (given : Given)
-    (parts : List (List ℕ)) (steps : List (Option ℕ)) (after : Given) → IsDivided own set classes i number given parts steps after
-    → IsStep (Split parts steps)
-split_within own set classes i number given parts steps after h = sym h.lengths

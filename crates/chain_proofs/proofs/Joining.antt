@@ -11,10 +11,25 @@ use Rattle.descent.specs.Splits.{has, stands_in, stands_once, place_in, is_follo
 use Rattle.number_graphs.specs.Graphs.{Leads, IsWay}
 use Rattle.chain_proofs.specs.declared.proving.LeftRule.{LeftRule}
 use Rattle.chain_proofs.specs.Stuck.{IsLeftRule}
-use Rattle.chain_proofs.specs.Sets.{AreOwn, Follows, AreJoined, AreLeft, IsStuckAt}
+use Rattle.chain_proofs.specs.Sets.{AreOwn, AreJoined, AreLeft, IsApart, IsStuckAt, is_alone}
 
 abbrev Steps : List PathRule → ℕ → ℕ → Type 0
 Steps own m n = IsTrue (is_followed own m n)
+
+-- a class has several rules, or one that follows itself
+abbrev Follows : List PathRule → List ℕ → Type 0
+Follows own [] = ⊥
+Follows own (only ∷ []) = is_followed own only only ≡ true
+Follows own (one ∷ more ∷ rest) = Unit {0}
+
+follows : (own : List PathRule) (class : List ℕ) → 0 < length class → is_alone own class ≡ false → Follows own class
+follows own [] l e = absurd (omega (arith, l))
+follows own (only ∷ []) l e = go (is_followed own only only) e
+  where
+    go : (b : Bool) → cond b false true ≡ false → b ≡ true
+    go true f = refl
+    go false f = absurd (false≢true (sym f))
+follows own (one ∷ more ∷ rest) l e = tt
 
 -- ---- ways
 
@@ -126,9 +141,20 @@ module _ (own : List PathRule) (class : List ℕ) (is : AreClasses own (class �
   }
 
 pub joined : (own : List PathRule) (class : List ℕ) (rest classes : List (List ℕ)) → AreClasses own classes → classes ≡ class ∷ rest
-    → (length rest == 0) ≡ true → Follows own class → AreJoined own
-joined own class [] classes is e none f = joined_class own class (subst (AreClasses own) e is) f
+    → (length rest == 0) ≡ true → is_alone own class ≡ false → AreJoined own
+joined own class [] classes is e none f =
+    let own_is = subst (AreClasses own) e is in
+    joined_class own class own_is (follows own class (own_is.full 0 class refl) f)
 joined own class (other ∷ rest) classes is e none f = let long = eqb-true (length (other ∷ rest)) 0 none in absurd (omega (arith, long))
+
+pub apart : (own : List PathRule) (class : List ℕ) (rest classes : List (List ℕ)) → classes ≡ class ∷ rest
+    → ((length rest == 0) && not (is_alone own class)) ≡ false → IsApart own classes
+apart own class [] classes e f = subst (IsApart own) (sym e) (go (is_alone own class) f)
+  where
+    go : (b : Bool) → not b ≡ false → b ≡ true
+    go true g = refl
+    go false g = absurd (false≢true (sym g))
+apart own class (other ∷ rest) classes e f = subst (IsApart own) (sym e) tt
 
 -- ---- the rules that are left
 

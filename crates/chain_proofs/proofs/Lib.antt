@@ -5,3 +5,8 @@ mod Places
 pub mod Plainly
 mod Turning
 mod Closing
+mod Renumbered
+mod Spending
+mod Starting
+mod Charging
+mod Parting

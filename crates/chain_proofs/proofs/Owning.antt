@@ -1,9 +1,8 @@
 -- Rules of a set as values of their own; items beside one another, one more.
 use Rattle.std.proofs.Common.{◌≡◌, ◌+◌, ℕ, zero, suc, List, [], ◌∷◌, ◌++◌, take, Option, Some, None, Result, Ok, Err, IfOk, IfSome}
 use Rattle.std.proofs.Common.{slice_get, refl, sym, subst, arith}
-use Rattle.std.specs.List.{AllZip, AllByRecursion}
-use Rattle.std.proofs.lemmas.List.Elements.{All-get_or, All-from_recursion}
-use Rattle.std.proofs.lemmas.Option.{none-some, same_Some, slice_get_within, get_or_from_slice_get}
+use Rattle.std.specs.List.{AllZip}
+use Rattle.std.proofs.lemmas.Option.{none-some, same_Some}
 use Rattle.descent.specs.declared.proof.RankStep.{RankStep}
 use Rattle.descent.specs.declared.rules.PathRule.{PathRule}
 use Rattle.rank_search.specs.Plain.{NoPlainForm}
@@ -26,11 +25,21 @@ zip_more {A} {B} R xs ys more i x y e h r f =
     let same : suc i ≡ i + 1 = omega arith in
     subst (λ (k : ℕ). AllZip R (take k xs) more) same (subst (AllZip R (take (suc i) xs)) (sym f) (zip_next R xs ys i x y e h r))
 
+pub zip_pushed : {A B : Type 0} (R : A → B → Type 0) (xs : List A) (ys more : List B) (x : A) (y : B) → more ≡ ys ++ y ∷ []
+    → AllZip R xs ys → R x y → AllZip R (xs ++ x ∷ []) more
+zip_pushed {A} {B} R xs ys more x y e h r = subst (AllZip R (xs ++ x ∷ [])) (sym e) (go xs ys h)
+  where
+    go : (those : List A) (bs : List B) → AllZip R those bs → AllZip R (those ++ x ∷ []) (bs ++ y ∷ [])
+    go [] [] k = (r, tt)
+    go [] (b ∷ bs) k = absurd k
+    go (a ∷ rest) [] k = absurd k
+    go (a ∷ rest) (b ∷ bs) k = (k.0, go rest bs k.1)
+
 -- ---- forms
 
 pub linear_found : {E : Type 0} (own : List PathRule) (result : Result (Option RankStep) E) → NoPlainForm own
     → IfOk result (λ found. IfSome found (λ step. IsRankStep own step)) → IfOk result (λ found. found ≡ None → NoStepwiseForm own)
     → IfOk result (RanksOwn HasNoForm own)
-linear_found own (Ok (Some step)) none found missing = found.limits
+linear_found own (Ok (Some step)) none found missing = found
 linear_found own (Ok None) none found missing = record { plain = none; stepwise = missing refl }
 linear_found own (Err e) none found missing = tt

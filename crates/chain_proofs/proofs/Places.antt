@@ -5,7 +5,8 @@ use Rattle.std.specs.List.{AllZip}
 use Rattle.std.proofs.lemmas.Bool.{cases_eq, eq-eqb, ne_eqb, eqb-true, or_cases, or_left, or_right, false≢true, or_parts}
 use Rattle.std.proofs.lemmas.Option.{none-some, same_Some}
 use Rattle.descent.specs.Splits.{has, stands_in, stands_once, place_from}
-use Rattle.chain_proofs.specs.Sets.{Rises, AreAt}
+use Rattle.chain_proofs.specs.Dealt.{Rises}
+use Rattle.chain_proofs.specs.Sets.{AreAt}
 
 -- ---- rising lists
 

@@ -1,14 +1,15 @@
 -- The rules of a set are such as forms are looked for, where all rules are.
-use Rattle.std.proofs.Common.{◌≡◌, ◌∙◌, ◌⊎◌, ◌+◌, ◌<◌, ◌≤◌, ℕ, zero, suc, List, [], ◌∷◌, length, Some, None, slice_get, refl, sym}
+use Rattle.std.proofs.Common.{◌≡◌, ◌∙◌, ◌+◌, ◌<◌, ◌≤◌, ℕ, zero, suc, List, [], ◌∷◌, length, Some, slice_get, refl}
 use Rattle.std.proofs.Common.{subst, arith}
-use Rattle.std.specs.List.{All, AllZip, AllByRecursion}
+use Rattle.std.specs.List.{All, AllByRecursion}
 use Rattle.std.proofs.lemmas.List.Elements.{All-get_or, All-from_recursion}
 use Rattle.std.proofs.lemmas.Option.{none-some, same_Some, slice_get_within, get_or_from_slice_get}
 use Rattle.descent.specs.declared.rules.PathRule.{PathRule}
 use Rattle.descent.specs.declared.rules.SlotForm.{SlotForm}
 use Rattle.descent.specs.Conditions.{IsRule}
 use Rattle.rank_forms.specs.Graphs.{IsPathRule, IsEndAt, IsPlainRule, ArePlainRules}
-use Rattle.chain_proofs.specs.Sets.{AreOwn, Rises}
+use Rattle.chain_proofs.specs.Dealt.{Rises}
+use Rattle.chain_proofs.specs.Sets.{AreOwn}
 use Rattle.chain_proofs.proofs.Dividing.{as_long}
 
 pub all_own : (P : PathRule → Type 0) (rules : List PathRule) (set : List ℕ) (own : List PathRule) → All P rules

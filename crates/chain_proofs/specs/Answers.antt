@@ -8,6 +8,7 @@ use Rattle.descent.specs.Steps.{Closed}
 use Rattle.chain_proofs.specs.declared.proving.LeftRule.{LeftRule}
 use Rattle.chain_proofs.specs.declared.proving.Proved.{Proved}
 use Rattle.chain_proofs.specs.declared.proving.Proved.TheVariants.{Whole, Stuck}
+use Rattle.chain_proofs.specs.Lean.{AreLean}
 use Rattle.chain_proofs.specs.Stuck.{HasNoForm, AreStuck, IsLeftRule}
 use Rattle.chain_proofs.specs.Unfinished.{IsLeft}
 
@@ -29,6 +30,11 @@ ProvesOrBy none rules (Stuck proof left) = LeavesStuckBy none rules proof.steps 
 abbrev pub IsClosed : List PathRule → Proved → Type 0
 IsClosed rules (Whole proof) = Closed rules proof
 IsClosed rules (Stuck proof left) = Unit {0}
+
+-- the steps are few and have no idle parts, also those of a proof that isn't finished
+abbrev pub IsLean : List PathRule → Proved → Type 0
+IsLean rules (Whole proof) = AreLean rules proof.steps
+IsLean rules (Stuck proof left) = AreLean rules proof.steps
 
 -- the same where neither a plain form nor a stepwise one ranks the rules that are left
 abbrev pub LeavesStuck : List PathRule → List ProofStep → List LeftRule → Type 0

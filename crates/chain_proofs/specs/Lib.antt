@@ -1,5 +1,7 @@
 pub mod Unfinished
 pub mod Stuck
+pub mod Lean
 pub mod Answers
-pub mod Sets
 pub mod Dealt
+pub mod Sets
+pub mod Few

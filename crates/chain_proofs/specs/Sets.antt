@@ -1,7 +1,10 @@
 -- Words for the calls that make proofs: sets of rules, and the steps for them.
-use Rattle.std.specs.Prelude.{◌≡◌, ℕ, suc, ◌<◌, ◌≤◌, true, Bool, false, IsTrue, if◌then◌else◌, List, [], ◌∷◌, length, map, Option}
+use Rattle.std.specs.Prelude.{◌≡◌, ℕ, ◌<◌, true, Bool, false, IsTrue, if◌then◌else◌, List, [], ◌∷◌, length, map, Option}
 use Rattle.std.specs.Prelude.{Some, None, slice_get}
 use Rattle.std.specs.List.{AllZip, filter_map}
+use Rattle.descent.specs.declared.proof.ProofStep.{ProofStep}
+use Rattle.descent.specs.declared.proof.RankRule.{RankRule}
+use Rattle.descent.specs.declared.proof.RankRule.TheVariants.{Weak, Strict}
 use Rattle.descent.specs.declared.proof.RankStep.{RankStep}
 use Rattle.descent.specs.declared.rules.PathRule.{PathRule}
 use Rattle.descent.specs.Conditions.{IsRanked, IsStep}
@@ -11,15 +14,13 @@ use Rattle.number_graphs.specs.Graphs.{Leads}
 use Rattle.chain_proofs.specs.declared.proving.LeftRule.{LeftRule}
 use Rattle.chain_proofs.specs.declared.proving.Turn.{Turn}
 use Rattle.chain_proofs.specs.declared.proving.Turn.TheVariants.{Step, Left}
+use Rattle.rank_forms.specs.RankSteps.{IsRankStep}
+use Rattle.chain_proofs.specs.Dealt.{Rises, AreSets, IsPaid}
+use Rattle.chain_proofs.specs.Lean.{IsLeanRank, IsLeanStep}
 use Rattle.chain_proofs.specs.Stuck.{AreStuck, IsLeftRule}
 use Rattle.chain_proofs.specs.Unfinished.{HoldsAt}
 
 -- ---- rules
-
--- numbers rise: the first is not below one, and each is above the one before
-abbrev pub Rises : ℕ → List ℕ → Type 0
-Rises low [] = Unit {0}
-Rises low (n ∷ rest) = (low ≤ n) × Rises (suc n) rest
 
 -- these rules are those of these numbers
 abbrev pub AreOwn : List PathRule → List ℕ → List PathRule → Type 0
@@ -37,7 +38,7 @@ AreAt set places part = AllZip (λ (place n : ℕ). slice_get set place ≡ Some
 
 -- the step of a class, to which its part is given; none where the class is one rule that doesn't follow itself
 abbrev pub IsStepOf : List PathRule → List ℕ → Option ℕ → Type 0
-IsStepOf own class (Some step) = Unit {0}
+IsStepOf own class (Some step) = is_alone own class ≡ false
 IsStepOf own class None = is_alone own class ≡ true
 
 pub record IsHanded (own : List PathRule) (set class part : List ℕ) (number : ℕ) (given : Given) (step : Option ℕ) (after : Given) :
@@ -45,11 +46,11 @@ pub record IsHanded (own : List PathRule) (set class part : List ℕ) (number : 
   pub step_is : IsStepOf own class step
   pub gives : give number (filter_map same_option (part_left set part step ∷ [])) given ≡ Some after
 
--- a class has several rules, or one that follows itself
-abbrev pub Follows : List PathRule → List ℕ → Type 0
-Follows own [] = ⊥
-Follows own (only ∷ []) = is_followed own only only ≡ true
-Follows own (one ∷ more ∷ rest) = Unit {0}
+-- the classes are not a single one of rules that reach each other and themselves
+abbrev pub IsApart : List PathRule → List (List ℕ) → Type 0
+IsApart own [] = Unit {0}
+IsApart own (class ∷ []) = is_alone own class ≡ true
+IsApart own (one ∷ more ∷ rest) = Unit {0}
 
 -- there are rules, and each reaches each, itself too
 pub record AreJoined (own : List PathRule) : Type 0 where
@@ -73,15 +74,30 @@ RanksAll rules set step = ranking_fault (ranking_of step) rules set step.rules �
 pub record IsRankOf (rules : List PathRule) (set : List ℕ) (step : RankStep) : Type 0 where
   pub limits : IsRanked step
   pub ranks : RanksAll rules set step
+  pub lean : IsLeanRank rules step
 
 -- what is found for rules by their places
 abbrev pub RanksOwn : (List PathRule → Type 0) → List PathRule → Option RankStep → Type 0
-RanksOwn none own (Some step) = IsRanked step
+RanksOwn none own (Some step) = IsRankStep own step
 RanksOwn none own None = none own
 
 abbrev pub RanksOr : (List PathRule → Type 0) → List PathRule → List ℕ → List PathRule → Option RankStep → Type 0
 RanksOr none rules set own (Some step) = IsRankOf rules set step
 RanksOr none rules set own None = none own
+
+-- a listed rule that is named by its place in a set, and by its number
+abbrev pub IsRenumbered : List ℕ → RankRule → RankRule → Type 0
+IsRenumbered set (Weak place fall) (Weak rule shown) = (slice_get set place ≡ Some rule) × (shown ≡ fall)
+IsRenumbered set (Weak place fall) (Strict rule shown above) = ⊥
+IsRenumbered set (Strict place fall bound) (Weak rule shown) = ⊥
+IsRenumbered set (Strict place fall bound) (Strict rule shown above) = (slice_get set place ≡ Some rule) × (shown ≡ fall) × (above ≡ bound)
+
+-- a step that names rules by their places, and the same one that names them by their numbers
+pub record IsStepOver (set : List ℕ) (step over : RankStep) : Type 0 where
+  pub size : over.size ≡ step.size
+  pub weights : over.weights ≡ step.weights
+  pub forms : over.forms ≡ step.forms
+  pub listed : AllZip (IsRenumbered set) step.rules over.rules
 
 -- a search may be asked for the rules of each set
 abbrev pub IsAsked : (List PathRule → Type 0) → List PathRule → Type 0
@@ -94,6 +110,14 @@ pub record IsStuckAt (none : List PathRule → Type 0) (rules : List PathRule) (
   pub are_own : AllZip (IsLeftRule rules) left own
   pub stuck : AreStuck none own
 
+-- a step holds for its set, and has no idle part; the sets that it gives on are sets of rules, and need less than its own
+pub record IsTurned (rules : List PathRule) (number : ℕ) (given : Given) (step : ProofStep) (after : Given) : Type 0 where
+  pub holds : HoldsAt rules number given step after
+  pub limits : IsStep step
+  pub lean : IsLeanStep rules step
+  pub sets : AreSets (length rules) after
+  pub paid : IsPaid number given after
+
 abbrev pub TurnsOr : (List PathRule → Type 0) → List PathRule → ℕ → List ℕ → Given → Turn → Given → Type 0
-TurnsOr none rules number set given (Step step) after = HoldsAt rules number given step after × IsStep step
+TurnsOr none rules number set given (Step step) after = IsTurned rules number given step after
 TurnsOr none rules number set given (Left left) after = (after ≡ given) × IsStuckAt none rules set left

@@ -1,5 +1,5 @@
 //! The rules of a set, as values of their own, and with their cuts.
-ghost use Rattle.std.specs.Prelude.{◌≡◌, IfOk, Some, slice_get};
+ghost use Rattle.std.specs.Prelude.{◌≡◌, ◌<◌, All, IfOk, Some, length, slice_get};
 ghost use Rattle.chain_proofs.specs.Sets.{AreOwn, IsLeftOf, AreLeft};
 
 use crate::proving::LeftRule;
@@ -69,17 +69,15 @@ fn copied_rule(alloc: Global, rule: &PathRule) -> Result<PathRule, AllocError>
     })
 }
 
-/// The rule of a number. A number that no rule has is answered as want of memory.
-fn rule_at(rules: &[PathRule], number: u32) -> Result<&PathRule, AllocError>
-    ensures { IfOk result (λ rule. slice_get rules.now number ≡ Some rule.now) }
+/// The rule of a number.
+fn rule_at(rules: &[PathRule], number: u32) -> &PathRule
+    requires { number < length rules.now }
+    ensures { slice_get rules.now number ≡ Some result.now }
 {
-    match rules.get(number as usize) {
-        Some(rule) => Ok(rule),
-        None => Err(AllocError),
-    }
+    &rules[number as usize]
 }
 
-/// The rules of these numbers. A number that no rule has is answered as want of memory.
+/// The rules of these numbers.
 ///
 /// # Errors
 ///
@@ -89,25 +87,27 @@ pub(crate) fn own_rules(
     rules: &[PathRule],
     set: &[u32],
 ) -> Result<Seq<PathRule>, AllocError>
+    requires { All (λ number. number < length rules.now) set.now }
     ensures { IfOk result (AreOwn rules.now set.now) }
 {
     let mut own = Seq::with_capacity(alloc, set.len())?;
     for number in set {
-        own.push(copied_rule(alloc, rule_at(rules, *number)?)?)?;
+        own.push(copied_rule(alloc, rule_at(rules, *number))?)?;
     }
     Ok(own)
 }
 
 /// A rule by its number, with its cuts.
-fn left_rule(rules: &[PathRule], number: u32) -> Result<LeftRule, AllocError>
-    ensures { IfOk result (IsLeftOf rules.now number) }
+fn left_rule(rules: &[PathRule], number: u32) -> LeftRule
+    requires { number < length rules.now }
+    ensures { IsLeftOf rules.now number result }
 {
-    let found = rule_at(rules, number)?;
-    Ok(LeftRule {
+    let found = rule_at(rules, number);
+    LeftRule {
         rule: number,
         from: found.from,
         to: found.to,
-    })
+    }
 }
 
 /// The rules of a set with their cuts.
@@ -120,11 +120,12 @@ pub(crate) fn left_rules(
     rules: &[PathRule],
     set: &[u32],
 ) -> Result<Seq<LeftRule>, AllocError>
+    requires { All (λ number. number < length rules.now) set.now }
     ensures { IfOk result (AreLeft rules.now set.now) }
 {
     let mut left = Seq::with_capacity(alloc, set.len())?;
     for number in set {
-        left.push(left_rule(rules, *number)?)?;
+        left.push(left_rule(rules, *number))?;
     }
     Ok(left)
 }

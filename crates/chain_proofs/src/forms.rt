@@ -1,5 +1,5 @@
 //! Which forms are looked for.
-ghost use Rattle.std.specs.Prelude.{List, IfOk};
+ghost use Rattle.std.specs.Prelude.{◌≤◌, List, IfOk, length};
 ghost use Rattle.descent.specs.declared.rules.PathRule.{PathRule};
 ghost use Rattle.chain_proofs.specs.Sets.{RanksOwn};
 
@@ -15,8 +15,11 @@ pub trait Forms {
     /// What it says of rules that none ranks them.
     ghost none: { List PathRule → Type 0 };
 
-    /// A rank step for the rules, which names them by their places, and which is still to be checked; None only where no form ranks the
-    /// rules, as the search says it.
+    /// It is asked for at most 2^29 rules.
+    ghost few: { (rules : List PathRule) → asks rules → length rules ≤ 536870912 };
+
+    /// A rank step for the rules, which names them by their places, holds for them, and has a rule on which its form falls and forms
+    /// of their cuts alone; None only where no form ranks the rules, as the search says it.
     ///
     /// # Errors
     ///
@@ -33,10 +36,13 @@ pub struct PathForms;
 impl Forms for PathForms {
     ghost use Rattle.rank_forms.specs.Graphs.{ArePlainRules};
     ghost use Rattle.chain_proofs.specs.Stuck.{HasNoForm};
+    ghost use Rattle.chain_proofs.specs.Few.{few_enough};
 
     ghost asks = { λ rules. ArePlainRules rules };
 
     ghost none = { λ rules. HasNoForm rules };
+
+    ghost few = { λ rules are. few_enough (length rules) are.paths.few };
 
     fn step(&self, alloc: Global, rules: &[PathRule]) -> Result<Option<RankStep>, AllocError> {
         match plain(alloc, rules)? {

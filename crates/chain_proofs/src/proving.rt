@@ -1,16 +1,16 @@
 //! Proofs that no chain of rules is infinite, class by class.
-ghost use Rattle.std.specs.Prelude.{◌≡◌, ◌≤◌, Some, IfOk, IfSome, IsTrue, slice_get};
+ghost use Rattle.std.specs.Prelude.{◌≡◌, ◌≤◌, ◌<◌, ◌+◌, ◌*◌, false, All, Some, IfOk, IsTrue, length, slice_get};
 ghost use Rattle.descent.specs.Components.{AreClasses};
-ghost use Rattle.descent.specs.Conditions.{AreRules};
 ghost use Rattle.rank_forms.specs.Graphs.{ArePlainRules};
 ghost use Rattle.descent.specs.Steps.{set_of, weak_ones, if_weak};
-ghost use Rattle.chain_proofs.specs.Answers.{ProvesOr, ProvesOrBy, IsClosed};
-ghost use Rattle.chain_proofs.specs.Sets.{Rises, AreOwn, AreJoined, Follows, IsAsked, TurnsOr};
+ghost use Rattle.chain_proofs.specs.Answers.{ProvesOr, ProvesOrBy, IsClosed, IsLean};
+ghost use Rattle.chain_proofs.specs.Dealt.{AreSets, HasRoom, IsSet};
+ghost use Rattle.chain_proofs.specs.Sets.{AreOwn, AreJoined, IsApart, IsAsked, TurnsOr};
 
 use crate::copying::{left_rules, own_rules};
 use crate::forms::{Forms, PathForms};
 use crate::ranking::rank_step;
-use crate::splitting::{Sets, is_alone, rise, split};
+use crate::splitting::{Sets, is_alone, split};
 use descent::{PathRule, Proof, ProofStep, RankRule, components};
 use list_views::Seq;
 use std::alloc::{AllocError, Global};
@@ -67,36 +67,22 @@ fn weak_ones(alloc: Global, listed: &[RankRule]) -> Result<Seq<u32>, AllocError>
     Ok(set)
 }
 
-/// Whether the classes are a single one, whose rules reach each other and themselves.
-#[tactic(auto, using(crate::proofs::Joining::joined))]
+/// Whether the classes are a single one, whose rules reach each other and themselves; else there are several, or one rule that doesn't
+/// follow itself.
+#[tactic(auto, using(crate::proofs::Joining::joined, crate::proofs::Joining::apart))]
 fn are_joined(own: &[PathRule], classes: &[Seq<u32>]) -> bool
     requires { AreClasses own.now classes.now }
-    ensures { IsTrue result → AreJoined own.now }
+    ensures joined { IsTrue result → AreJoined own.now }
+    ensures apart { result ≡ false → IsApart own.now classes.now }
 {
     match classes.split_first() {
-        Some((class, rest)) => rest.is_empty() && follows(own, class.as_slice()),
-        None => false,
-    }
-}
-
-/// Whether a class has several rules, or one that follows itself.
-fn follows(own: &[PathRule], class: &[u32]) -> bool
-    ensures { IsTrue result → Follows own.now class.now }
-{
-    let Some((only, rest)) = class.split_first() else {
-        return false;
-    };
-    if !rest.is_empty() {
-        return true;
-    }
-    match own.get(*only as usize) {
-        Some(rule) => rule.to == rule.from,
+        Some((class, rest)) => rest.is_empty() && !is_alone(own, class.as_slice()),
         None => false,
     }
 }
 
 /// What becomes of rules that reach each other.
-#[tactic(auto, using(crate::proofs::Joining::stuck_at, crate::proofs::Turning::rank_holds))]
+#[tactic(auto, using(crate::proofs::Joining::stuck_at))]
 fn ranked<F: Forms>(
     alloc: Global,
     forms: &F,
@@ -106,18 +92,19 @@ fn ranked<F: Forms>(
     number: u32,
     sets: &mut Sets,
 ) -> Result<Turn, AllocError>
-    requires rules { AreRules rules.now }
     requires asked { IsAsked F.asks rules.now }
     requires own { AreOwn rules.now set.now own.now }
-    requires rise { Rises 0 set.now }
+    requires is_set { IsSet (length rules.now) set.now }
     requires joined { AreJoined own.now }
     requires given { set_of (slice_get sets.old.given.items number) ≡ Some set.now }
+    requires sets { AreSets (length rules.now) sets.old.given.items }
+    requires room { HasRoom number sets.old.given.items }
     ensures { IfOk result (λ turn. TurnsOr F.none rules.now number set.now sets.old.given.items turn sets.new.given.items) }
 {
     match rank_step(alloc, forms, rules, set, own)? {
         Some(step) => {
             let weak = weak_ones(alloc, step.rules.as_slice())?;
-            let rest = sets.hand(number, weak)?;
+            let rest = sets.hand(number, weak);
             Ok(Turn::Step(ProofStep::Rank { step, rest }))
         }
         None => Ok(Turn::Left(left_rules(alloc, rules, set)?)),
@@ -133,32 +120,41 @@ fn taken<F: Forms>(
     number: u32,
     sets: &mut Sets,
 ) -> Result<Turn, AllocError>
-    requires rules { AreRules rules.now }
     requires asked { IsAsked F.asks rules.now }
+    requires is_set { IsSet (length rules.now) set.now }
     requires given { set_of (slice_get sets.old.given.items number) ≡ Some set.now }
+    requires sets { AreSets (length rules.now) sets.old.given.items }
+    requires room { HasRoom number sets.old.given.items }
     ensures { IfOk result (λ turn. TurnsOr F.none rules.now number set.now sets.old.given.items turn sets.new.given.items) }
 {
     if set.is_empty() {
         return Ok(Turn::Step(ProofStep::Empty));
     }
-    if !rise(set) {
-        return Err(AllocError);
-    }
     let copies = own_rules(alloc, rules, set)?;
     let own = copies.as_slice();
-    let classes = components(alloc, own)?;
-    if are_joined(own, classes.as_slice()) {
+    let found = components(alloc, own)?;
+    let classes = found.as_slice();
+    if are_joined(own, classes) {
         return ranked(alloc, forms, rules, own, set, number, sets);
     }
-    let step = split(alloc, rules, own, set, classes.as_slice(), number, sets)?;
+    let step = split(alloc, rules, own, set, classes, number, sets)?;
     Ok(Turn::Step(step))
 }
 
-/// How many steps a proof for so many rules has at most, with room to spare: each divides a set or takes a rule away.
-fn most_steps(rules: u32) -> Option<u32>
-    ensures { IfSome result (λ steps. 1 ≤ steps) }
+/// How many rules there are.
+fn count_of(rules: &[PathRule]) -> u32
+    requires { length rules.now ≤ 536870912 }
+    ensures { result ≡ length rules.now }
 {
-    rules.checked_mul(4)?.checked_add(4)
+    rules.len() as u32
+}
+
+/// How many steps a proof for so many rules has at most, with room to spare: each divides a set, takes a rule away or ends a set.
+fn most_steps(rules: u32) -> u32
+    requires { rules ≤ 536870912 }
+    ensures { result ≡ 4 * rules + 4 }
+{
+    4 * rules + 4
 }
 
 /// A closed proof that no chain of the rules is infinite, class by class; or the steps up to rules that reach each other, of which the search
@@ -167,24 +163,20 @@ fn most_steps(rules: u32) -> Option<u32>
 /// # Errors
 ///
 /// Want of memory.
-#[tactic(auto, using(crate::proofs::Turning::proof_first, crate::proofs::Turning::unproved, crate::proofs::Closing::closed))]
+#[tactic(auto, using(crate::proofs::Starting::proof_first, crate::proofs::Turning::unproved, crate::proofs::Turning::is_lean, crate::proofs::Turning::never_over, crate::proofs::Closing::closed))]
 pub fn prove_by<F: Forms>(
     alloc: Global,
     forms: &F,
     rules: &[PathRule],
 ) -> Result<Proved, AllocError>
-    requires rules { AreRules rules.now }
-    requires asked { IsAsked F.asks rules.now }
+    requires { IsAsked F.asks rules.now }
     ensures found { IfOk result (ProvesOrBy F.none rules.now) }
     ensures closed { IfOk result (IsClosed rules.now) }
+    ensures lean { IfOk result (IsLean rules.now) }
 {
-    let Ok(count) = u32::try_from(rules.len()) else {
-        return Err(AllocError);
-    };
-    let Some(below) = most_steps(count) else {
-        return Err(AllocError);
-    };
-    let mut sets = Sets::first(alloc, count, below as usize)?;
+    let count = count_of(rules);
+    let below = most_steps(count);
+    let mut sets = Sets::first(alloc, count, below)?;
     let mut steps = Seq::new(alloc);
     for number in 0..below {
         let Some(set) = sets.of(alloc, number)? else {
@@ -195,7 +187,7 @@ pub fn prove_by<F: Forms>(
             Turn::Left(left) => return Ok(Proved::Stuck(Proof { steps }, left)),
         }
     }
-    Err(AllocError)
+    unreachable!()
 }
 
 /// The same by plain forms and by linear ones: where rules are left, neither a plain nor a stepwise form ranks them.
@@ -205,7 +197,9 @@ pub fn prove_by<F: Forms>(
 /// Want of memory.
 pub fn prove(alloc: Global, rules: &[PathRule]) -> Result<Proved, AllocError>
     requires { ArePlainRules rules.now }
-    ensures { IfOk result (ProvesOr rules.now) }
+    ensures found { IfOk result (ProvesOr rules.now) }
+    ensures closed { IfOk result (IsClosed rules.now) }
+    ensures lean { IfOk result (IsLean rules.now) }
 {
     prove_by(alloc, &PathForms, rules)
 }

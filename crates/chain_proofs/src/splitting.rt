@@ -1,11 +1,9 @@
 //! The sets that steps are given, and steps that divide a set.
-ghost use Rattle.std.specs.Prelude.{◌≡◌, ◌≤◌, ◌∷◌, [], true, Some, IfOk, IsTrue, slice_get};
+ghost use Rattle.std.specs.Prelude.{◌≡◌, ◌<◌, ◌≤◌, ◌∷◌, [], false, All, Some, IfOk, IsTrue, length, slice_get};
 ghost use Rattle.descent.specs.Components.{AreClasses};
-ghost use Rattle.descent.specs.Conditions.{IsStep};
-ghost use Rattle.descent.specs.Steps.{give, given_first, is_free, set_of};
-ghost use Rattle.chain_proofs.specs.Unfinished.{HoldsAt};
-ghost use Rattle.chain_proofs.specs.Dealt.{is_dealt};
-ghost use Rattle.chain_proofs.specs.Sets.{Rises, AreAt, AreOwn, IsHanded, is_alone};
+ghost use Rattle.descent.specs.Steps.{give, given_first, set_of};
+ghost use Rattle.chain_proofs.specs.Dealt.{is_dealt, AreSets, HasRoom, Rises};
+ghost use Rattle.chain_proofs.specs.Sets.{AreAt, AreOwn, IsApart, IsHanded, IsTurned, is_alone};
 
 use descent::{PathRule, ProofStep, given_first, set_of, within};
 use list_views::Seq;
@@ -17,27 +15,18 @@ pub(crate) struct Sets {
     pub(crate) given: Vec<Option<Seq<u32>>>,
     pub(crate) next: u32,
     ghost dealt: { IsTrue (is_dealt given.items next) },
-}
-
-/// Whether a step is there and has no set yet.
-fn is_free(given: &[Option<Seq<u32>>], step: u32) -> bool
-    ensures { result ≡ is_free (slice_get given.now step) }
-{
-    match given.get(step as usize) {
-        Some(None) => true,
-        _ => false,
-    }
+    ghost short: { length given.items ≤ 4294967295 },
 }
 
 impl Sets {
     /// Step 0 has all rules, and the others, below a number, have no set yet.
-    #[tactic(auto, using(crate::proofs::Closing::dealt_first))]
-    pub(crate) fn first(alloc: Global, rules: u32, below: usize) -> Result<Sets, AllocError>
+    #[tactic(auto, using(crate::proofs::Closing::dealt_first, crate::proofs::Closing::short_first))]
+    pub(crate) fn first(alloc: Global, rules: u32, below: u32) -> Result<Sets, AllocError>
         requires { 1 ≤ below }
         ensures { IfOk result (λ sets. sets.given.items ≡ given_first rules below) }
     {
         Ok(Sets {
-            given: given_first(alloc, rules, below)?,
+            given: given_first(alloc, rules, below as usize)?,
             next: 1,
         })
     }
@@ -49,41 +38,23 @@ impl Sets {
         set_of(alloc, &self.given, number)
     }
 
-    /// Gives a set to the next step that has none, and says which it is. Where no step is left it is answered as want of memory.
-    #[tactic(auto, using(crate::proofs::Closing::dealt_more))]
-    pub(crate) fn hand(&mut self, number: u32, set: Seq<u32>) -> Result<u32, AllocError>
-        ensures { IfOk result (λ step. give number ((step, set) ∷ []) self.old.given.items ≡ Some self.new.given.items) }
+    /// Gives a set to the next step that has none, and says which it is.
+    #[tactic(auto, using(crate::proofs::Closing::dealt_more, crate::proofs::Closing::length_given))]
+    pub(crate) fn hand(&mut self, number: u32, set: Seq<u32>) -> u32
+        requires later { number < self.old.next }
+        requires room { self.old.next < length self.old.given.items }
+        ensures { give number ((result, set) ∷ []) self.old.given.items ≡ Some self.new.given.items }
     {
         let step = self.next;
-        if step <= number || step == u32::MAX {
-            return Err(AllocError);
-        }
-        if !is_free(&self.given, step) {
-            return Err(AllocError);
-        }
         self.given[step as usize] = Some(set);
         self.next = step + 1;
-        Ok(step)
+        step
     }
-}
-
-/// Whether numbers rise.
-pub(crate) fn rise(set: &[u32]) -> bool
-    ensures { IsTrue result → Rises 0 set.now }
-{
-    let mut low = 0u32;
-    for number in set {
-        if *number < low || *number == u32::MAX {
-            return false;
-        }
-        low = *number + 1;
-    }
-    true
 }
 
 /// Whether a class is one rule that doesn't follow itself.
 pub(crate) fn is_alone(own: &[PathRule], class: &[u32]) -> bool
-    ensures { IsTrue result → is_alone own.now class.now ≡ true }
+    ensures { result ≡ is_alone own.now class.now }
 {
     let Some((only, rest)) = class.split_first() else {
         return false;
@@ -97,23 +68,22 @@ pub(crate) fn is_alone(own: &[PathRule], class: &[u32]) -> bool
     }
 }
 
-/// The number at a place of a set. A place that the set doesn't have is answered as want of memory.
-fn number_at(set: &[u32], place: u32) -> Result<u32, AllocError>
-    ensures { IfOk result (λ number. slice_get set.now place ≡ Some number) }
+/// The number at a place of a set.
+pub(crate) fn number_at(set: &[u32], place: u32) -> u32
+    requires { place < length set.now }
+    ensures { slice_get set.now place ≡ Some result }
 {
-    match set.get(place as usize) {
-        Some(number) => Ok(*number),
-        None => Err(AllocError),
-    }
+    set[place as usize]
 }
 
-/// The numbers at places of a set. A place that the set doesn't have is answered as want of memory.
+/// The numbers at places of a set.
 fn part_of(alloc: Global, set: &[u32], class: &[u32]) -> Result<Seq<u32>, AllocError>
+    requires { All (λ place. place < length set.now) class.now }
     ensures { IfOk result (AreAt set.now class.now) }
 {
     let mut part = Seq::with_capacity(alloc, class.len())?;
     for place in class {
-        part.push(number_at(set, *place)?)?;
+        part.push(number_at(set, *place))?;
     }
     Ok(part)
 }
@@ -128,17 +98,18 @@ fn step_of(
     number: u32,
     sets: &mut Sets,
 ) -> Result<Option<u32>, AllocError>
+    requires later { number < sets.old.next }
+    requires room { is_alone own.now class.now ≡ false → sets.old.next < length sets.old.given.items }
     ensures { IfOk result (λ step. IsHanded own.now set.now class.now part.now number sets.old.given.items step sets.new.given.items) }
 {
     if is_alone(own, class) {
         return Ok(None);
     }
     let kept = within(alloc, part, set)?;
-    Ok(Some(sets.hand(number, kept)?))
+    Ok(Some(sets.hand(number, kept)))
 }
 
 /// The step that divides a set into classes of rules that reach each other, and gives each class to a step of its own.
-#[tactic(auto, using(crate::proofs::Dividing::divided_first, crate::proofs::Dividing::split_holds, crate::proofs::Dividing::split_within))]
 pub(crate) fn split(
     alloc: Global,
     rules: &[PathRule],
@@ -151,9 +122,11 @@ pub(crate) fn split(
     requires own { AreOwn rules.now set.now own.now }
     requires rise { Rises 0 set.now }
     requires classes { AreClasses own.now classes.now }
+    requires apart { IsApart own.now classes.now }
     requires given { set_of (slice_get sets.old.given.items number) ≡ Some set.now }
-    ensures holds { IfOk result (λ step. HoldsAt rules.now number sets.old.given.items step sets.new.given.items) }
-    ensures step { IfOk result IsStep }
+    requires sets { AreSets (length rules.now) sets.old.given.items }
+    requires room { HasRoom number sets.old.given.items }
+    ensures { IfOk result (λ step. IsTurned rules.now number sets.old.given.items step sets.new.given.items) }
 {
     let mut parts = Seq::with_capacity(alloc, classes.len())?;
     let mut steps = Seq::with_capacity(alloc, classes.len())?;

@@ -18,8 +18,7 @@ use Rattle.input_desc.specs.Descs.{inputs_from, desc_fault, IsDescribed, IsOwnDe
 use Rattle.input_desc.specs.Given.{params_of, statics_of, field_slot, argument_slot, slots_of}
 use Rattle.input_desc.proofs.Faultless.{counted}
 use Rattle.input_desc.proofs.GoodDescs.{found_count, texts_count, few_made, made_is_good}
-use Rattle.plan_links.specs.Laws.{LinksFit}
-use Rattle.cert_check.specs.Laws.{CertifiedRunsEnd}
+use Rattle.cert_check.specs.Laws.{ValidCertificatesEnd}
 use Rattle.desc_steps.proofs.Answering.{all_end}
 use Rattle.check_call.specs.Laws.{AcceptedEnds}
 use Rattle.check_call.proofs.Accepting.{reached, cert_ends}
@@ -72,8 +71,8 @@ own_desc p text described closed few none is =
 
 -- ---- the law
 
-pub accepted_ends : LinksFit → CertifiedRunsEnd → AcceptedEnds
-accepted_ends fit ended cert desc files (Ok outcome) bytes a accepts =
+pub accepted_ends : ValidCertificatesEnd → AcceptedEnds
+accepted_ends ended cert desc files (Ok outcome) bytes a accepts =
     let r = reached cert desc files outcome a in
     let p = r.program in
     let closed = r.named.closed in
@@ -81,5 +80,5 @@ accepted_ends fit ended cert desc files (Ok outcome) bytes a accepts =
     let small = methods_small p.world p.entry p.methods world closed.made in
     let own = own_desc p r.named.text r.described closed (few_params p.methods small) r.named.faultless r.named.is_described in
     all_end desc files p r.described r.named
-    (cert_ends fit ended p r.typing r.described closed (in_width p small) r.typed own cert outcome r.says accepts)
-accepted_ends fit ended cert desc files (Err refused) bytes a accepts = absurd accepts
+    (cert_ends ended p r.typing r.described closed (in_width p small) r.typed own cert outcome r.says accepts)
+accepted_ends ended cert desc files (Err refused) bytes a accepts = absurd accepts

@@ -1,7 +1,5 @@
 -- What an accepted certificate shows, by the definition of the answer alone.
-use Rattle.std.proofs.Common.{◌≡◌, ℕ, List, Ok, inl, inr, sym, ap, subst, arith}
-use Rattle.std.proofs.lemmas.List.Elements.{All-from_recursion}
-use Rattle.abs_cells.specs.AbstractStates.{AbstractState}
+use Rattle.std.proofs.Common.{◌≡◌, ℕ, List, Ok, inl, inr, refl, sym, ap, subst, arith}
 use Rattle.class_world.specs.World.{World}
 use Rattle.class_world.specs.declared.world.MethodRef.{MethodRef}
 use Rattle.class_program.specs.Programs.{Program, IsClosed}
@@ -17,22 +15,14 @@ use Rattle.desc_steps.specs.Headline.{NameProgram, AllFittingEnd}
 use Rattle.desc_steps.specs.Names.{names_of}
 use Rattle.descent.specs.declared.proof.ProofStep.{ProofStep}
 use Rattle.descent.specs.Conditions.{AreSteps}
-use Rattle.descent.proofs.Walked.{closed_ends}
 use Rattle.term_graph.specs.Graphs.{GraphNode}
-use Rattle.path_rules.specs.Bare.{AreBounded}
-use Rattle.cert_check.specs.IntStates.{HasIntStates}
-use Rattle.plan_links.specs.Laws.{LinksFit}
 use Rattle.json_view.specs.Located.{root_of}
 use Rattle.cert_form.specs.Certificates.{CertContent}
 use Rattle.cert_form.proofs.Lacking.{good_steps}
-use Rattle.cert_check.specs.Certified.{IsCertified}
-use Rattle.cert_check.specs.Laws.{CertifiedRunsEnd}
+use Rattle.cert_check.specs.Laws.{ValidCertificatesEnd}
 use Rattle.cert_check.specs.Parts.{case_of}
-use Rattle.cert_check.specs.Valid.{IsValid}
-use Rattle.cert_check.proofs.Preparing.{prepared, cuts_of, ready}
 use Rattle.check_call.specs.declared.outcome.Outcome.{Outcome}
 use Rattle.check_call.specs.Answers.{IsCertText, AnswersChecked, AnswersContent, AnswersCert, Answers}
-use Rattle.check_call.proofs.PathLimits.{all_bounded, rules_good}
 
 -- ---- where an answer comes from
 
@@ -73,45 +63,25 @@ reached cert desc files outcome a =
         is_described = described.1.0.1;
       };
       typed = typing.1.0;
-      says = described.1.1.1.1;
+      says = described.1.1;
     }
 
 -- ---- what a valid certificate shows
 
-module _ (fit : LinksFit) (ended : CertifiedRunsEnd) (p : Program) (typing : ℕ → CodeTypes) (desc : Desc) (closed : IsClosed p)
+module _ (ended : ValidCertificatesEnd) (p : Program) (typing : ℕ → CodeTypes) (desc : Desc) (closed : IsClosed p)
     (widths : HasWidths p) (typed : IsTypingOf p typing) (own : IsOwnDesc p desc) where
-  certified : (nodes : List GraphNode) (cuts : List ℕ) (steps : List ProofStep) → HasIntStates p typing nodes → AreSteps steps
-      → IsValid (case_of p typing (initial_of p desc) nodes cuts steps) → IsCertified p typing nodes cuts (initial_of p desc)
-  certified nodes cuts steps states are valid =
-      let root : AbstractState = initial_of p desc in
-      let is_ready = ready nodes valid.links cuts (prepared fit p typing widths nodes root valid.links states valid.graph)
-      (cuts_of (case_of p typing root nodes cuts steps) valid.cuts) in
-      let bounded = All-from_recursion (λ (n : GraphNode). AreBounded n.state) nodes
-      (all_bounded p typing nodes nodes valid.links valid.graph.each) in
-      record {
-        links = valid.links;
-        graph = valid.graph;
-        ready = is_ready;
-        cut = valid.paths.0;
-        rules = valid.rules;
-        are = valid.paths.1;
-        ends = closed_ends valid.rules steps (rules_good nodes valid.links cuts is_ready bounded valid.rules valid.paths.1) are
-            valid.proof;
-      }
-
-  checked_ends : (nodes : List GraphNode) (cuts : List ℕ) (steps : List ProofStep) (outcome : Outcome) → HasIntStates p typing nodes
-      → AreSteps steps → AnswersChecked (case_of p typing (initial_of p desc) nodes cuts steps) (Ok outcome) → outcome.status ≡ 0
-      → AllFittingEnd p desc
-  checked_ends nodes cuts steps outcome states are (inl h) accepted =
-      λ state fits. ended p typing desc nodes cuts closed widths typed own (certified nodes cuts steps states are h.0) state fits
-  checked_ends nodes cuts steps outcome states are (inr h) accepted = absurd
+  checked_ends : (nodes : List GraphNode) (cuts : List ℕ) (steps : List ProofStep) (outcome : Outcome) → AreSteps steps
+      → AnswersChecked (case_of p typing (initial_of p desc) nodes cuts steps) (Ok outcome) → outcome.status ≡ 0 → AllFittingEnd p desc
+  checked_ends nodes cuts steps outcome are (inl h) accepted =
+      ended (case_of p typing (initial_of p desc) nodes cuts steps) h.0 desc refl closed widths typed own are
+  checked_ends nodes cuts steps outcome are (inr h) accepted = absurd
       (omega (arith, ap (λ (o : Outcome). o.status) h.1.1.1, accepted))
 
   content_ends : (cert : List ℕ) (content : CertContent) (outcome : Outcome) → IsCertText p cert content
       → AnswersContent p typing desc content (Ok outcome) → outcome.status ≡ 0 → AllFittingEnd p desc
   content_ends cert content outcome text h accepted =
-      checked_ends h.0 content.cuts content.proof outcome h.1.0.1 (good_steps (names_of p.world) (root_of text.0) content text.1.1)
-      h.1.1 accepted
+      checked_ends h.0 content.cuts content.proof outcome (good_steps (names_of p.world) (root_of text.0) content text.1.1) h.1.1
+      accepted
 
   pub cert_ends : (cert : List ℕ) (outcome : Outcome) → AnswersCert cert p typing desc (Ok outcome) → outcome.status ≡ 0
       → AllFittingEnd p desc

@@ -1,5 +1,6 @@
 -- What is said of a certificate.
-use Rattle.std.proofs.Common.{◌≡◌, ℕ, List, Result, Ok, Err, inl, inr, subst}
+use Rattle.std.proofs.Common.{◌≡◌, ℕ, false, List, [], ◌∷◌, ◌++◌, Result, Ok, Err, inl, inr, ap, subst}
+use Rattle.serde_json.specs.Written.{compact_text}
 use Rattle.class_program.specs.Programs.{Program}
 use Rattle.frame_types.specs.Tables.{CodeTypes}
 use Rattle.input_steps.specs.declared.refused.Refused.{Refused}
@@ -10,13 +11,23 @@ use Rattle.graph_check.specs.Filling.{IsFilled}
 use Rattle.cert_form.specs.declared.fault.CertFault.{CertFault}
 use Rattle.cert_form.specs.declared.fault.CertFault.TheVariants as certs
 use Rattle.cert_form.specs.Certificates.{CertContent, cert_of, AnswersText}
+use Rattle.cert_write.specs.Data.{content_in, certificate_in}
+use Rattle.descent.specs.declared.proof.ProofStep.{ProofStep}
 use Rattle.check_call.specs.declared.outcome.Outcome.{Outcome}
 use Rattle.check_call.specs.Answers.{IsCertText}
 use Rattle.check_call.specs.Said.{IsSaidOfText}
 use Rattle.check_call.specs.FillAnswers.{filled, AnswersContent, AnswersCert}
+use Rattle.check_call.specs.FillTexts.{filled_text}
 
 abbrev Answer : Type 0
 Answer = Result Outcome Refused
+
+-- ---- the text
+
+pub text_is : (names : List (List ℕ)) (nodes : List GraphNode) (cuts : List ℕ) (proof : List ProofStep) (text : List ℕ)
+    → text ≡ compact_text (certificate_in false names (content_in false nodes cuts proof))
+    → text ++ 10 ∷ [] ≡ filled_text names nodes cuts proof
+text_is names nodes cuts proof text is = ap (λ (bytes : List ℕ). bytes ++ 10 ∷ []) is
 
 -- ---- what a certificate says
 

@@ -2,13 +2,9 @@ pub mod Accepted
 pub mod Accepting
 pub mod FileBytes
 pub mod FillSaying
-pub mod Forms
-pub mod Numbers
 pub mod OneAnswer
-pub mod PathLimits
 pub mod Paths
 pub mod ProgramNumbers
 pub mod Rules
 pub mod Saying
 pub mod VerdictLaw
-pub mod Wholes

@@ -13,12 +13,10 @@ use Rattle.input_desc.specs.declared.desc.Desc.{Desc}
 use Rattle.input_desc.specs.Initial.{initial_of}
 use Rattle.input_steps.specs.declared.refused.Refused.{Refused}
 use Rattle.input_steps.specs.declared.refused.Refused.TheVariants.{At, Memory}
-use Rattle.input_steps.proofs.OneAnswer.{IsExact, IsOne, then_one, ok_one, err_one, ok_err}
+use Rattle.input_steps.proofs.OneAnswer.{IsOne, ok_one, err_one, ok_err}
 use Rattle.desc_steps.specs.Names.{names_of}
 use Rattle.desc_steps.proofs.OneAnswer.{files_one}
-use Rattle.term_graph.specs.Graphs.{GraphNode, GraphPart}
-use Rattle.cert_check.specs.IntStates.{HasIntStates}
-use Rattle.cert_check.proofs.OtherStates.{other_or_none}
+use Rattle.term_graph.specs.Graphs.{GraphNode}
 use Rattle.graph_fill.proofs.Once.{filled_once}
 use Rattle.cert_form.specs.Answers.{Reader}
 use Rattle.cert_form.specs.declared.fault.CertFault.{CertFault}
@@ -32,7 +30,7 @@ use Rattle.cert_check.specs.Valid.{Case, IsValid, IsFirstFault}
 use Rattle.check_call.proofs.VerdictLaw.{verdicts_one}
 use Rattle.cert_check.specs.Parts.{case_of}
 use Rattle.check_call.specs.declared.outcome.Outcome.{Outcome}
-use Rattle.check_call.specs.Answers.{RefusesStates, IsCertText, IsCertFault, AnswersChecked, FillsInts, AnswersContent, AnswersCert}
+use Rattle.check_call.specs.Answers.{IsCertText, IsCertFault, AnswersChecked, AnswersContent, AnswersCert}
 use Rattle.check_call.specs.Causes.{cause_text}
 use Rattle.check_call.specs.Laws.{AnswersAreOne}
 use Rattle.check_call.specs.Lines.{refused_at}
@@ -132,50 +130,38 @@ module _ (case : Case) where
 
 -- ---- what the certificate says
 
-module _ (p : Program) (typing : ℕ → CodeTypes) where
-  filled_exact : (parts : List GraphPart) → IsExact {A = List GraphNode} (FillsInts p typing parts) (RefusesStates p typing parts)
-  filled_exact parts = record {
-    one = λ nodes others h k. filled_once p typing parts nodes others h.0 k.0;
-    apart = λ nodes place fault h r.
-        let same = filled_once p typing parts nodes r.holds.nodes h.0 r.holds.filled in
-        other_or_none p typing r.holds.nodes r.cause (subst (HasIntStates p typing) same h.1) r.holds.first;
-    named = λ a b f g h k. (h.place_is ∙ sym k.place_is, h.fault_is ∙ sym k.fault_is);
-  }
+module _ (p : Program) (typing : ℕ → CodeTypes) (desc : Desc) where
+  told_one : (content : CertContent) → IsOne (AnswersContent p typing desc content)
+  told_one content (Ok x) (Ok y) h k nr ns =
+      let same : h.0 ≡ k.0 = filled_once p typing content.parts h.0 k.0 h.1.0 k.1.0 in
+      checked_one (case_of p typing (initial_of p desc) k.0 content.cuts content.proof) (Ok x) (Ok y)
+      (subst (λ (nodes : List GraphNode). AnswersChecked (case_of p typing (initial_of p desc) nodes content.cuts content.proof) (Ok x))
+      same h.1.1) k.1.1 nr ns
+  told_one content (Ok x) (Err (At place fault)) h k nr ns = absurd k
+  told_one content (Ok x) (Err Memory) h k nr ns = absurd (ns refl)
+  told_one content (Err (At place fault)) s h k nr ns = absurd h
+  told_one content (Err Memory) s h k nr ns = absurd (nr refl)
 
-  module _ (desc : Desc) where
-    told_one : (content : CertContent) → IsOne (AnswersContent p typing desc content)
-    told_one content =
-        then_one {A = List GraphNode} (FillsInts p typing content.parts) (RefusesStates p typing content.parts)
-        (λ nodes. AnswersChecked (case_of p typing (initial_of p desc) nodes content.cuts content.proof)) (filled_exact content.parts)
-        (λ nodes fills. checked_one (case_of p typing (initial_of p desc) nodes content.cuts content.proof))
+  module _ (cert : List ℕ) where
+    both_told : (a b : CertContent) (r s : Result Outcome Refused) → IsCertText p cert a → IsCertText p cert b
+        → AnswersContent p typing desc a r → AnswersContent p typing desc b s → IsKnown r → IsKnown s → r ≡ s
+    both_told a b r s g h n m nr ns = told_one b r s
+        (subst (λ (c : CertContent). AnswersContent p typing desc c r) (content_one p cert a b g h) n) m nr ns
 
-    module _ (cert : List ℕ) where
-      both_told : (a b : CertContent) (r s : Result Outcome Refused) → IsCertText p cert a → IsCertText p cert b
-          → AnswersContent p typing desc a r → AnswersContent p typing desc b s → IsKnown r → IsKnown s → r ≡ s
-      both_told a b r s g h n m nr ns = told_one b r s
-          (subst (λ (c : CertContent). AnswersContent p typing desc c r) (content_one p cert a b g h) n) m nr ns
-
-      cert_one : IsOne (AnswersCert cert p typing desc)
-      cert_one (Ok x) (Ok y) (inl h) (inl k) nr ns =
-          let line = ap (λ (fault : CertFault). refused_at 0 (fault_text fault)) (fault_one p cert h.0 k.0 h.1.0 k.1.0) in
-          let e : x ≡ y = h.1.1 ∙ (line ∙ sym k.1.1) in
-          λ i. Ok (e i)
-      cert_one (Ok x) (Ok y) (inl h) (inr k) nr ns = absurd (content_or_fault p cert k.0 h.0 k.1.0 (faulty p cert h.0 h.1.0))
-      cert_one (Ok x) (Ok y) (inr h) (inl k) nr ns = absurd (content_or_fault p cert h.0 k.0 h.1.0 (faulty p cert k.0 k.1.0))
-      cert_one (Ok x) (Ok y) (inr h) (inr k) nr ns = both_told h.0 k.0 (Ok x) (Ok y) h.1.0 k.1.0 h.1.1 k.1.1 nr ns
-      cert_one (Ok x) (Err (At place fault)) (inl h) k nr ns = absurd (content_or_fault p cert k.0 h.0 k.1.0 (faulty p cert h.0 h.1.0))
-      cert_one (Ok x) (Err (At place fault)) (inr h) k nr ns = both_told h.0 k.0 (Ok x) (Err (At place fault)) h.1.0 k.1.0 h.1.1
-          k.1.1 nr ns
-      cert_one (Err (At place fault)) (Ok y) h (inl k) nr ns = absurd (content_or_fault p cert h.0 k.0 h.1.0 (faulty p cert k.0 k.1.0))
-      cert_one (Err (At place fault)) (Ok y) h (inr k) nr ns = both_told h.0 k.0 (Err (At place fault)) (Ok y) h.1.0 k.1.0 h.1.1
-          k.1.1 nr ns
-      cert_one (Err (At place fault)) (Err (At other next)) h k nr ns = both_told h.0 k.0 (Err (At place fault))
-          (Err (At other next)) h.1.0 k.1.0 h.1.1 k.1.1 nr ns
-      cert_one (Ok x) (Err Memory) h k nr ns = absurd (ns refl)
-      cert_one (Err (At place fault)) (Err Memory) h k nr ns = absurd (ns refl)
-      cert_one (Err Memory) s h k nr ns = absurd (nr refl)
+    cert_one : IsOne (AnswersCert cert p typing desc)
+    cert_one (Ok x) (Ok y) (inl h) (inl k) nr ns =
+        let line = ap (λ (fault : CertFault). refused_at 0 (fault_text fault)) (fault_one p cert h.0 k.0 h.1.0 k.1.0) in
+        let e : x ≡ y = h.1.1 ∙ (line ∙ sym k.1.1) in
+        λ i. Ok (e i)
+    cert_one (Ok x) (Ok y) (inl h) (inr k) nr ns = absurd (content_or_fault p cert k.0 h.0 k.1.0 (faulty p cert h.0 h.1.0))
+    cert_one (Ok x) (Ok y) (inr h) (inl k) nr ns = absurd (content_or_fault p cert h.0 k.0 h.1.0 (faulty p cert k.0 k.1.0))
+    cert_one (Ok x) (Ok y) (inr h) (inr k) nr ns = both_told h.0 k.0 (Ok x) (Ok y) h.1.0 k.1.0 h.1.1 k.1.1 nr ns
+    cert_one (Ok x) (Err (At place fault)) h k nr ns = absurd k
+    cert_one (Ok x) (Err Memory) h k nr ns = absurd (ns refl)
+    cert_one (Err (At place fault)) s h k nr ns = absurd h
+    cert_one (Err Memory) s h k nr ns = absurd (nr refl)
 
 -- ---- the whole
 
 pub answers_one : AnswersAreOne
-answers_one cert desc files = files_one (AnswersCert cert) (λ p typing described ints. cert_one p typing described cert) desc files
+answers_one cert desc files = files_one (AnswersCert cert) (λ p typing described. cert_one p typing described cert) desc files

@@ -18,7 +18,8 @@ use Rattle.term_graph.specs.Graphs.{GraphNode}
 use Rattle.path_rules.specs.Answers.{AreRulesOf, HaveFewRows, HasRules, IsFirstTooLong, Answers as HasRulesOr}
 use Rattle.path_rules.specs.Paths.{Path, IsLeastUncut}
 use Rattle.path_rules.specs.Rules.{IsRuleOf, rule_over}
-use Rattle.path_rules.specs.Stops.{pattern_in, IdsRise, AreSizes, LinkedGraph}
+use Rattle.abs_reach.specs.Keys.{AreKeysRising}
+use Rattle.path_rules.specs.Stops.{pattern_in, AreSizes, LinkedGraph}
 use Rattle.path_rules.specs.declared.fault.PathFault.{PathFault}
 use Rattle.path_rules.specs.declared.fault.PathFault.TheVariants.{Uncut, TooManyPaths, TooManyRows, Memory}
 use Rattle.check_call.proofs.Paths.{paths_one, few_or_many}
@@ -31,18 +32,18 @@ here c cs = ap (λ (b : Bool). cond b (Some c.1) (pattern_in cs c.0)) (eq-eqb c.
 past : (c : ℕ × Pattern) (cs : List (ℕ × Pattern)) (id : ℕ) → (c.0 ≡ id → ⊥) → pattern_in (c ∷ cs) id ≡ pattern_in cs id
 past c cs id other = ap (λ (b : Bool). cond b (Some c.1) (pattern_in cs id)) (ne_eqb c.0 id other)
 
-none_low : (low id : ℕ) (cs : List (ℕ × Pattern)) → IdsRise low cs → id < low → pattern_in cs id ≡ None
+none_low : (low id : ℕ) (cs : List (ℕ × Pattern)) → AreKeysRising low cs → id < low → pattern_in cs id ≡ None
 none_low low id [] rise l = refl
 none_low low id (c ∷ cs) rise l =
     let k = rise.0 in
     past c cs id (λ e. omega (arith, e, l, k)) ∙ none_low (suc c.0) id cs rise.1 (omega (arith, l, k))
 
-not_lower : (x y : ℕ × Pattern) (xs ys : List (ℕ × Pattern)) (low : ℕ) → IdsRise low (y ∷ ys)
+not_lower : (x y : ℕ × Pattern) (xs ys : List (ℕ × Pattern)) (low : ℕ) → AreKeysRising low (y ∷ ys)
     → ((id : ℕ) → pattern_in (x ∷ xs) id ≡ pattern_in (y ∷ ys) id) → x.0 < y.0 → ⊥
 not_lower x y xs ys low rise same l = none-some x.1 (sym (none_low y.0 x.0 (y ∷ ys) (omega arith, rise.1) l)
     ∙ (sym (same x.0) ∙ here x xs))
 
-rising_one : (low : ℕ) (a b : List (ℕ × Pattern)) → IdsRise low a → IdsRise low b → ((id : ℕ) → pattern_in a id ≡ pattern_in b id) → a ≡ b
+rising_one : (low : ℕ) (a b : List (ℕ × Pattern)) → AreKeysRising low a → AreKeysRising low b → ((id : ℕ) → pattern_in a id ≡ pattern_in b id) → a ≡ b
 rising_one low [] [] r s same = refl
 rising_one low [] (y ∷ ys) r s same = absurd (none-some y.1 (same y.0 ∙ here y ys))
 rising_one low (x ∷ xs) [] r s same = absurd (none-some x.1 (sym (same x.0) ∙ here x xs))
@@ -50,7 +51,7 @@ rising_one low (x ∷ xs) (y ∷ ys) r s same =
     let e : x.0 ≡ y.0 = neither_below x.0 y.0 (not_lower x y xs ys low s same) (not_lower y x ys xs low r (λ id. sym (same id))) in
     let pattern : x.1 ≡ y.1 = some_is (sym (here x xs) ∙ (same x.0 ∙ (ap (pattern_in (y ∷ ys)) e ∙ here y ys))) in
     let first : x ≡ y = λ i. (e i, pattern i) in
-    let rest = rising_one (suc x.0) xs ys r.1 (subst (λ (n : ℕ). IdsRise (suc n) ys) (sym e) s.1) (λ id. elim (cases_eq x.0 id) [
+    let rest = rising_one (suc x.0) xs ys r.1 (subst (λ (n : ℕ). AreKeysRising (suc n) ys) (sym e) s.1) (λ id. elim (cases_eq x.0 id) [
       | inl is ↦ none_low (suc x.0) id xs r.1 (omega (arith, is)) ∙ sym (none_low (suc y.0) id ys s.1 (omega (arith, is, e)))
       | inr other ↦ sym (past x xs id other) ∙ (same id ∙ past y ys id (λ f. other (e ∙ f)))
     ]) in

@@ -10,13 +10,10 @@ use Rattle.input_desc.specs.Descs.{IsOwnDesc}
 use Rattle.input_desc.specs.Initial.{initial_of}
 use Rattle.input_steps.specs.declared.refused.Refused.{Refused}
 use Rattle.input_steps.specs.declared.refused.Refused.TheVariants.{At, Memory}
-use Rattle.input_steps.proofs.Steps.{then_refused, then_goes}
 use Rattle.desc_steps.specs.Answers.{AnswersAs}
-use Rattle.desc_steps.specs.Ints.{not_built}
 use Rattle.desc_steps.specs.Names.{names_of}
 use Rattle.term_graph.specs.Graphs.{GraphNode}
 use Rattle.graph_check.specs.Filling.{IsFilled}
-use Rattle.cert_check.specs.IntStates.{IsFirstOtherState}
 use Rattle.cert_form.specs.declared.fault.CertFault.{CertFault}
 use Rattle.cert_form.specs.declared.fault.CertFault.TheVariants as certs
 use Rattle.cert_form.specs.Certificates.{CertContent, cert_of, AnswersText}
@@ -28,7 +25,7 @@ use Rattle.cert_check.specs.Laws.{CertifiedRunsEnd}
 use Rattle.cert_check.specs.Valid.{Case, Tells}
 use Rattle.cert_check.specs.Parts.{case_of}
 use Rattle.check_call.specs.declared.outcome.Outcome.{Outcome}
-use Rattle.check_call.specs.Answers.{RefusesStates, FillsInts, IsCertText, AnswersChecked, AnswersContent, AnswersCert}
+use Rattle.check_call.specs.Answers.{IsCertText, AnswersChecked, AnswersContent, AnswersCert}
 use Rattle.check_call.specs.Headline.{Accepts, EndsIfAccepted}
 use Rattle.check_call.specs.Lines.{refused_at}
 use Rattle.check_call.specs.Said.{IsSaid, IsSaidOfText}
@@ -72,26 +69,15 @@ text_said (certs.Json fault) cause result other is s = subst (λ (text : List �
 text_said (certs.Limit place) cause result other is s = subst (λ (text : List ℕ). AnswersAs (refused_at 0 text) result) is s
 text_said certs.Memory cause result other is s = absurd (other refl)
 
-pub refused_ends : (p : Program) (desc : Desc) (refused : Refused) → EndsIfAccepted p desc (Err refused)
-refused_ends p desc refused accepts = absurd accepts
-
 -- ---- what a certificate says
 
-module _ (p : Program) (typing : ℕ → CodeTypes) (desc : Desc) (content : CertContent) where
-  abbrev Next : List GraphNode → Answer → Type 0
-  Next nodes = AnswersChecked (case_of p typing (initial_of p desc) nodes content.cuts content.proof)
-
-  pub filled_goes : (nodes : List GraphNode) (result : Answer) → FillsInts p typing content.parts nodes
-      → AnswersChecked (case_of p typing (initial_of p desc) nodes content.cuts content.proof) result
-      → AnswersContent p typing desc content result
-  filled_goes nodes result f h = then_goes {A = List GraphNode} (FillsInts p typing content.parts)
-      (RefusesStates p typing content.parts) Next nodes result f h
-
-  pub states_refused : (nodes : List GraphNode) (node : ℕ) → IsFilled p typing content.parts nodes → IsFirstOtherState p typing nodes node
-      → AnswersContent p typing desc content (Err not_built)
-  states_refused nodes node filled first =
-      then_refused {A = List GraphNode} (FillsInts p typing content.parts) (RefusesStates p typing content.parts) Next not_built
-      (record { cause = node; place_is = refl; fault_is = refl; holds = record { nodes = nodes; filled = filled; first = first } })
+pub filled_goes : (p : Program) (typing : ℕ → CodeTypes) (desc : Desc) (content : CertContent) (nodes : List GraphNode)
+    (result : Answer) → IsFilled p typing content.parts nodes
+    → AnswersChecked (case_of p typing (initial_of p desc) nodes content.cuts content.proof) result
+    → AnswersContent p typing desc content result
+filled_goes p typing desc content nodes (Ok outcome) filled h = (nodes, (filled, h))
+filled_goes p typing desc content nodes (Err (At place fault)) filled h = h
+filled_goes p typing desc content nodes (Err Memory) filled h = tt
 
 -- ---- the bytes
 
@@ -105,7 +91,7 @@ module _ (cert : List ℕ) (p : Program) (typing : ℕ → CodeTypes) (desc : De
 
       go : (result : Answer) → AnswersContent p typing desc content result → AnswersCert cert p typing desc result
       go (Ok outcome) h = inr (content, (is, h))
-      go (Err (At place fault)) h = (content, (is, h))
+      go (Err (At place fault)) h = h
       go (Err Memory) h = tt
 
   pub text_refused : (names : List (List ℕ)) (fault : CertFault) (result : Answer) → names ≡ names_of p.world

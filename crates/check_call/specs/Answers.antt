@@ -6,35 +6,20 @@ use Rattle.input_desc.specs.declared.desc.Desc.{Desc}
 use Rattle.input_desc.specs.Initial.{initial_of}
 use Rattle.input_steps.specs.declared.refused.Refused.{Refused}
 use Rattle.input_steps.specs.declared.refused.Refused.TheVariants.{At, Memory}
-use Rattle.input_steps.specs.declared.refused.Place.{Place}
-use Rattle.input_steps.specs.declared.refused.Place.TheVariants as places
-use Rattle.input_steps.specs.declared.refused.Fault.{Fault}
-use Rattle.input_steps.specs.declared.refused.Fault.TheVariants as faults
-use Rattle.input_steps.specs.Steps.{IsAt, Then}
 use Rattle.desc_steps.specs.Answers.{OfFiles}
 use Rattle.desc_steps.specs.Names.{names_of}
-use Rattle.term_graph.specs.Graphs.{GraphNode, GraphPart}
+use Rattle.term_graph.specs.Graphs.{GraphNode}
 use Rattle.graph_check.specs.Filling.{IsFilled}
 use Rattle.cert_form.specs.declared.fault.CertFault.{CertFault}
 use Rattle.cert_form.specs.declared.fault.CertFault.TheVariants as certs
 use Rattle.cert_form.specs.Certificates.{CertContent, cert_of, SaysOf, AnswersText}
 use Rattle.cert_form.specs.Faults.{fault_text}
-use Rattle.cert_check.specs.IntStates.{HasIntStates, IsFirstOtherState}
 use Rattle.cert_check.specs.declared.refusal.Cause.{Cause}
 use Rattle.cert_check.specs.Valid.{Case, IsValid, IsFirstFault}
 use Rattle.cert_check.specs.Parts.{case_of}
 use Rattle.check_call.specs.declared.outcome.Outcome.{Outcome}
 use Rattle.check_call.specs.Causes.{cause_text}
 use Rattle.check_call.specs.Lines.{accepted, refused_at}
-
--- the first state of a certificate, filled, that has an expansion and isn't one of ints
-pub record HasOtherState (p : Program) (typing : ℕ → CodeTypes) (parts : List GraphPart) (number : ℕ) : Type 0 where
-  pub nodes : List GraphNode
-  pub filled : IsFilled p typing parts nodes
-  pub first : IsFirstOtherState p typing nodes number
-
-abbrev pub RefusesStates : Program → (ℕ → CodeTypes) → List GraphPart → Place → Fault → Type 0
-RefusesStates p typing parts = IsAt {C = ℕ} (λ node. places.Link) (λ node. faults.NotBuilt) (HasOtherState p typing parts)
 
 -- ---- certificates
 
@@ -56,23 +41,19 @@ AnswersChecked case (Ok outcome) = (IsValid case × (outcome ≡ accepted))
 AnswersChecked case (Err (At place fault)) = ⊥
 AnswersChecked case (Err Memory) = Unit {0}
 
--- the nodes with the states that are left out
-abbrev pub FillsInts : Program → (ℕ → CodeTypes) → List GraphPart → List GraphNode → Type 0
-FillsInts p typing parts nodes = IsFilled p typing parts nodes × HasIntStates p typing nodes
-
--- of what a certificate says: it is filled, and then checked
+-- of what a certificate says: the nodes get the states that are left out, and then it is checked
 abbrev pub AnswersContent : Program → (ℕ → CodeTypes) → Desc → CertContent → Result Outcome Refused → Type 0
-AnswersContent p typing desc content =
-    Then {A = List GraphNode} (FillsInts p typing content.parts) (RefusesStates p typing content.parts)
-    (λ nodes. AnswersChecked (case_of p typing (initial_of p desc) nodes content.cuts content.proof))
+AnswersContent p typing desc content (Ok outcome) = (nodes : List GraphNode) × (IsFilled p typing content.parts nodes
+    × AnswersChecked (case_of p typing (initial_of p desc) nodes content.cuts content.proof) (Ok outcome))
+AnswersContent p typing desc content (Err (At place fault)) = ⊥
+AnswersContent p typing desc content (Err Memory) = Unit {0}
 
 -- of the bytes of a certificate: their first fault is that of item 0
 abbrev pub AnswersCert : List ℕ → Program → (ℕ → CodeTypes) → Desc → Result Outcome Refused → Type 0
 AnswersCert cert p typing desc (Ok outcome) =
     ((fault : CertFault) × (IsCertFault p cert fault × (outcome ≡ refused_at 0 (fault_text fault))))
     ⊎ ((content : CertContent) × (IsCertText p cert content × AnswersContent p typing desc content (Ok outcome)))
-AnswersCert cert p typing desc (Err (At place fault)) = (content : CertContent)
-    × (IsCertText p cert content × AnswersContent p typing desc content (Err (At place fault)))
+AnswersCert cert p typing desc (Err (At place fault)) = ⊥
 AnswersCert cert p typing desc (Err Memory) = Unit {0}
 
 -- of the bytes of a certificate, of a description and of class files: the steps to a program with described inputs, in their order, and then

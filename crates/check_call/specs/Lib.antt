@@ -7,4 +7,3 @@ pub mod OneVerdict
 pub mod FillTexts
 pub mod FillAnswers
 pub mod Said
-pub mod FillWords

@@ -17,9 +17,7 @@ use std::alloc::Global;
 /// # Errors
 ///
 /// The first fault with its place: of a class file, in order; of the description's text; of the classes as a world; of the method's
-/// name; of its program; a cycle of calls; a method without a typing; of the description against the program. At `Link` `NotBuilt`,
-/// before the certificate's form where the program isn't one method about ints alone, and before its item 1 where a state that it gives
-/// has an expansion and isn't one of ints. Want of memory.
+/// name; of its program; a cycle of calls; a method without a typing; of the description against the program. Want of memory.
 pub fn check_line(
     alloc: Global,
     cert: &[u8],

@@ -5,7 +5,6 @@ ghost use Rattle.code_verify.specs.Typings.{IsTypingOf, typing_at};
 ghost use Rattle.input_desc.specs.Descs.{IsOwnDesc, IsGoodDesc};
 ghost use Rattle.input_desc.specs.Initial.{initial_of};
 ghost use Rattle.descent.specs.Conditions.{AreSteps};
-ghost use Rattle.cert_check.specs.IntStates.{HasIntStates};
 ghost use Rattle.cert_form.specs.Certificates.{LackingAreNamed};
 ghost use Rattle.cert_check.specs.Parts.{case_of};
 ghost use Rattle.term_graph.specs.Limits.{most_nodes};
@@ -16,11 +15,11 @@ ghost use Rattle.check_call.specs.Said.{IsSaid, IsSaidOfText};
 use crate::causes::cause_text;
 use crate::outcome::{Outcome, accepted, refused};
 use abs_cells::PackedPairs;
-use cert_check::{Refusal, certified_runs_end, check_cert, first_other_state};
+use cert_check::{Refusal, certified_runs_end, check_cert};
 use cert_form::{CertFault, CertText};
 use class_program::Program;
 use code_verify::Typing;
-use desc_steps::{class_names, not_built};
+use desc_steps::class_names;
 use descent::Proof;
 use graph_fill::fill;
 use input_desc::{Desc, initial};
@@ -56,7 +55,6 @@ fn check_graph(
     requires typing { IsTypingOf (program_of program.now) (typing_at typing.now) }
     requires own { IsOwnDesc (program_of program.now) desc.now }
     requires good { IsGoodDesc (program_of program.now) desc.now }
-    requires ints { HasIntStates (program_of program.now) (typing_at typing.now) graph.old }
     requires few { length graph.old ≤ 2 ^ 32 - 16 }
     requires steps { AreSteps proof.now.steps }
     ensures checked { AnswersChecked
@@ -72,7 +70,7 @@ fn check_graph(
 }
 
 /// What is said of what a certificate says.
-#[tactic(auto, using(crate::proofs::Saying::filled_goes, crate::proofs::Saying::states_refused, crate::proofs::Saying::refused_ends))]
+#[tactic(auto, using(crate::proofs::Saying::filled_goes))]
 fn check_content(
     alloc: Global,
     program: &Program<'_>,
@@ -90,20 +88,15 @@ fn check_content(
     ensures ends { EndsIfAccepted (program_of program.now) desc.now result }
 {
     let mut graph: Graph<PackedPairs> = fill(alloc, program, typing, cert)?;
-    match first_other_state(alloc, program, typing, &mut graph)? {
-        Some(_) => Err(not_built()),
-        None => {
-            check_graph(
-                alloc,
-                program,
-                typing,
-                desc,
-                &mut graph,
-                cert.cuts(),
-                cert.proof(),
-            )
-        }
-    }
+    check_graph(
+        alloc,
+        program,
+        typing,
+        desc,
+        &mut graph,
+        cert.cuts(),
+        cert.proof(),
+    )
 }
 
 /// What is said of bytes that are no certificate, at item 0 with this fault.
@@ -123,7 +116,7 @@ pub fn refuse_text(alloc: Global, fault: CertFault) -> Result<Outcome, Refused>
     }
 }
 
-/// What is said of the bytes of a certificate for a program about ints whose inputs are described.
+/// What is said of the bytes of a certificate for a program whose inputs are described.
 #[tactic(auto, using(crate::proofs::Saying::text_goes, crate::proofs::Saying::text_refused, crate::proofs::Saying::text_ends))]
 pub(crate) fn check_bytes(
     alloc: Global,

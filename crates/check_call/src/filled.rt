@@ -38,8 +38,8 @@ fn fill_content(
     requires few { length cert.now.parts ≤ most_nodes }
     ensures { AnswersContent (program_of program.now) (typing_at typing.now) cert.now result }
 {
-    let graph: Graph<PackedPairs> = fill(alloc, program, typing, cert)?;
-    let out = filled_text(alloc, graph, cert.cuts(), cert.proof(), names)?;
+    let mut graph: Graph<PackedPairs> = fill(alloc, program, typing, cert)?;
+    let out = filled_text(alloc, &mut graph, cert.cuts(), cert.proof(), names)?;
     Ok(Outcome { status: 0, out })
 }
 

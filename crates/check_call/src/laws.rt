@@ -1,8 +1,7 @@
 //! Laws of the answer. These functions do nothing; their contracts are the laws.
 ghost use Rattle.check_call.specs.Laws.{AcceptedEnds, AnswersAreOne};
 
-use cert_check::certified_runs_end;
-use plan_links::links_fit;
+use cert_check::valid_certificates_end;
 
 /// Want of memory aside, a certificate, a description and class files have one answer.
 pub fn answers_are_one()
@@ -14,6 +13,5 @@ pub fn answers_are_one()
 pub fn accepted_ends()
     ensures { AcceptedEnds }
 {
-    links_fit();
-    certified_runs_end();
+    valid_certificates_end();
 }

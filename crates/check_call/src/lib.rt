@@ -10,11 +10,9 @@ mod causes;
 mod certs;
 mod fill;
 mod filled;
-mod form;
 mod laws;
 mod outcome;
 mod verdicts;
-mod whole;
 mod writing;
 
 pub use call::check_line;

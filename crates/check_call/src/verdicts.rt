@@ -1,8 +1,7 @@
 //! The law of verdicts. It is a call that does nothing when it runs.
 ghost use Rattle.check_call.specs.OneVerdict.{VerdictsAreOne};
 
-/// A certificate is valid, or it has one first item that fails, with one cause, and never both: for programs whose instructions are about
-/// ints alone, and graphs each of whose states that has an expansion is one of ints.
+/// A certificate is valid, or it has one first item that fails, with one cause, and never both: of every program and every graph.
 pub fn verdicts_are_one()
     ensures { VerdictsAreOne }
 {}

@@ -1,6 +1,6 @@
-//! Answers the cases of the tables of commands: `link-52`, `jvm-52` and five more of linking, `run`, `run-52`, `check-int`, `check-2-int` and
-//! `prove-int`: each line of the input is the name of a table, a tab and the input fields of a case, divided by tabs. The answer to each comes
-//! on a line of its own.
+//! Answers the cases of the tables of commands: `link-52`, `jvm-52` and five more of linking, `run`, `run-52`, `check`, `check-2`, and four
+//! more of checks, `prove` and `prove-int`: each line of the input is the name of a table, a tab and the input fields of a case, divided by
+//! tabs. The answer to each comes on a line of its own.
 #![tactic(auto)]
 
 mod checks;
@@ -23,8 +23,9 @@ impl Answers for Cases {
             "array-interfaces" | "platform-methods" | "packages" => links::answer(alloc, case),
             "hidden-fields" | "methods-beside" => links::answer(alloc, case),
             "run" | "run-52" => runs::answer(alloc, case),
-            "check-int" | "check-2-int" => checks::answer(alloc, case),
-            "prove-int" => proves::answer(alloc, case),
+            "check" | "check-2" | "check-int" | "check-2-int" => checks::answer(alloc, case),
+            "hostile" | "prefixes" => checks::answer(alloc, case),
+            "prove" | "prove-int" => proves::answer(alloc, case),
             _ => bail!("the table is not known"),
         }
     }

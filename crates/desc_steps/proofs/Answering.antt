@@ -1,6 +1,6 @@
 -- From what each step says to the answer.
 use Rattle.std.proofs.Common.{◌≡◌, ◌∙◌, ◌⊎◌, ℕ, List, Result, Ok, Err, inl, inr, refl, sym, ap, subst}
-use Rattle.std.specs.Prelude.{IfOk, IfErr, IsTrue}
+use Rattle.std.specs.Prelude.{IfOk, IsTrue}
 use Rattle.std.specs.List.{list_all}
 use Rattle.class_base.specs.ClassNames.{is_class_name}
 use Rattle.class_read.specs.Content.{ClassContent}
@@ -13,7 +13,6 @@ use Rattle.frame_types.specs.Tables.{CodeTypes}
 use Rattle.code_verify.specs.Typings.{IsTypingOf, typing_at}
 use Rattle.input_text.specs.declared.texts.DescText.{DescText}
 use Rattle.input_desc.specs.declared.desc.Desc.{Desc}
-use Rattle.input_desc.specs.Descs.{IsOwnDesc, IsGoodDesc}
 use Rattle.input_desc.specs.Entries.{entry_of}
 use Rattle.input_steps.specs.declared.refused.Refused.{Refused}
 use Rattle.input_steps.specs.declared.refused.Refused.TheVariants.{At, Memory}
@@ -24,11 +23,10 @@ use Rattle.input_steps.specs.Classes.{AllSpell, RefusesClasses, IsWorldOf, Refus
 use Rattle.input_steps.specs.Programs.{IsProgramOf, RefusesProgram, IsAcyclic, RefusesCalls, RefusesTypes}
 use Rattle.input_steps.proofs.Steps.{then_refused, then_goes}
 use Rattle.desc_steps.specs.declared.given.DescribedProgram.{DescribedProgram}
-use Rattle.desc_steps.specs.Answers.{OfInputs, OfProgram, OfEntry, OfClasses, OfFiles}
+use Rattle.desc_steps.specs.Answers.{OfProgram, OfEntry, OfClasses, OfFiles}
 use Rattle.desc_steps.specs.Descriptions.{IsDescText, RefusesText, RefusesEntry, IsDesc, RefusesDesc}
-use Rattle.desc_steps.specs.Given.{IsGiven, IsIntDesc, OfWorld}
+use Rattle.desc_steps.specs.Given.{IsGiven, OfWorld}
 use Rattle.desc_steps.specs.Headline.{NameProgram, AllFittingEnd, AllEnd}
-use Rattle.desc_steps.specs.Ints.{IsIntProgram, RefusesOthers, not_built}
 use Rattle.desc_steps.specs.Names.{names_of}
 use Rattle.desc_steps.proofs.Naming.{names_are}
 
@@ -39,7 +37,7 @@ Given = Result DescribedProgram Refused
 
 module _ (text : DescText) (p : Program) where
   abbrev WithDesc : (ℕ → CodeTypes) → Given → Type 0
-  WithDesc typing = Then (IsDesc p text) (RefusesDesc p text) (OfInputs IsGiven p typing)
+  WithDesc typing = Then (IsDesc p text) (RefusesDesc p text) (IsGiven p typing)
 
   abbrev WithTypes : Given → Type 0
   WithTypes = Then {A = ℕ → CodeTypes} (IsTypingOf p) (RefusesTypes p) WithDesc
@@ -62,45 +60,19 @@ module _ (text : DescText) (p : Program) where
   pub desc_is_refused : (typing : ℕ → CodeTypes) (refused : Refused) → IsAcyclic p → IsTypingOf p typing
       → IsCaused (RefusesDesc p text) refused → OfProgram IsGiven text p (Err refused)
   desc_is_refused typing refused a t h = types_good typing (Err refused) a t
-      (then_refused (IsDesc p text) (RefusesDesc p text) (OfInputs IsGiven p typing) refused h)
+      (then_refused (IsDesc p text) (RefusesDesc p text) (IsGiven p typing) refused h)
 
   desc_good : (typing : ℕ → CodeTypes) (desc : Desc) (result : Given) → IsAcyclic p → IsTypingOf p typing → IsDesc p text desc
-      → OfInputs IsGiven p typing desc result → OfProgram IsGiven text p result
+      → IsGiven p typing desc result → OfProgram IsGiven text p result
   desc_good typing desc result a t d h = types_good typing result a t
-      (then_goes (IsDesc p text) (RefusesDesc p text) (OfInputs IsGiven p typing) desc result d h)
-
-  pub others_refused : (typing : ℕ → CodeTypes) (desc : Desc) → IsAcyclic p → IsTypingOf p typing → IsDesc p text desc
-      → (IsIntProgram p → ⊥) → OfProgram IsGiven text p (Err not_built)
-  others_refused typing desc a t d none =
-      desc_good typing desc (Err not_built) a t d
-      (then_refused {A = Unit {0}} (λ nothing. IsIntProgram p) (RefusesOthers p) (λ nothing. IsGiven p typing desc) not_built
-      (record { cause = tt; place_is = refl; fault_is = refl; holds = none }))
-
--- what is given where a program is tested for ints alone
-pub ints_given : (text : DescText) (p : Program) (desc : Desc) (result : Result Desc Refused) → IsDesc p text desc
-    → IsOwnDesc p desc → IsGoodDesc p desc → IfOk result (λ given. (given ≡ desc) × IsIntProgram p) → IfOk result (IsIntDesc p text)
-ints_given text p desc (Ok given) d own good h = subst (IsIntDesc p text) (sym h.0)
-    (record { described = d; own = own; good = good; ints = h.1 })
-ints_given text p desc (Err refused) d own good h = tt
-
-pub ints_refused : (text : DescText) (p : Program) (desc : Desc) (result : Result Desc Refused) → IsDesc p text desc
-    → IfErr result (λ refused. (refused ≡ not_built) × (IsIntProgram p → ⊥))
-    → IfErr result (λ refused. (typing : ℕ → CodeTypes) → IsAcyclic p → IsTypingOf p typing → OfProgram IsGiven text p (Err refused))
-ints_refused text p desc (Ok given) d h = tt
-ints_refused text p desc (Err refused) d h = λ typing a t. subst (λ (r : Refused). OfProgram IsGiven text p (Err r)) (sym h.0)
-    (others_refused text p typing desc a t d h.1)
+      (then_goes (IsDesc p text) (RefusesDesc p text) (IsGiven p typing) desc result d h)
 
 -- all steps give something
 pub program_given : (text : DescText) (given : DescribedProgram) → IsAcyclic (program_of given.program)
     → IsTypingOf (program_of given.program) (typing_at given.typing) → IsDesc (program_of given.program) text given.desc
-    → IsIntProgram (program_of given.program)
     → OfProgram IsGiven text (program_of given.program) (Ok given)
-program_given text given a t d ints =
-    let p = program_of given.program in
-    let typing = typing_at given.typing in
-    desc_good text p typing given.desc (Ok given) a t d
-    (then_goes {A = Unit {0}} (λ nothing. IsIntProgram p) (RefusesOthers p) (λ nothing. IsGiven p typing given.desc) tt (Ok given)
-    ints (refl, (refl, refl)))
+program_given text given a t d = desc_good text (program_of given.program) (typing_at given.typing) given.desc (Ok given) a t d
+    (refl, (refl, refl))
 
 -- ---- an entry
 
@@ -183,25 +155,19 @@ module _ {X Y : Type 0} (from : Result X Refused) (to : Result Y Refused) (turns
 
   module _ (Says : Saying X) (Tells : Saying Y) (on : (p : Program) (typing : ℕ → CodeTypes) (described : Desc)
       → Says p typing described from → Tells p typing described to) where
-    inputs_turned : (p : Program) (typing : ℕ → CodeTypes) (described : Desc) → OfInputs Says p typing described from
-        → OfInputs Tells p typing described to
-    inputs_turned p typing described =
-        then_turned {A = Unit {0}} (λ nothing. IsIntProgram p) (RefusesOthers p) (λ nothing. Says p typing described)
-        (λ nothing. Tells p typing described) (λ nothing ints. on p typing described)
-
     program_turned : (text : DescText) (p : Program) → OfProgram Says text p from → OfProgram Tells text p to
     program_turned text p =
         then_turned {A = Unit {0}} (λ nothing. IsAcyclic p) (RefusesCalls p)
         (λ nothing. Then {A = ℕ → CodeTypes} (IsTypingOf p) (RefusesTypes p)
-        (λ typing. Then {A = Desc} (IsDesc p text) (RefusesDesc p text) (OfInputs Says p typing)))
+        (λ typing. Then {A = Desc} (IsDesc p text) (RefusesDesc p text) (Says p typing)))
         (λ nothing. Then {A = ℕ → CodeTypes} (IsTypingOf p) (RefusesTypes p)
-        (λ typing. Then {A = Desc} (IsDesc p text) (RefusesDesc p text) (OfInputs Tells p typing)))
+        (λ typing. Then {A = Desc} (IsDesc p text) (RefusesDesc p text) (Tells p typing)))
         (λ nothing a.
         then_turned {A = ℕ → CodeTypes} (IsTypingOf p) (RefusesTypes p)
-        (λ typing. Then {A = Desc} (IsDesc p text) (RefusesDesc p text) (OfInputs Says p typing))
-        (λ typing. Then {A = Desc} (IsDesc p text) (RefusesDesc p text) (OfInputs Tells p typing))
-        (λ typing t. then_turned {A = Desc} (IsDesc p text) (RefusesDesc p text) (OfInputs Says p typing) (OfInputs Tells p typing)
-        (λ described d. inputs_turned p typing described)))
+        (λ typing. Then {A = Desc} (IsDesc p text) (RefusesDesc p text) (Says p typing))
+        (λ typing. Then {A = Desc} (IsDesc p text) (RefusesDesc p text) (Tells p typing))
+        (λ typing t. then_turned {A = Desc} (IsDesc p text) (RefusesDesc p text) (Says p typing) (Tells p typing)
+        (λ described d. on p typing described)))
 
     entry_turned : (text : DescText) (world : World) (entry : MethodRef) → OfEntry Says text world entry from
         → OfEntry Tells text world entry to
@@ -265,7 +231,7 @@ names_it desc files given a =
     let calls = program.1.1 in
     let typing = calls.1.1 in
     let described = typing.1.1 in
-    let is = described.1.1.1.1 in
+    let is = described.1.1 in
     let made = program.1.0 in
     let here : entry_of program.0.world text.0.entry ≡ Ok entry.0 = subst (λ (w : World). entry_of w text.0.entry ≡ Ok entry.0)
     (sym made.world_is) entry.1.0 in
@@ -304,13 +270,3 @@ all_end desc files p described named end = record {
   ends = λ state fits. (end state fits).0;
   never_stuck = λ state fits. (end state fits).1;
 }
-
--- ---- where an answer comes from
-
--- a program with its typing and described inputs, of which a command says this
-pub record IsSaidOf {X : Type 0} (Says : Saying X) (desc : List ℕ) (files : List (List ℕ)) (x : X) : Type 0 where
-  pub program : Program
-  pub typing : ℕ → CodeTypes
-  pub described : Desc
-  pub ints : IsIntProgram program
-  pub says : Says program typing described (Ok x)

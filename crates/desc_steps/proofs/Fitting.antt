@@ -1,82 +1,52 @@
--- A description of a program about ints fits some state.
-use Rattle.std.proofs.Common.{◌≡◌, ℕ, zero, suc, ◌+◌, ◌-◌, ◌≤◌, List, [], ◌∷◌, ◌++◌, length, map, replicate, slice_get, Option}
-use Rattle.std.proofs.Common.{Some, None, refl, ap, sym, ◌∙◌, subst, arith, append-nil, length-append}
-use Rattle.std.proofs.lemmas.List.{length-replicate, length-map}
-use Rattle.std.proofs.lemmas.List.Elements.{All-nil, length_all_zip}
-use Rattle.std.specs.Int.Signed.{◌≤ℤ◌, ≤ℤ_refl}
-use Rattle.std.specs.List.{AllZip}
+-- Some state fits a description exactly where each of its inputs can be given.
+use Rattle.std.proofs.Common.{◌≡◌, ◌∙◌, ◌+◌, ◌-◌, ◌≤◌, ℕ, List, [], ◌∷◌, ◌++◌, length, map, take, drop, replicate, slice_get}
+use Rattle.std.proofs.Common.{Option, Some, None, inl, inr, refl, sym, ap, subst, arith, length-append}
+use Rattle.std.specs.List.{AllZip, AllByRecursion}
+use Rattle.std.specs.Option.{option_map_or}
+use Rattle.std.proofs.lemmas.List.{length-map, length-replicate, length-take-le, take-append-drop}
+use Rattle.std.proofs.lemmas.List.Elements.{All-from_recursion, recursion_from_All, length_all_zip}
+use Rattle.std.proofs.lemmas.Slice.Zip.{AllZip-long}
 use Rattle.list_views.proofs.Options.{both_none}
-use Rattle.lin_core.specs.Intervals.{Bounds}
+use Rattle.list_views.proofs.Quantified.{all_at}
 use Rattle.jvm_values.specs.declared.heap.Heap.{Heap}
+use Rattle.jvm_values.specs.declared.heap.Object.{Object}
+use Rattle.jvm_values.specs.declared.heap.Object.TheVariants.{Instance, Nums, Refs}
 use Rattle.jvm_values.specs.declared.heap.Value.{Value}
 use Rattle.jvm_values.specs.declared.heap.Value.TheVariants as values
 use Rattle.jvm_values.specs.declared.state.Mode.TheVariants.{Normal}
-use Rattle.jvm_values.specs.declared.types.Kind.TheVariants as kinds
-use Rattle.jvm_values.specs.declared.types.Slot.{Slot}
-use Rattle.jvm_values.specs.declared.types.Slot.TheVariants.{Num}
 use Rattle.jvm_values.specs.declared.typing.PlaceType.TheVariants as holding
-use Rattle.jvm_values.specs.Heaps.{target}
-use Rattle.jvm_values.specs.States.{MachineFrame, MachineState}
-use Rattle.jvm_values.specs.TypedHeaps.{WorldTypes, Holds, IsTypedObject}
+use Rattle.jvm_values.specs.Heaps.{target, Region}
+use Rattle.jvm_values.specs.States.{MachineFrame, MachineState, locals_from}
+use Rattle.jvm_values.specs.TypedHeaps.{WorldTypes, type_of, Holds, IsTypedObject, IsTypedHeap}
 use Rattle.class_world.specs.World.{World}
+use Rattle.class_world.specs.WorldLaws.{world_laws}
 use Rattle.class_world.specs.WorldTypes.{types_of}
 use Rattle.class_program.specs.declared.program.Method.{Method}
 use Rattle.class_program.specs.Programs.{Program, IsClosed}
+use Rattle.class_program.proofs.GoodPrograms.{good_program}
 use Rattle.code_verify.specs.Operands.{place_of}
 use Rattle.code_verify.specs.Typings.{entry_frame, IsTyping}
 use Rattle.frame_types.specs.Places.{IsWithin}
 use Rattle.frame_types.specs.Tables.{CodeTypes}
 use Rattle.input_text.specs.declared.fault.DescFault.TheVariants.{ParamCount, StaticCount}
 use Rattle.input_text.specs.declared.texts.DescText.{DescText}
-use Rattle.input_text.specs.declared.texts.InputText.{InputText}
 use Rattle.input_desc.specs.declared.desc.Input.{Input}
 use Rattle.input_desc.specs.declared.desc.Input.TheVariants.{Int, Ref}
 use Rattle.input_desc.specs.declared.desc.Desc.{Desc}
-use Rattle.input_desc.specs.Descs.{desc_fault, inputs_from}
-use Rattle.input_desc.specs.Fitting.{FitsInput, FitsDescription}
-use Rattle.input_desc.specs.Given.{params_of, statics_of}
+use Rattle.input_desc.specs.Descs.{desc_fault, IsDescribed}
+use Rattle.input_desc.specs.Fitting.{FitsInput, IsListed, FitsDescription}
+use Rattle.input_desc.specs.Given.{params_of, statics_of, argument_slot, slots_of}
 use Rattle.input_desc.proofs.Faultless.{counted}
 use Rattle.input_desc.proofs.GoodDescs.{texts_count}
+use Rattle.input_desc.proofs.TypedInputs.{split}
+use Rattle.input_desc.proofs.Wider.{Laws}
+use Rattle.input_root.proofs.Holding.{all_hold}
 use Rattle.input_steps.specs.Programs.{HasTypings}
-use Rattle.desc_steps.specs.Headline.{NameProgram}
+use Rattle.desc_steps.specs.Givable.{HasObjects, CanBeGiven}
 use Rattle.desc_steps.specs.Laws.{SomeStateFits}
-use Rattle.desc_steps.proofs.IntForms.{IsOnly, only_one}
-use Rattle.desc_steps.proofs.IntInputs.{IsInterval, AreIntervals, described_intervals, no_fields, slots_are_ints}
-
--- ---- the least inputs
-
--- the least int of each interval
-abbrev lowest : List Input → List Value
-lowest [] = []
-lowest (Int bounds ∷ inputs) = values.Int bounds.lo ∷ lowest inputs
-lowest (Ref ty null shape ∷ inputs) = values.Null ∷ lowest inputs
-
-length-lowest : (inputs : List Input) → length (lowest inputs) ≡ length inputs
-length-lowest [] = refl
-length-lowest (Int bounds ∷ inputs) = ap suc (length-lowest inputs)
-length-lowest (Ref ty null shape ∷ inputs) = ap suc (length-lowest inputs)
-
-low_is_in : (bounds : Bounds) → IsInterval (Int bounds) → bounds.lo ≤ℤ bounds.hi
-low_is_in bounds i =
-    let same : i.bounds ≡ bounds = (let e = i.is in cc) in
-    subst (λ (b : Bounds). b.lo ≤ℤ b.hi) same i.some
-
-lowest_fit : (types : WorldTypes) (heap : Heap) (inputs : List Input) → AreIntervals inputs
-    → AllZip (FitsInput types heap) inputs (lowest inputs)
-lowest_fit types heap [] are = tt
-lowest_fit types heap (Int bounds ∷ inputs) are =
-    ((bounds.lo, (refl, (≤ℤ_refl bounds.lo, low_is_in bounds are.0))), lowest_fit types heap inputs are.1)
-lowest_fit types heap (Ref ty null shape ∷ inputs) are = absurd (let e = are.0.is in cc)
-
--- none of them is a reference
-untargeted : (inputs : List Input) (i : ℕ) (v : Value) (o : ℕ) → slice_get (lowest inputs) i ≡ Some v → target v ≡ Some o → ⊥
-untargeted [] i v o e t = absurd (cc)
-untargeted (Int bounds ∷ inputs) zero v o e t = let same : values.Int bounds.lo ≡ v = cc in let none : None ≡ Some o = ap target
-    same ∙ t in cc
-untargeted (Int bounds ∷ inputs) (suc i) v o e t = untargeted inputs i v o e t
-untargeted (Ref ty null shape ∷ inputs) zero v o e t = let same : values.Null ≡ v = cc in let none : None ≡ Some o = ap target same
-    ∙ t in cc
-untargeted (Ref ty null shape ∷ inputs) (suc i) v o e t = untargeted inputs i v o e t
+use Rattle.desc_steps.proofs.BareHeaps.{heap_of, region_is, every_shape}
+use Rattle.desc_steps.proofs.GivenValues.{have_ints, values_from, objects_for, all_typed, all_bare, all_fit}
+use Rattle.desc_steps.proofs.GivenValues.{names_place}
 
 -- ---- counts
 
@@ -92,28 +62,6 @@ counts p text e =
           StaticCount b.0,
     )
 
-as_many : (world : World) (n : ℕ) (texts' : List InputText) (inputs : List Input) → length texts' ≡ n
-    → map Some inputs ≡ inputs_from world (replicate n (Num kinds.Int)) texts' → length inputs ≡ n
-as_many world zero texts' [] l e = refl
-as_many world zero texts' (input ∷ inputs) l e = absurd (cc)
-as_many world (suc n) [] inputs l e = absurd (omega arith)
-as_many world (suc n) (text ∷ texts') [] l e = absurd (cc)
-as_many world (suc n) (text ∷ texts') (input ∷ inputs) l e =
-    let rest : map Some inputs ≡ inputs_from world (replicate n (Num kinds.Int)) texts' = cc in
-    ap suc (as_many world n texts' inputs (omega arith) rest)
-
-described_count : (desc : List ℕ) (files : List (List ℕ)) (p : Program) (described : Desc) (only : IsOnly p.methods)
-    → NameProgram files desc p described → length described.inputs ≡ length only.method.params
-described_count desc files p described only named =
-    let text = named.text in
-    let many : ℕ = length only.method.params in
-    let slots = slots_are_ints p named.closed only in
-    let c = counts p text named.faultless in
-    let said : length (text.params ++ text.statics) ≡ many = texts_count p text c.0 c.1 ∙ ap length slots
-    ∙ length-replicate many (Num kinds.Int) in
-    as_many p.world many (text.params ++ text.statics) described.inputs said
-    (named.is_described.inputs_are ∙ ap (λ (found : List Slot). inputs_from p.world found (text.params ++ text.statics)) slots)
-
 -- the parameters of a method with a typing fit in the locals
 params_fit : (p : Program) (method : Method) (typing : CodeTypes) → IsTyping p method typing → length method.params ≤ method.max_locals
 params_fit p method typing typed =
@@ -121,78 +69,154 @@ params_fit p method typing typed =
     let types : WorldTypes = types_of p.world in
     let same = length_all_zip (IsWithin types) (entry_frame types method).locals entry.there.locals entry.wide.locals in
     let wide : length entry.there.locals ≡ method.max_locals = (typed.each 0 entry.there entry.is_there).limits.proper.count in
-    let split : length (entry_frame types method).locals ≡ length (map (place_of types) method.params) + length
+    let parts : length (entry_frame types method).locals ≡ length (map (place_of types) method.params) + length
     (replicate (method.max_locals - length method.params) holding.Unset) = length-append _ _ in
     let front : length (map (place_of types) method.params) ≡ length method.params = length-map method.params (place_of types) in
-    omega (arith, same, wide, split, front)
+    omega (arith, same, wide, parts, front)
 
-only_typed : (p : Program) (only : IsOnly p.methods) → HasTypings p → length only.method.params ≤ only.method.max_locals
-only_typed p only typings =
-    let first : slice_get p.methods 0 ≡ Some only.method = ap (λ (methods : List Method). slice_get methods 0) only.only in
-    params_fit p only.method (typings.0 0) (typings.1.each 0 only.method first).is_typing
-
--- ---- the state
-
-abbrev locals_of : List Value → ℕ → List (Option Value)
-locals_of args max_locals = map Some args ++ replicate (max_locals - length args) None
-
-locals_length : (args : List Value) (max_locals : ℕ) → length args ≤ max_locals → length (locals_of args max_locals) ≡ max_locals
+locals_length : (args : List Value) (max_locals : ℕ) → length args ≤ max_locals
+    → length (locals_from Some None max_locals args) ≡ max_locals
 locals_length args max_locals fits =
-    let split : length (locals_of args max_locals) ≡ length (map Some args) + length
+    let parts : length (locals_from Some None max_locals args) ≡ length (map Some args) + length
     (replicate {A = Option Value} (max_locals - length args) None) = length-append _ _ in
     let front : length (map Some args) ≡ length args = length-map args Some in
     let back : length (replicate {A = Option Value} (max_locals - length args) None) ≡ max_locals - length args = length-replicate
     (max_locals - length args) None in
-    omega (arith, split, front, back, fits)
+    omega (arith, parts, front, back, fits)
 
-abbrev empty : Heap
-empty = record { objects = [] }
+-- ---- a state of given inputs
 
-abbrev frame_of : List Value → Method → MachineFrame
-frame_of args method = record { method = 0; pc = 0; locals = locals_of args method.max_locals; stack = [] }
+module _ (p : Program) (text : DescText) (described : Desc) (closed : IsClosed p) (faultless : desc_fault p text ≡ None)
+    (is : IsDescribed p text described) (typings : HasTypings p) (can : AllByRecursion (CanBeGiven p.world) described.inputs) where
+  laws : Laws p.world
+  laws = world_laws p.world closed.known.linked
 
-abbrev state_of : List Value → Method → MachineState
-state_of args method = record { frames = frame_of args method ∷ []; heap = empty; mode = Normal; statics = [] }
+  abbrev method : Method
+  method = (good_program p closed).first.0
 
-fits_state : (p : Program) (described : Desc) (closed : IsClosed p) (only : IsOnly p.methods) → HasTypings p
-    → AreIntervals described.inputs → length described.inputs ≡ length only.method.params
-    → FitsDescription p described (state_of (lowest described.inputs) only.method)
-fits_state p described closed only typings are many =
-    let args : List Value = lowest described.inputs in
-    let types : WorldTypes = types_of p.world in
-    let alone : args ++ [] ≡ args = append-nil args in
-    let count : length args ≡ length only.method.params = length-lowest described.inputs ∙ many in
-    let room = only_typed p only typings in
-    record {
-      method = only.method;
-      entry = ap (λ (methods : List Method). slice_get methods 0) only.only;
-      args = args;
-      frame = frame_of args only.method;
-      one = refl;
-      start = record {
-        number = refl;
-        place = refl;
-        locals = refl;
-        room = locals_length args only.method.max_locals
-            (omega (arith, count, room));
-        stack = refl;
-      };
-      normal = refl;
-      count = count;
-      statics = subst (λ (slots : List Slot). AllZip (Holds types empty) slots []) (sym (no_fields p closed only)) tt;
-      typed = All-nil (IsTypedObject types empty);
-      inputs = subst (AllZip (FitsInput types empty) described.inputs) (sym alone) (lowest_fit types empty described.inputs are);
-      same = λ i j o v w other first second t u. absurd
-          (untargeted described.inputs i v o (subst (λ (given : List Value). slice_get given i ≡ Some v) alone first) t);
-      share = λ i j o v w other first second t u. absurd
-          (untargeted described.inputs i v t.start (subst (λ (given : List Value). slice_get given i ≡ Some v) alone first) t.names);
-    }
+  is_entry : slice_get p.methods 0 ≡ Some method
+  is_entry = (good_program p closed).first.1
+
+  params_are : params_of p ≡ method.params
+  params_are = ap (λ (o : Option Method). option_map_or (λ (m : Method). m.params) o []) is_entry
+
+  abbrev objects : List Object
+  objects = objects_for p.world described.inputs can
+
+  abbrev new_heap : Heap
+  new_heap = heap_of objects
+
+  abbrev all : List Value
+  all = values_from p.world 0 described.inputs can
+
+  abbrev count : ℕ
+  count = length (map argument_slot (params_of p))
+
+  abbrev args : List Value
+  args = take count all
+
+  abbrev statics : List Value
+  statics = drop count all
+
+  joined : args ++ statics ≡ all
+  joined = take-append-drop count all
+
+  texts_are : length (text.params ++ text.statics) ≡ length (slots_of p)
+  texts_are = let c = counts p text faultless in texts_count p text c.0 c.1
+
+  fit : AllZip (FitsInput (types_of p.world) new_heap) described.inputs all
+  fit = all_fit p.world new_heap laws (every_shape objects (all_bare p.world described.inputs can)) 0 described.inputs can
+      (have_ints p.world (slots_of p) (text.params ++ text.statics) described.inputs is.inputs_are)
+      (λ k. let same : k + 0 ≡ k = omega arith in ap (slice_get objects) same)
+
+  hold : AllZip (Holds (types_of p.world) new_heap) (slots_of p) all
+  hold = all_hold p.world new_heap (slots_of p) (text.params ++ text.statics) described.inputs all laws texts_are is.inputs_are fit
+
+  many : length args ≡ count
+  many =
+      let long = AllZip-long (Holds (types_of p.world) new_heap) (slots_of p) all hold in
+      let parts : length (slots_of p) ≡ count + length (statics_of p) = length-append (map argument_slot (params_of p)) (statics_of p) in
+      length-take-le count all (omega (arith, long, parts))
+
+  as_many : length args ≡ length method.params
+  as_many = many ∙ (length-map (params_of p) argument_slot ∙ ap length params_are)
+
+  room : length args ≤ method.max_locals
+  room =
+      let fits = params_fit p method (typings.0 0) (typings.1.each 0 method is_entry).is_typing in
+      let long = as_many in
+      omega (arith, fits, long)
+
+  abbrev frame : MachineFrame
+  frame = record { method = 0; pc = 0; locals = locals_from Some None method.max_locals args; stack = [] }
+
+  abbrev state : MachineState
+  state = record { frames = frame ∷ []; heap = new_heap; mode = Normal; statics = statics }
+
+  -- the object that an input names has its number
+  place_of_value : (i o : ℕ) (v : Value) → slice_get (args ++ statics) i ≡ Some v → target v ≡ Some o → o ≡ i
+  place_of_value i o v e t =
+      let at = names_place p.world 0 described.inputs can i o v (ap (λ (vs : List Value). slice_get vs i) (sym joined) ∙ e) t in
+      omega (arith, at)
+
+  -- and nothing else is reached from it
+  place_of_region : (i o : ℕ) (v : Value) → slice_get (args ++ statics) i ≡ Some v → Region new_heap v o → o ≡ i
+  place_of_region i o v e r = place_of_value i o v e (region_is objects (all_bare p.world described.inputs can) v o r)
+
+  state_fits : FitsDescription p described state
+  state_fits = record {
+    method = method;
+    entry = is_entry;
+    args = args;
+    frame = frame;
+    one = refl;
+    start = record { number = refl; place = refl; locals = refl; room = locals_length args method.max_locals room; stack = refl };
+    normal = refl;
+    count = as_many;
+    statics = (split (Holds (types_of p.world) new_heap) (map argument_slot (params_of p)) (statics_of p) args statics many
+        (subst (AllZip (Holds (types_of p.world) new_heap) (slots_of p)) (sym joined) hold)).1;
+    typed = All-from_recursion (IsTypedObject (types_of p.world) new_heap) objects (all_typed p.world new_heap described.inputs can laws);
+    inputs = subst (AllZip (FitsInput (types_of p.world) new_heap) described.inputs) (sym joined) fit;
+    same = λ i j o v w other first second t u.
+        let a = place_of_value i o v first t in let b = place_of_value j o w second u in absurd (other (omega (arith, a, b)));
+    share = λ i j o v w other first second r s.
+        let a = place_of_region i o v first r in let b = place_of_region j o w second s in absurd (other (omega (arith, a, b)));
+  }
+
+-- ---- what a state that fits gives
+
+has_objects : (world : World) (heap : Heap) (object : Object) → IsTypedObject (types_of world) heap object
+    → HasObjects world (type_of object)
+has_objects world heap (Instance class fields) typed = λ e. typed.1.0
+has_objects world heap (Nums kind items) typed = λ e. absurd (omega (arith, e))
+has_objects world heap (Refs element items) typed = λ e. absurd (omega (arith, e))
+
+can_be : (world : World) (heap : Heap) (input : Input) (value : Value) → IsTypedHeap (types_of world) heap
+    → FitsInput (types_of world) heap input value → CanBeGiven world input
+can_be world heap (Int bounds) value typed h = tt
+can_be world heap (Ref ty null shape) (values.Int n) typed h = absurd h.1.0
+can_be world heap (Ref ty null shape) values.Null typed h = inl (h.0 refl)
+can_be world heap (Ref ty null shape) (values.Ref r) typed h =
+    let there = h.1.0 in
+    let is = all_at (IsTypedObject (types_of world) heap) heap.objects r there.0 typed there.1.0 in
+    inr (type_of there.0, (there.1.1, has_objects world heap there.0 is))
+
+all_can : (world : World) (heap : Heap) (inputs : List Input) (given : List Value) → IsTypedHeap (types_of world) heap
+    → AllZip (FitsInput (types_of world) heap) inputs given → AllByRecursion (CanBeGiven world) inputs
+all_can world heap [] given typed h = tt
+all_can world heap (input ∷ inputs) [] typed h = absurd h
+all_can world heap (input ∷ inputs) (value ∷ given) typed h =
+    (can_be world heap input value typed h.0, all_can world heap inputs given typed h.1)
+
+-- ---- the law
 
 pub some_fits : SomeStateFits
-some_fits desc files p described named ints typings =
-    let only = only_one p.methods ints in (
-      state_of (lowest described.inputs) only.method,
-      fits_state p described named.closed only typings
-          (described_intervals p named.closed only named.text described named.is_described)
-          (described_count desc files p described only named),
-    )
+some_fits desc files p described named typings = (
+  λ can.
+      let each = recursion_from_All (CanBeGiven p.world) described.inputs can in (
+        state p named.text described named.closed named.faultless named.is_described typings each,
+        state_fits p named.text described named.closed named.faultless named.is_described typings each,
+      ),
+  λ h. All-from_recursion (CanBeGiven p.world) described.inputs
+      (all_can p.world h.0.heap described.inputs (h.1.args ++ h.0.statics) h.1.typed h.1.inputs),
+)

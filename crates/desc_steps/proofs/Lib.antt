@@ -1,7 +1,7 @@
 pub mod Answering
+pub mod BareHeaps
 pub mod Fitting
-pub mod IntForms
-pub mod IntInputs
+pub mod GivenValues
 pub mod NamedOnce
 pub mod Naming
 pub mod OneAnswer

@@ -27,9 +27,8 @@ use Rattle.input_steps.specs.Programs.{IsProgramOf, RefusesProgram, IsAcyclic, R
 use Rattle.input_steps.proofs.OneAnswer.{map_some_one, IsExact, IsOne, at_one, then_one, none_some, classes_exact, world_exact}
 use Rattle.input_steps.proofs.OneAnswer.{program_exact, calls_exact, types_exact}
 use Rattle.input_steps.proofs.OneText.{said_exact, text_exact}
-use Rattle.desc_steps.specs.Answers.{OfInputs, OfProgram, OfEntry, OfClasses, OfFiles}
+use Rattle.desc_steps.specs.Answers.{OfProgram, OfEntry, OfClasses, OfFiles}
 use Rattle.desc_steps.specs.Descriptions.{IsDescText, RefusesText, RefusesEntry, IsDesc, RefusesDesc}
-use Rattle.desc_steps.specs.Ints.{IsIntProgram, RefusesOthers}
 
 -- ---- what is described
 
@@ -65,30 +64,16 @@ typing_exact p linked = record {
   named = (types_exact p).named;
 }
 
--- ---- programs that are built so far
-
-others_exact : (p : Program) → IsExact {A = Unit {0}} (λ nothing. IsIntProgram p) (RefusesOthers p)
-others_exact p = record {
-  one = λ a b h k. refl;
-  apart = λ nothing place fault h r. r.holds h;
-  named = at_one {C = Unit {0}} (λ nothing. places.Link) (λ nothing. faults.NotBuilt) (λ nothing. IsIntProgram p → ⊥) (λ f g h k. refl);
-}
-
 -- ---- the whole
 
 module _ {X : Type 0} (Says : Program → (ℕ → CodeTypes) → Desc → Result X Refused → Type 0)
-    (one : (p : Program) (typing : ℕ → CodeTypes) (described : Desc) → IsIntProgram p → IsOne (Says p typing described)) where
-  inputs_one : (p : Program) (typing : ℕ → CodeTypes) (described : Desc) → IsOne (OfInputs Says p typing described)
-  inputs_one p typing described =
-      then_one {A = Unit {0}} (λ nothing. IsIntProgram p) (RefusesOthers p) (λ nothing. Says p typing described) (others_exact p)
-      (λ nothing ints. one p typing described ints)
-
+    (one : (p : Program) (typing : ℕ → CodeTypes) (described : Desc) → IsOne (Says p typing described)) where
   program_one : (text : DescText) (p : Program) → IsClosed p → IsOne (OfProgram Says text p)
   program_one text p closed =
       then_one {A = Unit {0}} (λ nothing. IsAcyclic p) (RefusesCalls p) _ (calls_exact p) (λ nothing a.
       then_one {A = ℕ → CodeTypes} (IsTypingOf p) (RefusesTypes p) _ (typing_exact p closed.known.linked) (λ typing t.
-      then_one (IsDesc p text) (RefusesDesc p text) (OfInputs Says p typing) (desc_exact p text)
-      (λ described h. inputs_one p typing described)))
+      then_one (IsDesc p text) (RefusesDesc p text) (Says p typing) (desc_exact p text)
+      (λ described h. one p typing described)))
 
   entry_one : (text : DescText) (world : World) (entry : MethodRef) → IsOne (OfEntry Says text world entry)
   entry_one text world entry =

@@ -16,20 +16,14 @@ use Rattle.input_steps.specs.Steps.{Then}
 use Rattle.input_steps.specs.Classes.{AllSpell, RefusesClasses, IsWorldOf, RefusesWorld}
 use Rattle.input_steps.specs.Programs.{IsProgramOf, RefusesProgram, IsAcyclic, RefusesCalls, RefusesTypes}
 use Rattle.desc_steps.specs.Descriptions.{IsDescText, RefusesText, RefusesEntry, IsDesc, RefusesDesc}
-use Rattle.desc_steps.specs.Ints.{IsIntProgram, RefusesOthers}
 
--- of a program with its typing and described inputs: whether it is built so far, and then what the command says of it
-abbrev pub OfInputs : {X : Type 0} → (Program → (ℕ → CodeTypes) → Desc → Result X Refused → Type 0) → Program → (ℕ → CodeTypes)
-    → Desc → Result X Refused → Type 0
-OfInputs {X} Says p typing desc = Then {A = Unit {0}} {X = X} (λ nothing. IsIntProgram p) (RefusesOthers p) (λ nothing. Says p typing desc)
-
--- of a program: its calls, its types, and what the description says of its inputs
+-- of a program: its calls, its types, and what the description says of its inputs; and then what the command says of it
 abbrev pub OfProgram : {X : Type 0} → (Program → (ℕ → CodeTypes) → Desc → Result X Refused → Type 0) → DescText → Program
     → Result X Refused → Type 0
 OfProgram {X} Says text p =
     Then {A = Unit {0}} {X = X} (λ nothing. IsAcyclic p) (RefusesCalls p) (λ nothing.
     Then {A = ℕ → CodeTypes} {X = X} (IsTypingOf p) (RefusesTypes p) (λ typing.
-    Then {A = Desc} {X = X} (IsDesc p text) (RefusesDesc p text) (OfInputs Says p typing)))
+    Then {A = Desc} {X = X} (IsDesc p text) (RefusesDesc p text) (Says p typing)))
 
 -- of an entry: its program
 abbrev pub OfEntry : {X : Type 0} → (Program → (ℕ → CodeTypes) → Desc → Result X Refused → Type 0) → DescText → World → MethodRef

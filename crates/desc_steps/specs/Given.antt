@@ -1,4 +1,4 @@
--- What the shared steps give: a program about ints with its typing and described inputs.
+-- What the shared steps give: a program with its typing and described inputs.
 use Rattle.std.specs.Prelude.{◌≡◌, ℕ, Result, Ok, Err}
 use Rattle.class_world.specs.World.{World}
 use Rattle.class_world.specs.declared.world.MethodRef.{MethodRef}
@@ -14,12 +14,10 @@ use Rattle.input_steps.specs.declared.refused.Refused.{Refused}
 use Rattle.input_steps.specs.declared.refused.Refused.TheVariants.{At, Memory}
 use Rattle.input_steps.specs.Programs.{IsAcyclic}
 use Rattle.input_steps.specs.Steps.{Then}
-use Rattle.abs_expand.specs.IntForms.{HasIntForms}
 use Rattle.desc_steps.specs.declared.given.DescribedProgram.{DescribedProgram}
 use Rattle.desc_steps.specs.declared.given.TypedDesc.{TypedDesc}
 use Rattle.desc_steps.specs.Answers.{OfEntry}
 use Rattle.desc_steps.specs.Descriptions.{IsDesc, RefusesEntry}
-use Rattle.desc_steps.specs.Ints.{IsIntProgram}
 
 -- it is given, with its typing and what is described
 abbrev pub IsGiven : Program → (ℕ → CodeTypes) → Desc → Result DescribedProgram Refused → Type 0
@@ -32,22 +30,16 @@ abbrev pub OfWorld : DescText → World → Result DescribedProgram Refused → 
 OfWorld text world = Then {A = MethodRef} {X = DescribedProgram} (λ entry. entry_of world text.entry ≡ Ok entry)
     (RefusesEntry world text) (OfEntry IsGiven text world)
 
--- it is such as the calls over ints take
+-- it is such as checks and searches take
 pub record IsReady (given : DescribedProgram) : Type 0 where
-  pub forms : HasIntForms (program_of given.program)
   pub typing : IsTypingOf (program_of given.program) (typing_at given.typing)
   pub own : IsOwnDesc (program_of given.program) given.desc
   pub good : IsGoodDesc (program_of given.program) given.desc
 
--- it is described of the inputs of a program about ints alone
-pub record IsIntDesc (p : Program) (text : DescText) (desc : Desc) : Type 0 where
-  pub described : IsDesc p text desc
-  pub own : IsOwnDesc p desc
-  pub good : IsGoodDesc p desc
-  pub ints : IsIntProgram p
-
--- the program's calls have no cycle, its places have these types, and it is about ints alone, its inputs described so
+-- the program's calls have no cycle, its places have these types, and its inputs are described so
 pub record IsTyped (p : Program) (text : DescText) (typed : TypedDesc) : Type 0 where
   pub acyclic : IsAcyclic p
   pub typing : IsTypingOf p (typing_at typed.typing)
-  pub desc : IsIntDesc p text typed.desc
+  pub described : IsDesc p text typed.desc
+  pub own : IsOwnDesc p typed.desc
+  pub good : IsGoodDesc p typed.desc

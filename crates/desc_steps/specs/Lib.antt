@@ -1,6 +1,6 @@
 pub mod Headline
 pub mod Descriptions
-pub mod Ints
+pub mod Givable
 pub mod Names
 pub mod Answers
 pub mod Laws

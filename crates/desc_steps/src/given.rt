@@ -1,5 +1,5 @@
-//! From bytes to a program about ints whose inputs are described.
-ghost use Rattle.std.specs.Prelude.{◌≡◌, ◌≤◌, ℕ, length, map, Err, IfOk, IfErr, IsTrue};
+//! From bytes to a program whose inputs are described.
+ghost use Rattle.std.specs.Prelude.{◌≤◌, length, map, Err, IfOk, IfErr, IsTrue};
 ghost use Rattle.std.specs.List.{AllByRecursion, list_all};
 ghost use Rattle.class_base.specs.ClassNames.{is_class_name};
 ghost use Rattle.class_base.specs.Limits.{most_classes};
@@ -8,16 +8,13 @@ ghost use Rattle.class_world.specs.Resolve.{has_body};
 ghost use Rattle.class_world.specs.Worlds.{classes_of};
 ghost use Rattle.class_program.specs.Views.{program_of};
 ghost use Rattle.code_verify.specs.Typings.{IsTypingOf, typing_at};
-ghost use Rattle.frame_types.specs.Tables.{CodeTypes};
 ghost use Rattle.input_steps.specs.Programs.{IsAcyclic};
 ghost use Rattle.desc_steps.specs.Answers.{OfProgram, OfEntry, OfClasses, OfFiles};
-ghost use Rattle.desc_steps.specs.Given.{IsGiven, IsIntDesc, IsReady, IsTyped, OfWorld};
+ghost use Rattle.desc_steps.specs.Given.{IsGiven, IsReady, IsTyped, OfWorld};
 ghost use Rattle.desc_steps.specs.Headline.{NameProgram};
-ghost use Rattle.desc_steps.specs.Ints.{IsIntProgram, not_built};
 ghost use Rattle.desc_steps.specs.Names.{names_of};
 
 use crate::description::{described, entry_of, read_desc};
-use crate::ints::{is_int_program, not_built};
 use class_program::Program;
 use class_read::ClassView;
 use class_world::{MethodRef, World};
@@ -27,7 +24,7 @@ use input_steps::{Refused, close, link, read_classes, test_calls, typings};
 use input_text::DescText;
 use std::alloc::Global;
 
-/// A program about ints alone with its typing, and what is described of its inputs.
+/// A program with its typing, and what is described of its inputs.
 #[derive(Drop)]
 pub struct DescribedProgram<'a> {
     /// The program.
@@ -45,31 +42,6 @@ pub(crate) struct TypedDesc {
     pub(crate) desc: Desc,
 }
 
-/// What is described of a program's inputs, where the program is about ints alone.
-fn ints_alone(program: &Program<'_>, desc: Desc) -> Result<Desc, Refused>
-    ensures given { IfOk result (λ given. (given ≡ desc) × IsIntProgram (program_of program.now)) }
-    ensures refused { IfErr result (λ refused. (refused ≡ not_built) × (IsIntProgram (program_of program.now) → ⊥)) }
-{
-    if is_int_program(program) {
-        Ok(desc)
-    } else {
-        Err(not_built())
-    }
-}
-
-/// What a description says of the inputs of a program about ints alone.
-#[tactic(auto, using(crate::proofs::Answering::desc_is_refused, crate::proofs::Answering::ints_given))]
-fn int_desc(alloc: Global, text: DescText, program: &Program<'_>) -> Result<Desc, Refused>
-    ensures given { IfOk result (λ desc. IsIntDesc (program_of program.now) text desc) }
-    ensures refused { IfErr result (λ refused. (typing : ℕ → CodeTypes) → IsAcyclic (program_of program.now)
-        → IsTypingOf (program_of program.now) typing → OfProgram IsGiven text (program_of program.now) (Err refused)) }
-{
-    match described(alloc, program, text) {
-        Ok(desc) => ints_alone(program, desc),
-        Err(refused) => Err(refused),
-    }
-}
-
 /// The types of the places of a program whose calls have no cycle.
 #[tactic(auto, using(crate::proofs::Answering::calls_refused, crate::proofs::Answering::types_refused))]
 fn typing_of(alloc: Global, program: &Program<'_>) -> Result<Typing, Refused>
@@ -84,6 +56,7 @@ fn typing_of(alloc: Global, program: &Program<'_>) -> Result<Typing, Refused>
 }
 
 /// A typing, with what is described of its program's inputs.
+#[tactic(auto, using(crate::proofs::Answering::desc_is_refused))]
 fn with_typing(
     alloc: Global,
     text: DescText,
@@ -95,7 +68,7 @@ fn with_typing(
     ensures given { IfOk result (λ typed. IsTyped (program_of program.now) text typed) }
     ensures refused { IfErr result (λ refused. OfProgram IsGiven text (program_of program.now) (Err refused)) }
 {
-    match int_desc(alloc, text, program) {
+    match described(alloc, program, text) {
         Ok(desc) => Ok(TypedDesc { typing, desc }),
         Err(refused) => Err(refused),
     }
@@ -113,7 +86,7 @@ fn typed_desc(alloc: Global, text: DescText, program: &Program<'_>) -> Result<Ty
 }
 
 /// A program that a description names, with what is described of its inputs.
-#[tactic(auto, using(crate::proofs::Answering::program_given, crate::proofs::IntForms::int_forms))]
+#[tactic(auto, using(crate::proofs::Answering::program_given))]
 fn of_program(
     alloc: Global,
     text: DescText,
@@ -187,8 +160,7 @@ fn of_classes(
 /// # Errors
 ///
 /// The first fault with its place: of a class file, in order; of the description's text; of the classes as a world; of the method's
-/// name; of its program; a cycle of calls; a method without a typing; of the description against the program. At `Link` `NotBuilt`,
-/// where the program isn't one method about ints alone. Want of memory.
+/// name; of its program; a cycle of calls; a method without a typing; of the description against the program. Want of memory.
 pub fn described_program<'a>(
     alloc: Global,
     desc: &[u8],

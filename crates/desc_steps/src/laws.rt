@@ -1,7 +1,8 @@
 //! Laws about descriptions, for the proofs of other crates and for readers. They run nothing.
 ghost use Rattle.desc_steps.specs.Laws.{NamesOne, SomeStateFits};
 
-/// A description of a program about ints that has typings fits some state, so what is said of its inputs is said of something.
+/// A description of a program that has typings fits some state exactly where each of its inputs can be given: then what is said of its
+/// inputs is said of something.
 pub fn some_state_fits()
     ensures { SomeStateFits }
 {}

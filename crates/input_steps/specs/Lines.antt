@@ -38,7 +38,6 @@ fault_text (faults.Desc fault) = desc_fault_text fault
 fault_text (faults.Link fault) = link_fault_text fault
 fault_text (faults.Call fault) = call_fault_text fault
 fault_text (faults.Untyped method) = untyped_text method
-fault_text faults.NotBuilt = codes "NotBuilt"
 
 -- the input has this fault at this place
 abbrev pub refusal_line : Place → Fault → List ℕ

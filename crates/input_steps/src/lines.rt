@@ -41,7 +41,6 @@ impl Fault {
             Fault::Link(fault) => fault.text(alloc),
             Fault::Call(fault) => fault.text(alloc),
             Fault::Untyped(method) => untyped_text(alloc, method),
-            Fault::NotBuilt => Seq::from_slice(alloc, b"NotBuilt"),
         }
     }
 }

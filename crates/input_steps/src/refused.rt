@@ -63,8 +63,6 @@ pub enum Fault {
     Call(CallFault),
     /// This is the first reached method that has no typing.
     Untyped(MethodName),
-    /// It may be good input, but what reads it is not built yet.
-    NotBuilt,
 }
 
 impl From<AllocError> for Refused {

@@ -116,12 +116,12 @@ all_asked rules are set own rise h = record {
 -- ---- what is found
 
 pub plain_found : (rules : List PathRule) (step : RankStep) → IsRankStep rules step → RanksOwn HasNoForm rules (Some step)
-plain_found rules step is = is.limits
+plain_found rules step is = is
 
 pub linear_found : {E : Type 0} (rules : List PathRule) (result : Result (Option RankStep) E) → NoPlainForm rules
     → IfOk result (λ found. IfSome found (λ step. IsRankStep rules step))
     → IfOk result (λ found. found ≡ None → NoStepwiseForm rules) → IfOk result (RanksOwn HasNoForm rules)
-linear_found rules (Ok (Some step)) none found missing = found.limits
+linear_found rules (Ok (Some step)) none found missing = found
 linear_found rules (Ok None) none found missing = record { plain = none; stepwise = missing refl }
 linear_found rules (Err e) none found missing = tt
 

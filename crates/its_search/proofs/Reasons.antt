@@ -45,7 +45,7 @@ pub record IsReason (count : ℕ) (rows : List WRow) (n : ℕ) (term : ℕ × �
   pub times : entry.1 ≡ term.1 *ℤ a
   pub change_is : change ≡ a *ℤ row.constant
 
-record SaysChange (count x : ℕ) (row : WRow) (change : ℤ) : Type 0 where
+pub record SaysChange (count x : ℕ) (row : WRow) (change : ℤ) : Type 0 where
   pub kind : row.kind ≡ IsZero
   pub a : ℤ
   pub unit : IsUnit a
@@ -55,7 +55,7 @@ record SaysChange (count x : ℕ) (row : WRow) (change : ℤ) : Type 0 where
 pub same_term : (a b : ℕ × ℤ) → a.0 ≡ b.0 → a.1 ≡ b.1 → a ≡ b
 same_term a b e f = ap (λ (n : ℕ). (n, a.1)) e ∙ ap (λ (z : ℤ). (b.0, z)) f
 
-record IsBy (a b constant change : ℤ) : Type 0 where
+pub record IsBy (a b constant change : ℤ) : Type 0 where
   pub unit : IsUnit a
   pub other : b ≡ pos 0 -ℤ a
   pub change_is : change ≡ a *ℤ constant
@@ -201,7 +201,7 @@ Reasons count rows (term ∷ rest) [] change = ⊥
 Reasons count rows (term ∷ rest) (entry ∷ more) change = (d : ℤ) × (e : ℤ) × IsReason count rows 0 term entry d
     × Reasons count rows rest more e × (change ≡ term.1 *ℤ d +ℤ e)
 
-record IsAdded (times : ℤ) (first rest : Option ℤ) (change : ℤ) : Type 0 where
+pub record IsAdded (times : ℤ) (first rest : Option ℤ) (change : ℤ) : Type 0 where
   pub one : ℤ
   pub other : ℤ
   pub first_is : first ≡ Some one

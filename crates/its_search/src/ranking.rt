@@ -37,7 +37,7 @@ fn unit_times(times: &i64, number: &i64) -> i64
 }
 
 /// The row that says how much a variable changes, with its multiplier.
-#[tactic(auto, using(crate::proofs::Shown::unit_first))]
+#[tactic(auto, using(crate::proofs::Reasons::unit_first))]
 fn reason_of(count: u32, rows: &[WRow], term: &(u32, i64)) -> Option<(u32, i64)>
     requires few { count ≤ 256 }
     requires term { IsUnitTerm count term.now }

@@ -37,10 +37,13 @@ pub(crate) struct SystemForms;
 impl Forms for SystemForms {
     ghost use Rattle.its_front.specs.Systems.{AreSystemRules};
     ghost use Rattle.its_search.specs.Forms.{HasNoForm};
+    ghost use Rattle.chain_proofs.specs.Few.{few_enough};
 
     ghost asks = { λ rules. AreSystemRules rules };
 
     ghost none = { λ rules. HasNoForm rules };
+
+    ghost few = { λ rules are. few_enough (length rules) are.few };
 
     #[tactic(auto, using(crate::proofs::Asked::are_path_rules, crate::proofs::Asked::plain_found, crate::proofs::Asked::linear_found, crate::proofs::Trying::none_plain))]
     fn step(&self, alloc: Global, rules: &[PathRule]) -> Result<Option<RankStep>, AllocError> {

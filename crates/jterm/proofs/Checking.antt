@@ -39,8 +39,7 @@ is_outcome cert desc files outcome a =
     let calls = program.1.1 in
     let typing = calls.1.1 in
     let described = typing.1.1 in
-    let built = described.1.1 in
-    of_cert cert program.0 typing.0 described.0 outcome built.1.1
+    of_cert cert program.0 typing.0 described.0 outcome described.1.1
 
 -- ---- verdicts
 

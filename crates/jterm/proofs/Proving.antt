@@ -44,8 +44,7 @@ given Of desc files x a =
     let calls = program.1.1 in
     let typing = calls.1.1 in
     let described = typing.1.1 in
-    let built = described.1.1 in
-    record { program = program.0; typing = typing.0; described = described.0; said = built.1.1 }
+    record { program = program.0; typing = typing.0; described = described.0; said = described.1.1 }
 
 -- what another command says of it, it says of the files and the description
 pub said_of_files : {X Y : Type 0} (Of : Saying X) (Other : Saying Y) (desc : List ℕ) (files : List (List ℕ)) (x : X) (y : Y)
@@ -59,8 +58,7 @@ said_of_files Of Other desc files x y a other =
     let program = entry.1.1 in
     let calls = program.1.1 in
     let typing = calls.1.1 in
-    let described = typing.1.1 in
-    let built = described.1.1 in (
+    let described = typing.1.1 in (
       a.0,
       (
         a.1.0,
@@ -84,7 +82,7 @@ said_of_files Of Other desc files x y a other =
                           calls.0,
                           (
                             calls.1.0,
-                            (typing.0, (typing.1.0, (described.0, (described.1.0, (built.0, (built.1.0, other)))))),
+                            (typing.0, (typing.1.0, (described.0, (described.1.0, other)))),
                           ),
                         ),
                       ),
@@ -178,7 +176,7 @@ module _ (nodes : ℕ) (desc : List ℕ) (files : List (List ℕ)) (verdict : Ve
   has_certificate (inl sure) none =
       let valid = sure.is.says in
       let built : check.AnswersCert sure.cert here.program here.typing here.described (Ok lines.accepted) =
-      inr (valid.content, (valid.says, (valid.nodes, ((valid.filled, valid.ints), inl (valid.valid, refl))))) in
+      inr (valid.content, (valid.says, (valid.nodes, (valid.filled, inl (valid.valid, refl))))) in
       record {
         cert = sure.cert;
         short = sure.is.short;

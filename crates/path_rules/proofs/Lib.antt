@@ -1,3 +1,4 @@
+pub mod Adding
 pub mod Answering
 pub mod Bounding
 pub mod Collecting
@@ -5,15 +6,21 @@ pub mod Counted
 pub mod Cycles
 pub mod Existing
 pub mod Finding
+pub mod Finite
 pub mod EdgeRows
 pub mod Fitting
 pub mod Following
 pub mod Listed
+pub mod Numbering
+pub mod PatternIds
+pub mod PatternLists
+pub mod PatternNames
 pub mod Picking
 pub mod Ready
 pub mod Riding
 pub mod Ruling
-pub mod Summing
+pub mod Limited
+pub mod Sized
 pub mod Telling
 pub mod Walking
 pub mod Whole

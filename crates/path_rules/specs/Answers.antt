@@ -12,8 +12,9 @@ use Rattle.path_rules.specs.Rules.{IsRuleOf}
 use Rattle.path_rules.specs.declared.fault.PathFault.{PathFault}
 use Rattle.path_rules.specs.declared.fault.PathFault.TheVariants.{Uncut, TooManyPaths, TooManyRows, Memory}
 
--- rules are those of the first of these paths, as many as there are rules
-pub record AreRulesOf (graph : List GraphNode) (links : List (List Link)) (cuts : List ℕ) (paths : List Path) (rules : List PathRule) : Type 0 where
+-- rules are those of the first paths among these, as many as there are rules, over the one list of patterns of each state's sized ids
+pub record AreRulesOf (graph : List GraphNode) (links : List (List Link)) (cuts : List ℕ) (paths : List Path)
+    (rules : List PathRule) : Type 0 where
   pub sizes : List (List (ℕ × Pattern))
   pub are_sizes : AllZip (λ (n : GraphNode) (s : List (ℕ × Pattern)). AreSizes n.state s) graph sizes
   pub are : AllZip (IsRuleOf (record { graph = graph; links = links; sizes = sizes }) cuts) (take (length rules) paths) rules

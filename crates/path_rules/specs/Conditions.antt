@@ -1,7 +1,8 @@
 -- Graphs whose paths have rules.
-use Rattle.std.specs.Prelude.{◌≡◌, ℕ, suc, ◌<◌, ◌≤◌, ◌^◌, ℤ, IsTrue, List, [], ◌∷◌, All, length, unsigned_abs, Some, slice_get}
+use Rattle.std.specs.Prelude.{◌≡◌, ℕ, suc, ◌<◌, ◌≤◌, ◌^◌, ℤ, List, [], ◌∷◌, All, length, unsigned_abs, Some, slice_get}
 use Rattle.std.specs.List.{AllZip}
 use Rattle.abs_cells.specs.declared.cells.Cell.{Cell}
+use Rattle.abs_cells.specs.declared.cells.Cell.TheVariants.{Int, Null, Obj, Nums, Refs, Unk}
 use Rattle.abs_cells.specs.AbstractStates.{AbstractState}
 use Rattle.abs_cells.specs.Cells.{is_int, HasCell}
 use Rattle.abs_cells.specs.Sound.{IsWellFormed}
@@ -39,13 +40,25 @@ pub record IsLinkBetween (state child : AbstractState) (link : Link) : Type 0 wh
 pub record IsMapBetween (state target : AbstractState) (entries : List (ℕ × ℕ)) : Type 0 where
   pub lists : ListsIds target entries
   pub ints : (id : ℕ) → HasCell is_int target id → (image : ℕ) × ((image_in entries id ≡ Some image) × HasCell is_int state image)
-  pub references : (id : ℕ) → HasCell is_no_int target id → (image : ℕ) × ((image_in entries id ≡ Some image) × HasCell is_no_int state image)
+  pub references : (id : ℕ) → HasCell is_no_int target id → (image : ℕ)
+      × ((image_in entries id ≡ Some image) × HasCell is_no_int state image)
+
+-- ---- states
+
+-- the ends of an int's interval are at most 2^31 in size, as ints of 32 bits are
+abbrev pub IsBounded : Cell → Type 0
+IsBounded (Int interval) = (unsigned_abs interval.lo ≤ 2 ^ 31) × (unsigned_abs interval.hi ≤ 2 ^ 31)
+IsBounded Null = Unit {0}
+IsBounded (Obj class ids) = Unit {0}
+IsBounded (Nums kind len) = Unit {0}
+IsBounded (Refs element len shape) = Unit {0}
+IsBounded (Unk bound nullable shape) = Unit {0}
+
+-- so they are of all ids of a state
+abbrev pub AreBounded : AbstractState → Type 0
+AreBounded state = All (λ (c : ℕ × Cell). IsBounded c.1) state.cells
 
 -- ---- graphs
-
--- every cell is an int
-abbrev pub HasIntsAlone : AbstractState → Type 0
-HasIntsAlone state = All (λ (c : ℕ × Cell). IsTrue (is_int c.1)) state.cells
 
 -- a child by its number, and the link to it
 abbrev pub IsGoodChild : List GraphNode → AbstractState → ℕ → Link → Type 0
@@ -54,20 +67,24 @@ IsGoodChild graph state child link = (n : GraphNode) × ((slice_get graph child 
 -- how a node is left, with the links of its children, of which there is one for each
 abbrev pub IsGoodBy : List GraphNode → AbstractState → By → List Link → Type 0
 IsGoodBy graph state (Expand children) links = AllZip (IsGoodChild graph state) children links
-IsGoodBy graph state (Instance target entries) links = (n : GraphNode) × ((slice_get graph target ≡ Some n) × IsMapBetween state n.state entries)
+IsGoodBy graph state (Instance target entries) links = (n : GraphNode)
+    × ((slice_get graph target ≡ Some n) × IsMapBetween state n.state entries)
 IsGoodBy graph state End links = Unit {0}
 IsGoodBy graph state Todo links = Unit {0}
+
+-- a graph's nodes are left in good ways, and their states are well-formed
+pub record AreGood (graph : List GraphNode) (links : List (List Link)) : Type 0 where
+  pub states : All (λ (n : GraphNode). IsWellFormed n.state) graph
+  pub nodes : AllZip (λ (n : GraphNode) (l : List Link). IsGoodBy graph n.state n.by l) graph links
 
 -- cuts rise
 abbrev pub CutsRise : ℕ → List ℕ → Type 0
 CutsRise low [] = Unit {0}
 CutsRise low (cut ∷ cuts) = (low ≤ cut) × CutsRise (suc cut) cuts
 
--- states are well-formed and have ints alone, children, targets, links and maps are good; cuts are nodes, rise, and begin with
--- node 0
+-- states are well-formed, children, targets, links and maps are good; cuts are nodes, rise, and begin with node 0
 pub record IsReady (graph : List GraphNode) (links : List (List Link)) (cuts : List ℕ) : Type 0 where
   pub states : All (λ (n : GraphNode). IsWellFormed n.state) graph
-  pub ints : All (λ (n : GraphNode). HasIntsAlone n.state) graph
   pub nodes : AllZip (λ (n : GraphNode) (l : List Link). IsGoodBy graph n.state n.by l) graph links
   pub first : slice_get cuts 0 ≡ Some 0
   pub rise : CutsRise 0 cuts

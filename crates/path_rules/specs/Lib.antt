@@ -5,5 +5,7 @@ pub mod Rules
 pub mod Answers
 pub mod Conditions
 pub mod Walks
+pub mod RuleLimits
 pub mod Ways
-pub mod Bare
+pub mod Sizing
+pub mod Building

@@ -1,5 +1,6 @@
 -- The paths of a termination graph from cut to cut, and their order (Otto, Brockschmidt, von Essen, Giesl 2010).
-use Rattle.std.specs.Prelude.{◌≡◌, ℕ, ◌<◌, ◌==◌, nat_lt, Bool, true, false, if◌then◌else◌, List, [], ◌∷◌, All, length, Option, Some, None, slice_get}
+use Rattle.std.specs.Prelude.{◌≡◌, ℕ, ◌<◌, ◌==◌, nat_lt, Bool, true, false, if◌then◌else◌, List, [], ◌∷◌, All, length, Option, Some}
+use Rattle.std.specs.Prelude.{None, slice_get}
 use Rattle.std.specs.List.{list_any}
 use Rattle.std.specs.Option.{option_and_then}
 use Rattle.jvm_values.specs.Paths.{Steps, follow}
@@ -40,7 +41,8 @@ only_last (place ∷ places) to = None
 -- the cut where edges end that lead from a node one after another: the last one leads to a cut, and no other one does
 abbrev pub end_of : List GraphNode → List ℕ → ℕ → List ℕ → Option ℕ
 end_of graph cuts node [] = None
-end_of graph cuts node (place ∷ places) = option_and_then (λ (to : ℕ). if is_cut cuts to then only_last places to else end_of graph cuts to places) (edges graph node place)
+end_of graph cuts node (place ∷ places) = option_and_then
+    (λ (to : ℕ). if is_cut cuts to then only_last places to else end_of graph cuts to places) (edges graph node place)
 
 -- a path from a cut to the next one, by at least one edge
 pub record IsPath (graph : List GraphNode) (cuts : List ℕ) (path : Path) : Type 0 where

@@ -1,10 +1,12 @@
 -- A path as the states at which it stops, with what leads from one to the next.
-use Rattle.std.specs.Prelude.{◌≡◌, ◌≢◌, ℕ, suc, ◌≤◌, ◌==◌, not, if◌then◌else◌, List, [], ◌∷◌, Option, Some, None, slice_get}
+use Rattle.std.specs.Prelude.{◌≡◌, ◌≢◌, ℕ, ◌==◌, if◌then◌else◌, List, [], ◌∷◌, Option, Some, None, slice_get}
 use Rattle.std.specs.List.{AllZip}
 use Rattle.std.specs.Option.{option_map, option_and_then}
 use Rattle.abs_cells.specs.AbstractStates.{AbstractState}
-use Rattle.abs_cells.specs.Cells.{is_int, HasCell}
+use Rattle.abs_cells.specs.Cells.{HasCell}
 use Rattle.abs_cells.specs.Patterns.{Pattern, IsPattern, IsSized}
+use Rattle.abs_reach.specs.Instances.{is_no_int}
+use Rattle.abs_reach.specs.Keys.{AreKeysRising}
 use Rattle.term_graph.specs.declared.nodes.By.{By}
 use Rattle.term_graph.specs.declared.nodes.By.TheVariants.{Expand, Instance, End, Todo}
 use Rattle.term_graph.specs.declared.links.Link.{Link}
@@ -18,15 +20,12 @@ abbrev pub pattern_in : List (ℕ × Pattern) → ℕ → Option Pattern
 pattern_in [] id = None
 pattern_in (entry ∷ entries) id = if entry.0 == id then Some entry.1 else pattern_in entries id
 
-abbrev pub IdsRise : ℕ → List (ℕ × Pattern) → Type 0
-IdsRise low [] = Unit {0}
-IdsRise low (entry ∷ entries) = (low ≤ entry.0) × IdsRise (suc entry.0) entries
-
 -- a list has exactly the sized ids of a state, rising, each with its pattern
 pub record AreSizes (state : AbstractState) (sizes : List (ℕ × Pattern)) : Type 0 where
-  pub rise : IdsRise 0 sizes
-  pub each : (id : ℕ) (pattern : Pattern) → pattern_in sizes id ≡ Some pattern → HasCell (λ cell. not (is_int cell)) state id × (IsSized state id × IsPattern state id pattern)
-  pub all : (id : ℕ) → HasCell (λ cell. not (is_int cell)) state id → IsSized state id → pattern_in sizes id ≢ None
+  pub rise : AreKeysRising 0 sizes
+  pub each : (id : ℕ) (pattern : Pattern) → pattern_in sizes id ≡ Some pattern → HasCell is_no_int state id
+      × (IsSized state id × IsPattern state id pattern)
+  pub all : (id : ℕ) → HasCell is_no_int state id → IsSized state id → pattern_in sizes id ≢ None
 
 -- ---- stops
 
@@ -54,19 +53,25 @@ pub record LinkedGraph : Type 0 where
   pub sizes : List (List (ℕ × Pattern))
 
 abbrev pub stop_at : LinkedGraph → ℕ → Option Stop
-stop_at linked node = option_and_then (λ (n : GraphNode). option_map (λ (s : List (ℕ × Pattern)). record { state = n.state; sizes = s }) (slice_get linked.sizes node)) (slice_get linked.graph node)
+stop_at linked node = option_and_then
+    (λ (n : GraphNode). option_map (λ (s : List (ℕ × Pattern)). record { state = n.state; sizes = s })
+    (slice_get linked.sizes node)) (slice_get linked.graph node)
 
 abbrev pub leg_at : LinkedGraph → ℕ → ℕ → Option Leg
-leg_at linked node place = option_and_then (λ (n : GraphNode). option_and_then (λ (links : List Link). leg_by n.by links place) (slice_get linked.links node)) (slice_get linked.graph node)
+leg_at linked node place = option_and_then (λ (n : GraphNode). option_and_then (λ (links : List Link). leg_by n.by links place)
+    (slice_get linked.links node)) (slice_get linked.graph node)
 
 -- an edge with the stop to which it leads
 abbrev pub ride_at : LinkedGraph → ℕ → ℕ → ℕ → Option (Leg × Stop)
-ride_at linked node place to = option_and_then (λ (leg : Leg). option_map (λ (stop : Stop). (leg, stop)) (stop_at linked to)) (leg_at linked node place)
+ride_at linked node place to = option_and_then (λ (leg : Leg). option_map (λ (stop : Stop). (leg, stop)) (stop_at linked to))
+    (leg_at linked node place)
 
 -- edges one after another, each with the stop to which it leads
 abbrev pub rides_from : LinkedGraph → ℕ → List ℕ → Option (List (Leg × Stop))
 rides_from linked node [] = Some []
-rides_from linked node (place ∷ places) = option_and_then (λ (to : ℕ). option_and_then (λ (ride : Leg × Stop). option_map (λ (rides : List (Leg × Stop)). ride ∷ rides) (rides_from linked to places)) (ride_at linked node place to)) (edges linked.graph node place)
+rides_from linked node (place ∷ places) = option_and_then
+    (λ (to : ℕ). option_and_then (λ (ride : Leg × Stop). option_map (λ (rides : List (Leg × Stop)). ride ∷ rides)
+    (rides_from linked to places)) (ride_at linked node place to)) (edges linked.graph node place)
 
 -- the lists of patterns are those of the nodes' states
 abbrev pub AreSized : LinkedGraph → Type 0

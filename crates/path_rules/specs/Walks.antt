@@ -1,13 +1,14 @@
 -- Walks of machine states along a path, and what they say of its rule.
-use Rattle.std.specs.Prelude.{◌≡◌, ℕ, ℤ, pos, ◌+ℤ◌, Bool, true, false, List, [], ◌∷◌, All, Some}
+use Rattle.std.specs.Prelude.{◌≡◌, ℕ, ℤ, Bool, true, false, List, [], ◌∷◌, All, Some}
 use Rattle.descent.specs.declared.rules.PathRule.{PathRule}
 use Rattle.descent.specs.declared.rules.SlotForm.{SlotForm}
 use Rattle.descent.specs.Valuations.{Valuation, IsWeighing, Meets, slot_value}
 use Rattle.jvm_values.specs.States.{MachineState}
 use Rattle.jvm_values.specs.TypedHeaps.{WorldTypes}
-use Rattle.jvm_values.specs.Terms.{HeapTerm, HeapTerms, null, leaf, node, none, more, IsTerm}
+use Rattle.jvm_values.specs.Terms.{HeapTerm, IsTerm}
 use Rattle.abs_cells.specs.Fits.{Meaning, Fits, IsClosedState}
 use Rattle.term_graph.specs.Edges.{Edge, InstanceEdge, number_of}
+use Rattle.term_enc.specs.Sizes.{weight_of}
 use Rattle.path_rules.specs.Paths.{Path}
 use Rattle.path_rules.specs.Stops.{Stop, Leg, child, instance, LinkedGraph, AreSized, stop_at, rides_from}
 use Rattle.path_rules.specs.Rules.{IsRuleOf}
@@ -33,7 +34,8 @@ abbrev pub IsWalk : WorldTypes → Stop → Spot → List (Leg × Stop) → List
 IsWalk types stop spot [] [] = FitsStop types stop spot
 IsWalk types stop spot [] (after ∷ spots) = ⊥
 IsWalk types stop spot (ride ∷ rides) [] = ⊥
-IsWalk types stop spot (ride ∷ rides) (after ∷ spots) = FitsStop types stop spot × (Crosses stop spot ride.0 ride.1 after × IsWalk types ride.1 after rides spots)
+IsWalk types stop spot (ride ∷ rides) (after ∷ spots) = FitsStop types stop spot
+    × (Crosses stop spot ride.0 ride.1 after × IsWalk types ride.1 after rides spots)
 
 abbrev pub last_of : Spot → List Spot → Spot
 last_of spot [] = spot
@@ -41,21 +43,12 @@ last_of spot (after ∷ spots) = last_of after spots
 
 -- ---- values
 
--- what a term weighs: the sum over its nodes
-abbrev mutual
-  pub weight_of : (ℕ → ℤ) → HeapTerm → ℤ
-  weight_of weigh null = pos 0
-  weight_of weigh leaf = pos 0
-  weight_of weigh (node class children) = weigh class +ℤ weights_of weigh children
-
-  pub weights_of : (ℕ → ℤ) → HeapTerms → ℤ
-  weights_of weigh none = pos 0
-  weights_of weigh (more term rest) = weight_of weigh term +ℤ weights_of weigh rest
-
 -- a slot has the value of its id, for every weighing: an int, or what the id's term weighs
 abbrev pub SlotIs : Valuation → Spot → SlotForm → Bool → Type 0
 SlotIs valuation spot slot false = (weigh : ℕ → ℤ) → IsWeighing weigh → slot_value weigh valuation slot ≡ number_of (spot.meaning slot.id)
-SlotIs valuation spot slot true = (term : HeapTerm) × (IsTerm spot.machine.heap (spot.meaning slot.id) term × ((weigh : ℕ → ℤ) → IsWeighing weigh → slot_value weigh valuation slot ≡ weight_of weigh term))
+SlotIs valuation spot slot true = (term : HeapTerm)
+    × (IsTerm spot.machine.heap (spot.meaning slot.id) term
+    × ((weigh : ℕ → ℤ) → IsWeighing weigh → slot_value weigh valuation slot ≡ weight_of weigh term))
 
 abbrev pub SlotsAre : Valuation → Spot → List SlotForm → Type 0
 SlotsAre valuation spot slots = All (λ (slot : SlotForm). SlotIs valuation spot slot slot.size) slots
@@ -79,4 +72,6 @@ pub record WalksAlong (types : WorldTypes) (linked : LinkedGraph) (path : Path) 
 
 -- every walk of fitting states from a cut to the next meets all rows of its path
 abbrev pub WalksMeetRules : Type 0
-WalksMeetRules = (types : WorldTypes) (linked : LinkedGraph) (cuts : List ℕ) (path : Path) (rule : PathRule) (start : Spot) (spots : List Spot) → IsReady linked.graph linked.links cuts → AreSized linked → IsRuleOf linked cuts path rule → WalksAlong types linked path start spots → Tells rule start (last_of start spots)
+WalksMeetRules = (types : WorldTypes) (linked : LinkedGraph) (cuts : List ℕ) (path : Path) (rule : PathRule) (start : Spot)
+    (spots : List Spot) → IsReady linked.graph linked.links cuts → AreSized linked → IsRuleOf linked cuts path rule
+    → WalksAlong types linked path start spots → Tells rule start (last_of start spots)

@@ -1,5 +1,6 @@
 -- Words for this crate's own functions: the ways from a node to the next cuts, listed, counted and told by their numbers.
-use Rattle.std.specs.Prelude.{◌≡◌, ℕ, zero, suc, ◌+◌, ◌-◌, ◌<◌, ◌≤◌, nat_lt, not, Bool, true, false, if◌then◌else◌, List, [], ◌∷◌, ◌++◌, map, filter, length, Option, Some, None, Result, Ok, Err, slice_get, slice_index_or}
+use Rattle.std.specs.Prelude.{◌≡◌, ℕ, zero, suc, ◌+◌, ◌-◌, nat_lt, not, Bool, false, if◌then◌else◌, List, [], ◌∷◌}
+use Rattle.std.specs.Prelude.{◌++◌, map, filter, length, Option, Some, None, Result, Ok, Err, slice_get, slice_index_or}
 use Rattle.std.specs.List.{flat_map}
 use Rattle.std.specs.Option.{option_and_then}
 use Rattle.number_graphs.specs.Graphs.{IsLeastOnCycle}
@@ -30,7 +31,8 @@ inner_row marks row = filter (λ (to : ℕ). not (has_mark marks to)) row
 -- by each edge of a row, numbered from a place on: a cut ends the way, from another node the ways go on
 abbrev pub ways_by : (ℕ → List (List ℕ)) → List Bool → ℕ → List ℕ → List (List ℕ)
 ways_by ways marks place [] = []
-ways_by ways marks place (to ∷ row) = map (λ (way : List ℕ). place ∷ way) (if has_mark marks to then [] ∷ [] else ways to) ++ ways_by ways marks (suc place) row
+ways_by ways marks place (to ∷ row) = map (λ (way : List ℕ). place ∷ way) (if has_mark marks to then [] ∷ [] else ways to)
+    ++ ways_by ways marks (suc place) row
 
 -- the ways from each node to the next cuts, by the numbers of their edges
 abbrev pub AreWays : List (List ℕ) → List Bool → (ℕ → List (List ℕ)) → Type 0
@@ -48,7 +50,8 @@ ways_of lists marks ranks node = ways_within lists marks (suc (slice_index_or ra
 -- the cut where a way ends
 abbrev pub end_over : List (List ℕ) → List Bool → ℕ → List ℕ → Option ℕ
 end_over lists marks node [] = None
-end_over lists marks node (place ∷ places) = option_and_then (λ (to : ℕ). if has_mark marks to then only_last places to else end_over lists marks to places) (slice_get (row_at lists node) place)
+end_over lists marks node (place ∷ places) = option_and_then
+    (λ (to : ℕ). if has_mark marks to then only_last places to else end_over lists marks to places) (slice_get (row_at lists node) place)
 
 -- all paths: the ways from each cut
 abbrev pub paths_by : (ℕ → List (List ℕ)) → List ℕ → List Path
@@ -80,17 +83,20 @@ most_of most (number ∷ numbers) = most_of (if nat_lt most number then number e
 
 -- each node has the number of its ways
 abbrev pub AreCounts : List (List ℕ) → List Bool → List ℕ → Type 0
-AreCounts lists marks counts = (ways : ℕ → List (List ℕ)) → AreWays lists marks ways → (node : ℕ) → slice_index_or counts node 0 ≡ counted (length (ways node))
+AreCounts lists marks counts = (ways : ℕ → List (List ℕ)) → AreWays lists marks ways → (node : ℕ)
+    → slice_index_or counts node 0 ≡ counted (length (ways node))
 
 -- which thing of a row has a number, where each has so many: its place, places being numbered from one on, the thing, and the
 -- number among its own
 abbrev pub picked : (ℕ → ℕ) → ℕ → List ℕ → ℕ → Option (ℕ × ℕ × ℕ)
 picked size place [] number = None
-picked size place (to ∷ row) number = if nat_lt number (size to) then Some (place, to, number) else picked size (suc place) row (number - size to)
+picked size place (to ∷ row) number = if nat_lt number (size to) then Some (place, to, number) else picked size (suc place) row
+    (number - size to)
 
 -- these edges are the way of a number from a node, if there are as many ways, and they end at this cut
 abbrev pub IsWayOf : List (List ℕ) → List Bool → ℕ → ℕ → List ℕ → ℕ → Type 0
-IsWayOf lists marks node number places to = (ways : ℕ → List (List ℕ)) → AreWays lists marks ways → (way : List ℕ) → slice_get (ways node) number ≡ Some way → (places ≡ way) × (end_over lists marks node places ≡ Some to)
+IsWayOf lists marks node number places to = (ways : ℕ → List (List ℕ)) → AreWays lists marks ways → (way : List ℕ)
+    → slice_get (ways node) number ≡ Some way → (places ≡ way) × (end_over lists marks node places ≡ Some to)
 
 -- ---- a graph's ways
 

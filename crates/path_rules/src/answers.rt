@@ -2,7 +2,8 @@
 ghost use Rattle.std.specs.Prelude.{◌≡◌, ◌≤◌, ◌<◌, ◌^◌, ◌-◌, ◌+◌, All, length, IfOk};
 ghost use Rattle.descent.specs.Conditions.{AreRules};
 ghost use Rattle.path_rules.specs.Answers.{Answers};
-ghost use Rattle.path_rules.specs.Bare.{bare_graph, AreRulesOr, IsRuleOfNumber};
+ghost use Rattle.path_rules.specs.Building.{AreRulesOr, IsRuleOfNumber};
+ghost use Rattle.path_rules.specs.Sizing.{sized_graph};
 ghost use Rattle.path_rules.specs.Conditions.{IsReady};
 ghost use Rattle.path_rules.specs.Limits.{most_paths};
 ghost use Rattle.path_rules.specs.Ways.{paths_of, AreWaysOf, IsMapped, IsRanked};
@@ -14,6 +15,7 @@ use crate::successors::{cut_marks, inner_lists, successor_lists};
 use crate::walks::rule_along;
 use crate::ways::{Ways, way_of};
 use abs_cells::Pairs;
+use abs_reach::Marks;
 use descent::PathRule;
 use list_views::Seq;
 use number_graphs::{Ranking, rank};
@@ -65,19 +67,21 @@ fn rule_of<P: Pairs, S: NodeSource<P>>(
     cuts: &[u32],
     ways: &Ways,
     number: u32,
+    marks: &mut Marks,
 ) -> Result<Option<PathRule>, AllocError>
     requires ready { IsReady (S.graph source.old) links.now.nodes cuts.now }
     requires mapped { AreWaysOf (S.graph source.old) cuts.now ways.now }
     requires there { number < length (paths_of ways.now cuts.now) }
     requires few { number < most_paths + 1 }
-    ensures rule { IfOk result (IsRuleOfNumber (bare_graph (S.graph source.old) links.now.nodes) cuts.now (paths_of ways.now cuts.now) number) }
+    ensures rule { IfOk result
+        (IsRuleOfNumber (sized_graph (S.graph source.old) links.now.nodes) cuts.now (paths_of ways.now cuts.now) number) }
     ensures same { S.graph source.new ≡ S.graph source.old }
 {
     let Some((_place, from, left)) = ways.start(cuts, number) else {
         return Ok(None);
     };
     let way = way_of(alloc, ways, from, left)?;
-    let rule = rule_along(alloc, source, links, from, &way)?;
+    let rule = rule_along(alloc, source, links, from, &way, marks)?;
     Ok(rule)
 }
 
@@ -99,10 +103,11 @@ fn rules_of<P: Pairs, S: NodeSource<P>>(
     ensures fit { IfOk result AreRules }
     ensures same { S.graph source.new ≡ S.graph source.old }
 {
+    let mut marks = Marks::new(alloc)?;
     let mut rules = Seq::new(alloc);
     let mut rows: u64 = 0;
     for path in 0..count {
-        let Some(rule) = rule_of(alloc, source, links, cuts, ways, path)? else {
+        let Some(rule) = rule_of(alloc, source, links, cuts, ways, path, &mut marks)? else {
             return Err(PathFault::TooManyRows { path });
         };
         rows += rule.rows.len() as u64;

@@ -7,6 +7,8 @@ mod fault;
 mod laws;
 mod legs;
 mod limits;
+mod numbers;
+mod sizes;
 mod slots;
 mod stops;
 mod successors;
@@ -16,4 +18,4 @@ mod ways;
 
 pub use answers::paths;
 pub use fault::PathFault;
-pub use laws::walks_meet_rules;
+pub use laws::{rules_fit, walks_meet_rules};

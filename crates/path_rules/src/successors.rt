@@ -30,8 +30,8 @@ pub(crate) fn successor_lists<P: Pairs, S: NodeSource<P>>(
 {
     let mut lists = Seq::new(alloc);
     for n in 0..source.count() {
-        let node = source.node(alloc, n)?;
-        lists.push(successors_of(alloc, node.by())?)?;
+        let by = source.by(alloc, n)?;
+        lists.push(successors_of(alloc, &by)?)?;
     }
     Ok(lists)
 }

@@ -1,8 +1,9 @@
 //! Terms in any order, collected into rising ones.
-ghost use Rattle.std.specs.Prelude.{◌≡◌, ◌≤◌, ◌<◌, ◌+◌, ◌^◌, ◌++◌, ℕ, ℤ, ◌+ℤ◌, [], take, drop, length, OnOk, IfOk, unsigned_abs, slice_get, slice_index_or};
+ghost use Rattle.std.specs.Prelude.{◌≡◌, ◌≤◌, ◌<◌, ◌+◌, ◌^◌, ◌++◌, ℕ, ℤ, ◌+ℤ◌, [], take, drop, length, OnOk, IfOk, unsigned_abs};
+ghost use Rattle.std.specs.Prelude.{slice_get, slice_index_or};
 ghost use Rattle.lin_core.specs.Weights.{total_size};
-ghost use Rattle.path_rules.specs.Rules.{unless_zero, with_term};
-ghost use Rattle.path_rules.specs.Bare.{is_term_of};
+ghost use Rattle.term_enc.specs.Sizes.{unless_zero, with_term};
+ghost use Rattle.path_rules.specs.Building.{is_term_of};
 
 use list_views::Seq;
 use std::alloc::{AllocError, Global};
@@ -19,7 +20,8 @@ fn push_term(terms: &mut Seq<(u32, i64)>, variable: u32, number: i64) -> Result<
 
 /// The place of the first term whose variable is not below `variable`.
 fn place_among(terms: &[(u32, i64)], variable: u32) -> usize
-    ensures split { (number : ℤ) → with_term (variable, number) terms.now ≡ take result terms.now ++ with_term (variable, number) (drop result terms.now) }
+    ensures split { (number : ℤ) → with_term (variable, number) terms.now ≡ take result terms.now ++ with_term (variable, number)
+        (drop result terms.now) }
     ensures next { (d : ℕ × ℤ) → result < length terms.now → variable ≤ (slice_index_or terms.now result d).0 }
     ensures few { result ≤ length terms.now }
 {

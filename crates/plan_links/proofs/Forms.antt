@@ -1,6 +1,6 @@
 -- Each step of each form keeps the sorts of ids and has rows such as the rules of paths take.
 use Rattle.std.proofs.Common.{◌≡◌, ◌∙◌, ◌==◌, ◌+◌, ℕ, ℤ, pos, Bool, true, false, not, ◌&&◌, ◌||◌, if◌then◌else◌, List, [], ◌∷◌}
-use Rattle.std.proofs.Common.{length, Option, Some, None, slice_get, ◌⊎◌, inl, inr, refl, sym, ap, subst}
+use Rattle.std.proofs.Common.{length, Option, Some, None, slice_get, refl, sym, ap, subst}
 use Rattle.std.specs.Prelude.{slice_set}
 use Rattle.std.specs.List.{AllByRecursion}
 use Rattle.std.specs.Option.{option_map, option_map_or, option_and_then}
@@ -116,15 +116,6 @@ pub record IsTypedForm (p : Program) (here : Here) (form : Form) : Type 0 where
   pub locals : (n x : ℕ) → slice_get there.locals n ≡ Some places.Int → slice_get here.frame.locals n ≡ Some (Some x)
       → HasCell is_int here.state x
 
--- every id of the frame is an int
-pub record HasInts (here : Here) : Type 0 where
-  pub stack : AllByRecursion (HasCell is_int here.state) here.frame.stack
-  pub locals : (n x : ℕ) → slice_get here.frame.locals n ≡ Some (Some x) → HasCell is_int here.state x
-
--- what the form takes as an int is one, for one of these reasons
-abbrev pub TakesInts : Program → Here → Form → Type 0
-TakesInts p here form = IsTypedForm p here form ⊎ HasInts here
-
 module _ (p : Program) (here : Here) (sound : IsSound (types_of p.world) here.state) where
   abbrev Types : WorldTypes
   Types = types_of p.world
@@ -147,34 +138,28 @@ module _ (p : Program) (here : Here) (sound : IsSound (types_of p.world) here.st
 
   -- ---- ints on the stack
 
-  -- the types of the stack are asked for these, or all is ints
-  pub record StackAsks (asks : List Want) : Type 0 where
+  -- the types of the stack are asked for these
+  pub record Takes (asks : List Want) : Type 0 where
     pub wanted : List PlaceType
     pub asked : Asks Types asks wanted
     pub typed : HasStackOf here.state wanted here.frame.stack
 
-  abbrev Takes : List Want → Type 0
-  Takes asks = StackAsks asks ⊎ HasInts here
-
   one_int : (asks : List Want) (x : ℕ) (rest : List ℕ) → Takes (wants.Int ∷ asks) → here.frame.stack ≡ x ∷ rest → IsIntId x
-  one_int asks x rest (inl a) e =
+  one_int asks x rest a e =
       (top_int Types here.state asks a.wanted x rest a.asked (subst (HasStackOf here.state a.wanted) e a.typed)).int
-  one_int asks x rest (inr a) e = (subst (AllByRecursion IsIntId) e a.stack).0
 
   two_ints : (b a : ℕ) (rest : List ℕ) → Takes (wants.Int ∷ wants.Int ∷ []) → here.frame.stack ≡ b ∷ a ∷ rest → IsIntId b × IsIntId a
-  two_ints b a rest (inl k) e =
+  two_ints b a rest k e =
       let top = top_int Types here.state (wants.Int ∷ []) k.wanted b (a ∷ rest) k.asked
       (subst (HasStackOf here.state k.wanted) e k.typed) in
       (top.int, (top_int Types here.state [] top.wanted a rest top.left top.typed).int)
-  two_ints b a rest (inr k) e = let all = subst (AllByRecursion IsIntId) e k.stack in (all.0, all.1.0)
 
   second_int : (want : Want) (asks : List Want) (v x : ℕ) (rest : List ℕ) → Takes (want ∷ wants.Int ∷ asks)
       → here.frame.stack ≡ v ∷ x ∷ rest → IsIntId x
-  second_int want asks v x rest (inl a) e =
+  second_int want asks v x rest a e =
       let under = under_top Types here.state want (wants.Int ∷ asks) a.wanted v (x ∷ rest) a.asked
       (subst (HasStackOf here.state a.wanted) e a.typed) in
       (top_int Types here.state asks under.wanted x rest under.left under.typed).int
-  second_int want asks v x rest (inr a) e = (subst (AllByRecursion IsIntId) e a.stack).1.0
 
   -- ---- steps without rows
 
@@ -201,19 +186,16 @@ module _ (p : Program) (here : Here) (sound : IsSound (types_of p.world) here.st
 
   -- ---- ints
 
-  incremented : (n : ℕ) (by : ℤ) (found : Option ℕ) → IsInt by → TakesInts p here (Iinc n by) → local_here here n ≡ found
+  incremented : (n : ℕ) (by : ℤ) (found : Option ℕ) → IsInt by → IsTypedForm p here (Iinc n by) → local_here here n ≡ found
       → Fits (increment_plan here n by found)
-  incremented n by None b at e = tt
-  incremented n by (Some x) b at e =
+  incremented n by None b t e = tt
+  incremented n by (Some x) b t e =
       let local = then_some (λ (local : Option ℕ). local) (slice_get here.frame.locals n) x e in
       let given : slice_get here.frame.locals n ≡ Some (Some x) = local.1.0 ∙ ap Some local.1.1 in
-      operator_fit here ends Add (id x) (known by) (with_stack here here.next here.frame.stack) (in_local n) (local_is at given) tt
+      operator_fit here ends Add (id x) (known by) (with_stack here here.next here.frame.stack) (in_local n)
+      (t.locals n x (local_asked n t.there t.after t.types_are) given) tt
       (within here.frame.locals n (Some x) given)
       (each_sum (IsOver (id x) (known by)) (sum_over x by b) (interval_of_id here.state x) (interval_at here.state (known by)))
-    where
-      local_is : TakesInts p here (Iinc n by) → slice_get here.frame.locals n ≡ Some (Some x) → IsIntId x
-      local_is (inl t) given = t.locals n x (local_asked n t.there t.after t.types_are) given
-      local_is (inr h) given = h.locals n x given
 
   arithmetic : (op : IntOp) (stack : List ℕ) → Takes (wants.Int ∷ wants.Int ∷ []) → here.frame.stack ≡ stack
       → Fits (binary stack (λ a b rest. steps (turns_of here op (id a) (id b) (with_stack here here.next rest) on_stack)))
@@ -515,22 +497,18 @@ module _ (p : Program) (here : Here) (sound : IsSound (types_of p.world) here.st
   -- ---- the table
 
   asks_of : (form : Form) (asks : List Want) (result : Option PlaceType)
-      → ((m : Method) (there : PlaceTypes) → types_after p m form there ≡ acted Types asks result there) → TakesInts p here form
+      → ((m : Method) (there : PlaceTypes) → types_after p m form there ≡ acted Types asks result there) → IsTypedForm p here form
       → Takes asks
-  asks_of form asks result is (inl t) = inl
-      (record {
-        wanted = t.there.stack;
-        asked = acted_asks Types asks result t.there t.after
-            (sym (is t.method t.there) ∙ t.types_are);
-        typed = t.stack;
-      })
-  asks_of form asks result is (inr h) = inr h
+  asks_of form asks result is t = record {
+    wanted = t.there.stack;
+    asked = acted_asks Types asks result t.there t.after (sym (is t.method t.there) ∙ t.types_are);
+    typed = t.stack;
+  }
 
-  items_asked : TakesInts p here Aaload → Takes (wants.Int ∷ [])
-  items_asked (inl t) = inl (record { wanted = t.there.stack; asked = aaload_asks Types t.there t.after t.types_are; typed = t.stack })
-  items_asked (inr h) = inr h
+  items_asked : IsTypedForm p here Aaload → Takes (wants.Int ∷ [])
+  items_asked t = record { wanted = t.there.stack; asked = aaload_asks Types t.there t.after t.types_are; typed = t.stack }
 
-  pub row_fit : (form : Form) → TakesInts p here form → IsFormInWidth form → Fits (row_of here form)
+  pub row_fit : (form : Form) → IsTypedForm p here form → IsFormInWidth form → Fits (row_of here form)
   row_fit Nop e w = (still (with_stack here here.next here.frame.stack), tt)
   row_fit AconstNull e w = (bare here.state (pushes here cells.Null here.frame.stack) tt refl, tt)
   row_fit (Iconst n) e w = (bare here.state _ tt refl, tt)

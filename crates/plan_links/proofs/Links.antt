@@ -301,6 +301,6 @@ planned_fit types state (by_equal x y) wholes children fit are lean = splits_fit
     (equal_splits types.sub state x y wholes are) lean
 
 pub links_fit : LinksFit
-links_fit p typing state children widths ints good expanded =
+links_fit p typing state children widths typing_is good expanded =
     planned_fit (types_of p.world) state (plan_of p typing state) expanded.wholes children
-    (plan_fit p typing state widths good ints) expanded.are expanded.lean
+    (plan_fit p typing state widths good typing_is) expanded.are expanded.lean

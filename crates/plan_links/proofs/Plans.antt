@@ -1,12 +1,8 @@
 -- Each step of a good state's plan keeps the sorts of ids and has rows such as the rules of paths take.
-use Rattle.std.proofs.Common.{◌≡◌, ◌∙◌, ℕ, zero, suc, true, List, [], ◌∷◌, ◌++◌, Option, Some, None, slice_get, filter, inl, inr}
+use Rattle.std.proofs.Common.{◌≡◌, ◌∙◌, ℕ, List, [], ◌∷◌, Option, Some, None, slice_get, filter}
 use Rattle.std.proofs.Common.{refl, sym, ap, subst}
-use Rattle.std.specs.List.{AllByRecursion, find, flat_map}
-use Rattle.std.proofs.lemmas.List.Elements.{recursion_from_All}
-use Rattle.list_views.proofs.Quantified.{all_front, all_back}
+use Rattle.std.specs.List.{find}
 use Rattle.std.specs.Option.{option_map_or}
-use Rattle.std.proofs.lemmas.Option.{none-some}
-use Rattle.jvm_values.proofs.Options.{some_is}
 use Rattle.jvm_values.specs.declared.typing.PlaceType.{PlaceType}
 use Rattle.jvm_values.specs.declared.typing.PlaceType.TheVariants as places
 use Rattle.jvm_values.specs.Subtyping.{class_type}
@@ -15,9 +11,6 @@ use Rattle.jvm_values.specs.States.{PlaceTypes}
 use Rattle.jvm_run.proofs.Placed.{Placed, placed}
 use Rattle.jvm_run.proofs.Stepping.{insn_there}
 use Rattle.abs_cells.specs.AbstractStates.{AbstractFrame, AbstractState}
-use Rattle.abs_cells.specs.declared.cells.Cell.{Cell}
-use Rattle.abs_cells.specs.Cells.{is_int, ids_in, HasCell}
-use Rattle.abs_cells.specs.Sound.{given_ids, ids_of_frame, ids_used}
 use Rattle.abs_ints.proofs.OperatorCases.{if_either}
 use Rattle.class_world.specs.BuiltIns.{throwable}
 use Rattle.class_world.specs.WorldTypes.{types_of}
@@ -33,15 +26,13 @@ use Rattle.code_verify.specs.Flows.{covers}
 use Rattle.code_verify.specs.Typings.{IsTypingOf}
 use Rattle.abs_expand.specs.BadStates.{HasStackOf, HasRunningStack, IsRunningPlaced, ArePlaced, statics_under, IsGoodState}
 use Rattle.abs_expand.specs.Expansions.{plan_here, plan_in, plan_of}
-use Rattle.abs_expand.specs.IntForms.{IsIntState}
 use Rattle.abs_expand.specs.Needs.{Passing, passes, fails, splits, after_test, passing_id, tested, operands_of, split_below}
 use Rattle.abs_expand.specs.Plans.{Plan}
 use Rattle.abs_expand.specs.Table.{taken_by, row_of, plan_of_form}
 use Rattle.abs_expand.specs.Throwing.{takes, handled, is_open, caught_plan, if_passes, throwing_plan}
 use Rattle.abs_expand.specs.Turns.{Here}
 use Rattle.plan_links.proofs.FitTurns.{AreFit, bare}
-use Rattle.plan_links.specs.Laws.{HasIntOperands}
-use Rattle.plan_links.proofs.Forms.{split_below_fit, IsTypedForm, TakesInts, row_fit}
+use Rattle.plan_links.proofs.Forms.{split_below_fit, IsTypedForm, row_fit}
 use Rattle.plan_links.proofs.Operands.{local_int}
 
 -- ---- tests of operands
@@ -110,10 +101,10 @@ module _ (p : Program) (typing : ℕ → CodeTypes) (state : AbstractState) (wid
 
     form_fit : (op : Op) (next : Option ℕ) (form : Form) (places_ : List PlaceType)
         → insn_at p.methods frame.method frame.pc ≡ Some (op, next) → form_of op ≡ Some form
-        → TakesInts p (stands places_ next) form → AreFit state (plan_of_form (stands places_ next) form)
-    form_fit op next form places_ insn is ints =
+        → IsTypedForm p (stands places_ next) form → AreFit state (plan_of_form (stands places_ next) form)
+    form_fit op next form places_ insn is typed =
         tested_fit (types_of p.world) state (operands_of (taken_by form) places_ frame.stack) (row_of (stands places_ next) form)
-        (row_fit p (stands places_ next) good.sound form ints (forms_wide p widths frame.method frame.pc op next insn form is))
+        (row_fit p (stands places_ next) good.sound form typed (forms_wide p widths frame.method frame.pc op next insn form is))
 
     -- the plan, by the instruction, its form and the types there
     abbrev plan_by : Option (Op × Option ℕ) → Option Form → Plan
@@ -154,68 +145,16 @@ module _ (p : Program) (typing : ℕ → CodeTypes) (state : AbstractState) (wid
           ∙ ap (λ (found : Option PlaceTypes). plan_here p typing state frame below (Some at.form) at.next found) running.placed.is_there
 
       typed_fit : AreFit state (plan_of p typing state)
-      typed_fit = subst (AreFit state) (sym placed_is) (form_fit at.op at.next at.form running.there.stack insn at.form_is (inl typed))
+      typed_fit = subst (AreFit state) (sym placed_is) (form_fit at.op at.next at.form running.there.stack insn at.form_is typed)
 
-    -- all cells are ints
-    module _ (ints : IsIntState state) where
-      -- the frame's ids have cells
-      held : AllByRecursion (HasCell (λ _. true) state) (given_ids frame.locals ++ frame.stack)
-      held =
-          all_front (HasCell (λ _. true) state) (given_ids frame.locals ++ frame.stack) (flat_map ids_of_frame below)
-          (subst (λ (frames : List AbstractFrame). AllByRecursion (HasCell (λ _. true) state) (flat_map ids_of_frame frames)) frames_are
-          (all_front (HasCell (λ _. true) state) (flat_map ids_of_frame state.frames)
-          (given_ids (state.throwing ∷ []) ++ flat_map (λ (c : ℕ × Cell). ids_in c.1) state.cells)
-          (recursion_from_All (HasCell (λ _. true) state) (ids_used state) good.sound.well_formed.used)))
-
-      int_cell : (x : ℕ) → HasCell (λ _. true) state x → HasCell is_int state x
-      int_cell x h = record { cell = h.cell; is = h.is; sort_is = ints.cells x h.cell h.is }
-
-      all_ints : (stack : List ℕ) → AllByRecursion (HasCell (λ _. true) state) stack → AllByRecursion (HasCell is_int state) stack
-      all_ints [] h = tt
-      all_ints (x ∷ stack) h = (int_cell x h.0, all_ints stack h.1)
-
-      given_int : (locals : List (Option ℕ)) → AllByRecursion (HasCell (λ _. true) state) (given_ids locals) → (n x : ℕ)
-          → slice_get locals n ≡ Some (Some x) → HasCell is_int state x
-      given_int [] h n x e = absurd (none-some (Some x) e)
-      given_int (None ∷ locals) h zero x e = absurd (none-some x (some_is e))
-      given_int (Some y ∷ locals) h zero x e = subst (HasCell is_int state) (some_is (some_is e)) (int_cell y h.0)
-      given_int (None ∷ locals) h (suc n) x e = given_int locals h n x e
-      given_int (Some y ∷ locals) h (suc n) x e = given_int locals h.1 n x e
-
-      by_types : (op : Op) (next : Option ℕ) (form : Form) (there : Option PlaceTypes)
-          → insn_at p.methods frame.method frame.pc ≡ Some (op, next) → form_of op ≡ Some form
-          → AreFit state (plan_here p typing state frame below (Some form) next there)
-      by_types op next form None at_insn is = tt
-      by_types op next form (Some there) at_insn is = form_fit op next form there.stack at_insn is (inr (record {
-        stack = all_ints frame.stack (all_back (HasCell (λ _. true) state) (given_ids frame.locals) frame.stack held);
-        locals = given_int frame.locals (all_front (HasCell (λ _. true) state) (given_ids frame.locals) frame.stack held);
-      }))
-
-      by_form : (op : Op) (next : Option ℕ) (form : Option Form) → insn_at p.methods frame.method frame.pc ≡ Some (op, next)
-          → form_of op ≡ form → AreFit state (plan_by (Some (op, next)) form)
-      by_form op next None at_insn is = tt
-      by_form op next (Some form) at_insn is = by_types op next form (typing frame.method frame.pc) at_insn is
-
-      by_insn : (found : Option (Op × Option ℕ)) → insn_at p.methods frame.method frame.pc ≡ found
-          → AreFit state (plan_by found (option_map_or (λ (x : Op × Option ℕ). form_of x.0) found None))
-      by_insn None e = tt
-      by_insn (Some (op, next)) e = by_form op next (form_of op) e refl
-
-      ints_fit : AreFit state (plan_of p typing state)
-      ints_fit = subst (AreFit state) (sym plan_is) (by_insn (insn_at p.methods frame.method frame.pc) refl)
-
-    normal_fit : HasIntOperands p typing state → AreFit state (plan_of p typing state)
-    normal_fit (inl typing_is) = typed_fit typing_is
-    normal_fit (inr ints) = ints_fit ints
-
-  by_mode : (thrown : Option ℕ) (frames : List AbstractFrame) → HasIntOperands p typing state → state.throwing ≡ thrown
+  by_mode : (thrown : Option ℕ) (frames : List AbstractFrame) → IsTypingOf p typing → state.throwing ≡ thrown
       → state.frames ≡ frames → AreFit state (plan_of p typing state)
-  by_mode thrown [] ints t f = subst (AreFit state) (sym (ap (plan_in p typing state state.throwing) f)) tt
-  by_mode None (frame ∷ below) ints t f = normal_fit frame below f t ints
-  by_mode (Some x) (frame ∷ below) ints t f =
+  by_mode thrown [] typing_is t f = subst (AreFit state) (sym (ap (plan_in p typing state state.throwing) f)) tt
+  by_mode None (frame ∷ below) typing_is t f = typed_fit frame below f t typing_is
+  by_mode (Some x) (frame ∷ below) typing_is t f =
       subst (AreFit state) (sym (ap (λ (thrown : Option ℕ). plan_in p typing state thrown state.frames) t
       ∙ ap (plan_in p typing state (Some x)) f))
       (throwing_fit (types_of p.world) state x frame below (option_map_or (λ (m : Method). m.table) (slice_get p.methods frame.method) []))
 
-  pub plan_fit : HasIntOperands p typing state → AreFit state (plan_of p typing state)
-  plan_fit ints = by_mode state.throwing state.frames ints refl refl
+  pub plan_fit : IsTypingOf p typing → AreFit state (plan_of p typing state)
+  plan_fit typing_is = by_mode state.throwing state.frames typing_is refl refl

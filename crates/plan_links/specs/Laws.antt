@@ -1,5 +1,5 @@
 -- What the links of an expansion are: such as the rules of paths take.
-use Rattle.std.specs.Prelude.{◌⊎◌, ℕ, List}
+use Rattle.std.specs.Prelude.{ℕ, List}
 use Rattle.std.specs.List.{AllByRecursion}
 use Rattle.abs_cells.specs.AbstractStates.{AbstractState}
 use Rattle.class_world.specs.WorldTypes.{types_of}
@@ -11,20 +11,16 @@ use Rattle.term_graph.specs.Graphs.{GraphChild}
 use Rattle.path_rules.specs.Conditions.{IsLinkBetween}
 use Rattle.abs_expand.specs.BadStates.{IsGoodState}
 use Rattle.abs_expand.specs.Expansions.{plan_of, AreExpanded}
-use Rattle.abs_expand.specs.IntForms.{IsIntState}
 
 -- the link to a child is such as rules take
 abbrev pub FitsRules : AbstractState → GraphChild → Type 0
 FitsRules state child = IsLinkBetween state child.state child.link
 
--- what instructions take as ints are ints of the state: the typing is the program's, or every cell is an int
-abbrev pub HasIntOperands : Program → (ℕ → CodeTypes) → AbstractState → Type 0
-HasIntOperands p typing state = IsTypingOf p typing ⊎ IsIntState state
-
--- So are the links of all children of a good state, whatever its plan is, in a program whose numbers are of their fields' widths.
+-- So are the links of all children of a good state, whatever its plan is, in a program whose numbers are of their fields' widths, with the
+-- program's typing.
 abbrev pub LinksFit : Type 0
 LinksFit =
     (p : Program) (typing : ℕ → CodeTypes) (state : AbstractState) (children : List GraphChild)
-    → HasWidths p → HasIntOperands p typing state → IsGoodState p typing state
+    → HasWidths p → IsTypingOf p typing → IsGoodState p typing state
     → AreExpanded (types_of p.world) state (plan_of p typing state) children
     → AllByRecursion (FitsRules state) children

@@ -54,6 +54,6 @@ bare_refusal (Err refused) = refl
 
 pub refusals_one : RefusalsAreOne
 refusals_one nodes others desc files a b h k na nb =
-    let same : bare a ≡ bare b = files_one SaysNothing (λ p typing described ints. nothing_one p typing described) desc files
+    let same : bare a ≡ bare b = files_one SaysNothing nothing_one desc files
     (bare a) (bare b) (bare_answer nodes desc files a h) (bare_answer others desc files b k) (bare_known a na) (bare_known b nb) in
     sym (bare_refusal a) ∙ (ap (λ (r : Bare). refusal_of r) same ∙ bare_refusal b)

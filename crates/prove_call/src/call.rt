@@ -20,7 +20,7 @@ use input_steps::Refused;
 use prove_core::{SearchFault, search};
 use std::alloc::Global;
 
-/// What is said of a program about ints whose inputs are described.
+/// What is said of a program whose inputs are described.
 fn prove_given(alloc: Global, given: &DescribedProgram<'_>, nodes: u32) -> Result<Answer, Refused>
     requires ready { IsReady given.now }
     requires names { IsTrue (list_all is_class_name (names_of (classes_of given.now.program.world))) }
@@ -52,8 +52,7 @@ fn prove_given(alloc: Global, given: &DescribedProgram<'_>, nodes: u32) -> Resul
 /// # Errors
 ///
 /// The first fault with its place: of a class file, in order; of the description's text; of the classes as a world; of the method's
-/// name; of its program; a cycle of calls; a method without a typing; of the description against the program. At `Link` `NotBuilt`,
-/// where the program isn't one method about ints alone. Want of memory.
+/// name; of its program; a cycle of calls; a method without a typing; of the description against the program. Want of memory.
 pub fn prove_line(
     alloc: Global,
     desc: &[u8],

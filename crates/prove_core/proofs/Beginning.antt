@@ -1,14 +1,24 @@
 -- A search begins with the initial state of its description.
-use Rattle.std.proofs.Common.{◌≡◌, ◌≤◌, ℕ, List, length, subst}
+use Rattle.std.proofs.Common.{◌≡◌, ◌≤◌, ℕ, List, length, sym, subst}
 use Rattle.abs_cells.specs.AbstractStates.{AbstractState}
-use Rattle.class_program.specs.Programs.{Program}
+use Rattle.class_program.specs.Programs.{Program, IsClosed as IsClosedProgram}
 use Rattle.frame_types.specs.Tables.{CodeTypes}
+use Rattle.code_verify.specs.Typings.{IsTypingOf}
+use Rattle.input_desc.specs.declared.desc.Desc.{Desc}
+use Rattle.input_desc.specs.Descs.{IsOwnDesc}
+use Rattle.input_desc.specs.Initial.{initial_of}
+use Rattle.grow_laws.specs.Laws.{GrowingRoots}
 use Rattle.term_graph.specs.Graphs.{GraphNode}
 use Rattle.graph_build.specs.Disciplined.{IsDisciplined}
 use Rattle.graph_build.specs.Answers.{IsClosed, IsStopped, PassesLimit, HasLarge}
 use Rattle.prove_core.specs.Growth.{growth_of}
 use Rattle.prove_core.specs.Reasons.{HasManyNodes, HasManyIds}
-use Rattle.prove_core.specs.Words.{aim_of, IsGrownGraph}
+use Rattle.prove_core.specs.Words.{aim_of, CanGrow, IsGrownGraph}
+
+pub root_grows : (p : Program) (typing : ℕ → CodeTypes) (desc : Desc) (root : AbstractState) → GrowingRoots → IsClosedProgram p
+    → IsTypingOf p typing → IsOwnDesc p desc → root ≡ initial_of p desc → CanGrow p typing root
+root_grows p typing desc root law closed typing_is own e =
+    subst (CanGrow p typing) (sym e) (record { typing_is = typing_is; grows = law p typing desc closed typing_is own })
 
 module _ (p : Program) (typing : ℕ → CodeTypes) (first state : AbstractState) (is_first : first ≡ state) (limit : ℕ)
     (nodes : List GraphNode) where

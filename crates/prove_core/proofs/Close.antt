@@ -7,18 +7,22 @@ use Rattle.std.proofs.lemmas.Bool.{false≢true, eqb-true}
 use Rattle.std.proofs.lemmas.Int.{ints}
 use Rattle.std.proofs.lemmas.List.Elements.{recursion_from_All}
 use Rattle.std.proofs.lemmas.Option.{none-some}
+use Rattle.list_views.proofs.Quantified.{all_joined}
 use Rattle.jvm_values.proofs.Options.{some_is}
 use Rattle.lin_core.specs.declared.rows.WRow.{WRow}
 use Rattle.abs_cells.specs.declared.cells.Cell.{Cell}
 use Rattle.abs_cells.specs.declared.cells.Cell.TheVariants.{Int, Null, Obj, Nums, Refs, Unk}
 use Rattle.abs_cells.specs.Cells.{is_int, cell_in, HasCell}
+use Rattle.abs_cells.specs.Patterns.{Pattern}
 use Rattle.term_graph.specs.Edges.{is_size_variable}
 use Rattle.path_rules.specs.Stops.{Stop, Leg}
 use Rattle.path_rules.specs.Rules.{at_least_zero, ids_with, variable_of, bounds_of, rows_of_stop, rows_of_leg, variables_after}
-use Rattle.path_rules.specs.Rules.{rows_along, int_slot}
-use Rattle.path_rules.specs.Bare.{IsBounded, AreBounded}
+use Rattle.path_rules.specs.Rules.{rows_along, int_slot, size_slot, slots_of}
+use Rattle.path_rules.specs.Conditions.{IsBounded, AreBounded}
+use Rattle.path_rules.proofs.Finding.{have_sort}
+use Rattle.path_rules.proofs.Walking.{IsGoodStop}
 use Rattle.rule_links.specs.Links.{IsAmong}
-use Rattle.rank_forms.specs.Graphs.{HasClose, IsCloseInt, IsSizeSlot}
+use Rattle.rank_forms.specs.Graphs.{HasClose, IsCloseInt}
 
 -- ---- rows among others
 
@@ -27,7 +31,7 @@ among_first [] ys row (n, e) = absurd (none-some row e)
 among_first (x ∷ xs) ys row (zero, e) = (0, e)
 among_first (x ∷ xs) ys row (suc n, e) = let r = among_first xs ys row (n, e) in (suc r.0, r.1)
 
-among_second : (xs ys : List WRow) (row : WRow) → IsAmong ys row → IsAmong (xs ++ ys) row
+pub among_second : (xs ys : List WRow) (row : WRow) → IsAmong ys row → IsAmong (xs ++ ys) row
 among_second [] ys row a = a
 among_second (x ∷ xs) ys row a = let r = among_second xs ys row a in (suc r.0, r.1)
 
@@ -45,7 +49,7 @@ among_cells f (c ∷ cells) id cell row e a = at (c.0 == id) refl e (λ k. among
         (subst (λ (x : Cell). IsAmong (bounds_of (f id) x) row) (sym (some_is k)) a))
     at false h k later = among_second (bounds_of (f c.0) c.1) (flat_map (λ (x : ℕ × Cell). bounds_of (f x.0) x.1) cells) row (later k)
 
-among_along : (first : ℕ) (stop : Stop) (rides : List (Leg × Stop)) (row : WRow) → IsAmong (rows_of_stop first stop.state) row
+pub among_along : (first : ℕ) (stop : Stop) (rides : List (Leg × Stop)) (row : WRow) → IsAmong (rows_of_stop first stop.state) row
     → IsAmong (rows_along first stop rides) row
 among_along first stop [] row a = a
 among_along first stop (ride ∷ rides) row a = among_first (rows_of_stop first stop.state)
@@ -133,15 +137,22 @@ slot_close : (first : ℕ) (stop : Stop) (rides : List (Leg × Stop)) (id : ℕ)
 slot_close first stop rides id bounded has size v is = subst (IsClose (rows_along first stop rides)) (ap first_name is.terms)
     (int_close first stop rides id bounded has)
 
-pub slots_close : (first : ℕ) (stop : Stop) (rides : List (Leg × Stop)) (ids : List ℕ) → AreBounded stop.state
+ints_close : (first : ℕ) (stop : Stop) (rides : List (Leg × Stop)) (ids : List ℕ) → AreBounded stop.state
     → AllByRecursion (HasCell is_int stop.state) ids → AllByRecursion (IsCloseInt (rows_along first stop rides))
     (map (int_slot first stop) ids)
-slots_close first stop rides [] bounded all = tt
-slots_close first stop rides (id ∷ ids) bounded all =
-    (slot_close first stop rides id bounded all.0, slots_close first stop rides ids bounded all.1)
+ints_close first stop rides [] bounded all = tt
+ints_close first stop rides (id ∷ ids) bounded all =
+    (slot_close first stop rides id bounded all.0, ints_close first stop rides ids bounded all.1)
 
--- none of them is a size
-pub slots_no_sizes : (rows : List WRow) (first : ℕ) (stop : Stop) (ids : List ℕ)
-    → AllByRecursion (IsSizeSlot rows (λ _. false)) (map (int_slot first stop) ids)
-slots_no_sizes rows first stop [] = tt
-slots_no_sizes rows first stop (id ∷ ids) = ((λ size. absurd (false≢true size)), slots_no_sizes rows first stop ids)
+sizes_close : (rows : List WRow) (first : ℕ) (stop : Stop) (sizes : List (ℕ × Pattern))
+    → AllByRecursion (IsCloseInt rows) (map (size_slot first stop) sizes)
+sizes_close rows first stop [] = tt
+sizes_close rows first stop (entry ∷ sizes) = ((λ size. absurd (false≢true (sym size))), sizes_close rows first stop sizes)
+
+pub slots_close : (first : ℕ) (stop : Stop) (rides : List (Leg × Stop)) → AreBounded stop.state → IsGoodStop stop
+    → AllByRecursion (IsCloseInt (rows_along first stop rides)) (slots_of first stop)
+slots_close first stop rides bounded good =
+    all_joined (IsCloseInt (rows_along first stop rides)) (map (int_slot first stop) (ids_with is_int stop.state))
+    (map (size_slot first stop) stop.sizes)
+    (ints_close first stop rides (ids_with is_int stop.state) bounded (have_sort is_int stop.state good.good.rising))
+    (sizes_close (rows_along first stop rides) first stop stop.sizes)

@@ -2,10 +2,9 @@
 use Rattle.std.proofs.Common.{◌≡◌, ℕ, suc, ◌+◌, ◌≤◌, Bool, true, false, cond, eqb, List, [], ◌∷◌, length, ℤ, pos, ◌+ℤ◌, ap, arith}
 use Rattle.std.specs.Prelude.{nat_lt, unsigned_abs}
 use Rattle.std.specs.Ordering.{int_eq}
-use Rattle.std.proofs.lemmas.Int.{ints}
 use Rattle.list_views.proofs.Orders.{size_of_sum}
 use Rattle.lin_core.specs.Weights.{total_size}
-use Rattle.path_rules.specs.Rules.{unless_zero, with_term, collected}
+use Rattle.term_enc.specs.Sizes.{unless_zero, with_term, collected}
 
 -- at most so many terms, with coefficients of at most a size together
 pub record IsWithin (terms : List (ℕ × ℤ)) (count size : ℕ) : Type 0 where
@@ -44,7 +43,7 @@ with_within term (first ∷ rest) = at (eqb term.0 first.0) (nat_lt term.0 first
         let s = w.size_is in
         record { count_is = omega (arith, c); size_is = omega (arith, s) }
 
-collected_within : (terms : List (ℕ × ℤ)) → IsWithin (collected terms) (length terms) (total_size terms)
+pub collected_within : (terms : List (ℕ × ℤ)) → IsWithin (collected terms) (length terms) (total_size terms)
 collected_within [] = record { count_is = omega arith; size_is = omega arith }
 collected_within (term ∷ terms) =
     let w = collected_within terms in

@@ -1,34 +1,29 @@
 -- The ends of rules: their ids rise, and ends at one cut have the same ids, kinds and places.
-use Rattle.std.proofs.Common.{◌≡◌, ◌∙◌, ℕ, ℤ, suc, ◌≤◌, Bool, true, false, cond, List, [], ◌∷◌, ◌++◌, map, Some, refl, sym, ap}
-use Rattle.std.proofs.Common.{subst, arith}
+use Rattle.std.proofs.Common.{◌≡◌, ◌∙◌, ℕ, ℤ, suc, Bool, true, false, cond, List, [], ◌∷◌, ◌++◌, map, Some, refl, sym, ap}
+use Rattle.std.proofs.Common.{◌<◌, eqb, pos, subst, arith}
 use Rattle.std.specs.Prelude.{filter}
-use Rattle.std.proofs.lemmas.List.{append-nil}
+use Rattle.std.proofs.lemmas.Bool.{eqb-true}
+use Rattle.std.proofs.lemmas.List.{append_assoc, append-nil}
+use Rattle.std.proofs.lemmas.Option.{none-some}
 use Rattle.lin_core.proofs.Coefficients.{rise_lower}
 use Rattle.list_views.proofs.Options.{one_answer, then_some}
 use Rattle.lin_core.specs.Rows.{RiseFrom}
 use Rattle.descent.specs.declared.rules.SlotForm.{SlotForm}
 use Rattle.descent.specs.declared.rules.Place.{Place}
 use Rattle.abs_cells.specs.declared.cells.Cell.{Cell}
-use Rattle.abs_cells.specs.Cells.{is_int}
+use Rattle.abs_cells.specs.Cells.{is_int, cell_in}
 use Rattle.abs_cells.specs.Patterns.{Pattern}
 use Rattle.abs_cells.specs.Sound.{AreIdsRising}
 use Rattle.path_rules.specs.Paths.{edges, end_of, is_cut, only_last}
-use Rattle.path_rules.specs.Stops.{Stop, Leg, LinkedGraph, AreSizes, stop_at, rides_from}
+use Rattle.abs_reach.specs.Keys.{AreKeysRising}
+use Rattle.path_rules.specs.Stops.{Stop, Leg, LinkedGraph, pattern_in, stop_at, rides_from}
 use Rattle.path_rules.specs.Rules.{ids_with, last_along, variables_after, int_slot, size_slot, slots_of}
-use Rattle.path_rules.specs.Conditions.{HasIntsAlone}
 use Rattle.path_rules.proofs.Finding.{ids_in_cells}
 use Rattle.path_rules.proofs.Ready.{no_rides, ride_first}
-use Rattle.path_rules.proofs.Telling.{no_pattern}
+use Rattle.path_rules.proofs.PatternLists.{pattern_first, pattern_later}
+use Rattle.path_rules.proofs.Walking.{IsGoodStop}
+use Rattle.rule_links.specs.Positions.{same}
 use Rattle.rank_forms.specs.Graphs.{AreNamed, head_of, heads, ids_of}
-
--- ---- slots are of ints alone
-
-pub slots_are : (first : ℕ) (stop : Stop) → HasIntsAlone stop.state → AreSizes stop.state stop.sizes
-    → slots_of first stop ≡ map (int_slot first stop) (ids_with is_int stop.state)
-slots_are first stop alone sizes =
-    ap (λ (s : List (ℕ × Pattern)). map (int_slot first stop) (ids_with is_int stop.state) ++ map (size_slot first stop) s)
-    (no_pattern stop.state stop.sizes alone sizes)
-    ∙ append-nil (map (int_slot first stop) (ids_with is_int stop.state))
 
 -- ---- their ids rise
 
@@ -50,11 +45,53 @@ no_names : (first : ℕ) (stop : Stop) (ids : List ℕ) → ids_of true (map (in
 no_names first stop [] = refl
 no_names first stop (id ∷ ids) = no_names first stop ids
 
-pub slots_named : (first : ℕ) (stop : Stop) → AreIdsRising 0 stop.state.cells → HasIntsAlone stop.state
-    → AreSizes stop.state stop.sizes → AreNamed (slots_of first stop)
-slots_named first stop rising alone sizes =
-    subst AreNamed (sym (slots_are first stop alone sizes))
-    (names_rise first stop 0 stop.state.cells rising, subst (RiseFrom 0 65536) (sym (no_names first stop (ids_with is_int stop.state))) tt)
+-- slots of sizes have no ids of ints
+no_ints : (first : ℕ) (stop : Stop) (sizes : List (ℕ × Pattern)) → ids_of false (map (size_slot first stop) sizes) ≡ []
+no_ints first stop [] = refl
+no_ints first stop (entry ∷ sizes) = no_ints first stop sizes
+
+sizes_rise : (first : ℕ) (stop : Stop) (low : ℕ) (sizes : List (ℕ × Pattern)) → AreKeysRising low sizes
+    → ((id : ℕ) (pattern : Pattern) → pattern_in sizes id ≡ Some pattern → id < 65536)
+    → RiseFrom low 65536 (ids_of true (map (size_slot first stop) sizes))
+sizes_rise first stop low [] rise each = tt
+sizes_rise first stop low (entry ∷ sizes) rise each = (
+  rise.0,
+  each entry.0 entry.1 (pattern_first entry sizes),
+  sizes_rise first stop (suc entry.0) sizes rise.1 (λ id pattern e. each id pattern (pattern_later entry sizes id pattern rise.1 e)),
+)
+
+both_ids : (size : Bool) (xs ys : List SlotForm) → ids_of size (xs ++ ys) ≡ ids_of size xs ++ ids_of size ys
+both_ids size [] ys = refl
+both_ids size (x ∷ xs) ys =
+    ap (λ (r : List (ℕ × ℤ)). cond (same x.size size) ((x.id, pos 1) ∷ []) [] ++ r) (both_ids size xs ys)
+    ∙ sym (append_assoc (cond (same x.size size) ((x.id, pos 1) ∷ []) []) (ids_of size xs) (ids_of size ys))
+
+high_id : (low : ℕ) (cells : List (ℕ × Cell)) (id : ℕ) (cell : Cell) → AreIdsRising low cells → cell_in cells id ≡ Some cell → id < 2048
+high_id low [] id cell rising e = absurd (none-some cell e)
+high_id low (c ∷ cells) id cell rising e = at (eqb c.0 id) refl e (λ k. high_id (suc c.0) cells id cell rising.1.1 k)
+  where
+    at : (b : Bool) → eqb c.0 id ≡ b → cond b (Some c.1) (cell_in cells id) ≡ Some cell → (cell_in cells id ≡ Some cell → id < 2048)
+        → id < 2048
+    at true h k later = let s = eqb-true c.0 id h in let l = rising.1.0 in omega (arith, s, l)
+    at false h k later = later k
+
+pub slots_named : (first : ℕ) (stop : Stop) → IsGoodStop stop → AreNamed (slots_of first stop)
+slots_named first stop good =
+    let ints = map (int_slot first stop) (ids_with is_int stop.state) in
+    let sizes = map (size_slot first stop) stop.sizes in
+    let rising = good.good.rising in (
+      subst (RiseFrom 0 65536)
+          (sym (both_ids false ints sizes ∙ (ap (λ (r : List (ℕ × ℤ)). ids_of false ints ++ r) (no_ints first stop stop.sizes)
+          ∙ append-nil (ids_of false ints))))
+          (names_rise first stop 0 stop.state.cells rising),
+      subst (RiseFrom 0 65536)
+          (sym (both_ids true ints sizes ∙ ap (λ (r : List (ℕ × ℤ)). r ++ ids_of true sizes)
+          (no_names first stop (ids_with is_int stop.state))))
+          (sizes_rise first stop 0 stop.sizes good.sizes.rise (λ id pattern e.
+          let has = (good.sizes.each id pattern e).0 in
+          let few = high_id 0 stop.state.cells id has.cell rising has.is in
+          omega (arith, few))),
+    )
 
 -- ---- their heads don't depend on variables
 

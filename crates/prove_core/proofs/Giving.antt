@@ -9,22 +9,20 @@ use Rattle.cert_check.specs.Valid.{IsValid}
 use Rattle.cert_form.specs.Certificates.{CertContent, cert_of, SaysOf}
 use Rattle.cert_check.specs.Parts.{case_of}
 use Rattle.cert_write.specs.Data.{certificate, content_of}
-use Rattle.descent.specs.Conditions.{AreSteps}
 use Rattle.descent.specs.declared.proof.ProofStep.{ProofStep}
-use Rattle.cert_check.specs.IntStates.{HasIntStates}
 use Rattle.graph_check.specs.Filling.{IsFilled}
 use Rattle.term_graph.specs.Graphs.{GraphNode}
 use Rattle.prove_core.specs.Answers.{IsCertificate, SaysValid}
-use Rattle.prove_core.specs.Reasons.{Aim, IsWholeWithSome, IsTooLong}
-use Rattle.prove_core.specs.Words.{aim_of}
+use Rattle.prove_core.specs.Reasons.{Aim, IsTooLong}
+use Rattle.prove_core.specs.Words.{aim_of, IsProved}
 
 pub says : (p : Program) (typing : ℕ → CodeTypes) (root : AbstractState) (names : List (List ℕ)) (bytes : List ℕ)
     (content : CertContent) (nodes : List GraphNode) → SaysOf (cert_of names) bytes (Ok content)
-    → IsFilled p typing content.parts nodes → HasIntStates p typing nodes
+    → IsFilled p typing content.parts nodes
     → IsValid (case_of p typing root nodes content.cuts content.proof) → IsCertified p typing nodes content.cuts root
     → SaysValid (aim_of p typing root) names bytes
-says p typing root names bytes content nodes said filled ints valid certified = record
-    { content = content; says = said; nodes = nodes; filled = filled; ints = ints; valid = valid; certified = certified }
+says p typing root names bytes content nodes said filled valid certified = record
+    { content = content; says = said; nodes = nodes; filled = filled; valid = valid; certified = certified }
 
 pub is_certificate : (aim : Aim) (names : List (List ℕ)) (nodes : List GraphNode) (cuts : List ℕ) (steps : List ProofStep)
     (bytes : List ℕ) → bytes ≡ compact_text (certificate names (content_of nodes cuts steps)) → length bytes ≤ 16777216
@@ -35,15 +33,17 @@ is_certificate aim names nodes cuts steps bytes e short valid = record
 pub too_long : (p : Program) (typing : ℕ → CodeTypes) (root : AbstractState) (names : List (List ℕ)) (nodes : List GraphNode)
     (cuts : List ℕ) (steps : List ProofStep) (bytes : List ℕ)
     → bytes ≡ compact_text (certificate names (content_of nodes cuts steps)) → 16777216 < length bytes
-    → IsWholeWithSome (aim_of p typing root) nodes cuts → IsValid (case_of p typing root nodes cuts steps) → AreSteps steps
+    → IsProved (aim_of p typing root) nodes cuts steps
     → (limit : ℕ) → length nodes ≤ limit → IsTooLong (aim_of p typing root) limit names nodes cuts steps (length bytes)
-too_long p typing root names nodes cuts steps bytes e many whole valid limits limit few = record {
+too_long p typing root names nodes cuts steps bytes e many proved limit few = record {
   few = few;
-  links = whole.0;
-  whole = whole.1;
-  valid = valid;
-  limits = limits;
+  links = proved.links;
+  whole = proved.whole;
+  valid = proved.valid;
+  rules = proved.rules;
+  paths = proved.paths;
+  limits = proved.limits;
+  lean = proved.lean;
   size_is = ap (λ (xs : List ℕ). length xs) e;
-  many
-      = many;
+  many = many;
 }

@@ -4,7 +4,6 @@ use Rattle.std.specs.Prelude.{All}
 use Rattle.std.specs.List.{AllByRecursion, AllZip}
 use Rattle.std.proofs.lemmas.List.Elements.{All-from_recursion}
 use Rattle.abs_cells.specs.AbstractStates.{AbstractState}
-use Rattle.class_world.specs.WorldTypes.{types_of}
 use Rattle.class_program.specs.Programs.{Program}
 use Rattle.frame_types.specs.Tables.{CodeTypes}
 use Rattle.term_graph.specs.declared.links.Link.{Link}
@@ -12,9 +11,8 @@ use Rattle.term_graph.specs.declared.nodes.By.{By}
 use Rattle.term_graph.specs.declared.nodes.By.TheVariants.{Expand, Instance, End, Todo}
 use Rattle.term_graph.specs.Graphs.{GraphNode, GraphChild}
 use Rattle.graph_check.specs.Good.{IsLeftBy, IsGoodNode}
-use Rattle.graph_check.proofs.Excluding.{good_by}
-use Rattle.cert_check.proofs.Bounded.{sound_bounded}
-use Rattle.path_rules.specs.Bare.{AreBounded}
+use Rattle.cert_check.proofs.Bounded.{all_bounded}
+use Rattle.path_rules.specs.Conditions.{AreBounded}
 use Rattle.prove_core.specs.ShortLinks.{IsShortLink}
 use Rattle.prove_core.specs.PlainRules.{GoodGraphRulesArePlain}
 use Rattle.prove_core.proofs.Plain.{path_rules_are_plain}
@@ -36,16 +34,6 @@ module _ (p : Program) (typing : ℕ → CodeTypes) (nodes : List GraphNode) whe
   left_short state End links left = subst (AllByRecursion IsShortLink) (sym left.1) tt
   left_short state Todo links left = absurd left
 
-  all_bounded : (list : List GraphNode) (links : List (List Link)) → AllZip (IsGoodNode p typing nodes) list links
-      → AllByRecursion (λ (n : GraphNode). AreBounded n.state) list
-  all_bounded [] links each = tt
-  all_bounded (node ∷ list) [] each = absurd each
-  all_bounded (node ∷ list) (own ∷ links) each = (
-    sound_bounded (types_of p.world) node.state (good_by p typing nodes node.state node.by own each.0).sound,
-    all_bounded list
-        links each.1,
-  )
-
   all_short : (list : List GraphNode) (links : List (List Link)) → AllZip (IsGoodNode p typing nodes) list links
       → AllByRecursion (λ (own : List Link). All IsShortLink own) links
   all_short list [] each = tt
@@ -54,7 +42,7 @@ module _ (p : Program) (typing : ℕ → CodeTypes) (nodes : List GraphNode) whe
       (All-from_recursion IsShortLink own (left_short node.state node.by own each.0), all_short list links each.1)
 
 pub good_graph_rules_are_plain : GoodGraphRulesArePlain
-good_graph_rules_are_plain p typing nodes root links cuts rules graph ready answer limits =
+good_graph_rules_are_plain p typing nodes root links cuts rules graph ready answer =
     path_rules_are_plain nodes links cuts rules ready
     (All-from_recursion (λ (n : GraphNode). AreBounded n.state) nodes (all_bounded p typing nodes nodes links graph.each))
-    (All-from_recursion (λ (own : List Link). All IsShortLink own) links (all_short p typing nodes nodes links graph.each)) answer limits
+    (All-from_recursion (λ (own : List Link). All IsShortLink own) links (all_short p typing nodes nodes links graph.each)) answer

@@ -12,5 +12,5 @@ mod RuleRows
 mod ShortCases
 mod ShortLinks
 mod ShortTurns
-mod Standing
+mod SizeKinds
 mod Targets

@@ -1,9 +1,8 @@
 -- The rules of a graph's paths are plain.
-use Rattle.std.proofs.Common.{◌≡◌, ◌∙◌, inl, inr, ℕ, zero, suc, ◌≤◌, false, List, [], ◌∷◌, length, map, take, Some, refl, sym, ap}
+use Rattle.std.proofs.Common.{◌≡◌, ◌∙◌, inl, inr, ℕ, zero, suc, ◌≤◌, List, [], ◌∷◌, length, take, Some, refl, sym, ap}
 use Rattle.std.proofs.Common.{subst, arith}
 use Rattle.std.specs.Prelude.{All, slice_get}
 use Rattle.std.specs.List.{AllByRecursion, AllZip}
-use Rattle.std.proofs.lemmas.Bool.{false≢true}
 use Rattle.std.proofs.lemmas.List.Elements.{All-from_recursion, recursion_from_All}
 use Rattle.std.proofs.lemmas.Option.{none-some}
 use Rattle.list_views.proofs.Quantified.{all_at}
@@ -12,22 +11,23 @@ use Rattle.jvm_values.proofs.Options.{some_is}
 use Rattle.descent.specs.Conditions.{IsRule}
 use Rattle.descent.specs.declared.rules.PathRule.{PathRule}
 use Rattle.descent.specs.declared.rules.SlotForm.{SlotForm}
-use Rattle.abs_cells.specs.Cells.{is_int}
 use Rattle.term_graph.specs.Graphs.{GraphNode}
 use Rattle.path_rules.specs.Paths.{Path}
 use Rattle.path_rules.specs.Stops.{Stop, LinkedGraph, AreSized, stop_at}
-use Rattle.path_rules.specs.Rules.{ids_with, int_slot, slots_of, rows_along, last_along, IsRuleOf}
-use Rattle.path_rules.specs.Bare.{AreBounded}
+use Rattle.path_rules.specs.Rules.{slots_of, rows_along, last_along, IsRuleOf}
+use Rattle.path_rules.specs.Conditions.{AreBounded}
 use Rattle.path_rules.specs.Conditions.{IsReady}
-use Rattle.path_rules.proofs.Walking.{ints_of, good_first, last_good}
-use Rattle.path_rules.proofs.Ready.{stop_is, stop_sized, good_along}
-use Rattle.rank_forms.specs.Graphs.{IsPathRule, IsEndAt, heads, IsCloseInt, IsShort, IsSizeSlot, IsPlainRule}
+use Rattle.path_rules.proofs.Limited.{rules_fit}
+use Rattle.path_rules.proofs.Walking.{good_first, last_good}
+use Rattle.path_rules.proofs.Ready.{stop_is, good_along}
+use Rattle.rank_forms.specs.Graphs.{IsPathRule, IsEndAt, heads, IsCloseInt, IsShort, IsOneKind, IsPlainRule}
 use Rattle.prove_core.specs.ShortLinks.{AreShortLinks}
 use Rattle.prove_core.specs.PlainRules.{PathRulesArePlain, SomeRulesArePlain}
 use Rattle.prove_core.proofs.RuleRows.{rows_short}
 use Rattle.prove_core.proofs.Counted.{variables_long}
-use Rattle.prove_core.proofs.Ends.{slots_are, slots_named, same_heads, end_stop}
-use Rattle.prove_core.proofs.Close.{slots_close, slots_no_sizes}
+use Rattle.prove_core.proofs.Ends.{slots_named, same_heads, end_stop}
+use Rattle.prove_core.proofs.Close.{slots_close}
+use Rattle.prove_core.proofs.SizeKinds.{along_kind, kinds_along, kind_at, knows_first, path_knows, slots_sized}
 
 -- ---- lists side by side
 
@@ -53,18 +53,15 @@ module _ (linked : LinkedGraph) (cuts : List ℕ) (ready : IsReady linked.graph 
 
   path_rule : (path : Path) (rule : PathRule) → IsOf path rule → length rule.rows ≤ 65536 → IsPathRule rule
   path_rule path rule is few =
-      let good = good_along linked cuts path.from path.places is.start is.rides ready is.starts is.goes in
+      let good = good_along linked cuts path.from path.places is.start is.rides ready sized is.starts is.goes in
       let last = last_along 0 is.start is.rides in
-      let first_ints = good_first is.start is.rides good in
-      let last_ints = last_good 0 is.start is.rides good in
-      let there = end_stop linked cuts 0 path.from path.places is.start is.rides is.to is.ends is.goes in
-      let long = variables_long 0 is.start is.rides good in
+      let long = variables_long 0 is.start is.rides in
       let short : length (rows_along 0 is.start is.rides) ≤ 65536 = subst (λ (r : PathRule). length r.rows ≤ 65536) is.is few in
       subst IsPathRule (sym is.is) (record {
         rows = short;
         variables = omega (arith, long, short);
-        first = slots_named 0 is.start first_ints.rising first_ints.ints (stop_sized linked path.from is.start sized is.starts);
-        last = slots_named last.0 last.1 last_ints.rising last_ints.ints (stop_sized linked is.to last.1 sized there);
+        first = slots_named 0 is.start (good_first is.start is.rides good);
+        last = slots_named last.0 last.1 (last_good 0 is.start is.rides good);
       })
 
   -- the slots of an end are those of the stop at its cut
@@ -107,31 +104,29 @@ module _ (linked : LinkedGraph) (cuts : List ℕ) (ready : IsReady linked.graph 
   module _ (bounded : All (λ (n : GraphNode). AreBounded n.state) linked.graph) (short : AreShortLinks linked.links) where
     plain_rule : (path : Path) (rule : PathRule) → IsOf path rule → IsPlainRule rule
     plain_rule path rule is =
-        let good = good_along linked cuts path.from path.places is.start is.rides ready is.starts is.goes in
+        let good = good_along linked cuts path.from path.places is.start is.rides ready sized is.starts is.goes in
         let of = good_first is.start is.rides good in
         let rows = rows_along 0 is.start is.rides in
-        let ids = ids_with is_int is.start.state in
         let here = stop_is linked path.from is.start is.starts in
         let close : AreBounded is.start.state = subst AreBounded here.state_is
         (all_at (λ (n : GraphNode). AreBounded n.state) linked.graph path.from here.there bounded here.is) in
-        let slots = slots_are 0 is.start of.ints (stop_sized linked path.from is.start sized is.starts) in
+        let knows = path_knows is.start is.rides in
         subst IsPlainRule (sym is.is) (record {
-          ints = subst (All (IsCloseInt rows)) (sym slots)
-              (All-from_recursion (IsCloseInt rows) (map (int_slot 0 is.start) ids)
-              (slots_close 0 is.start is.rides ids close (ints_of is.start.state of)));
+          ints = All-from_recursion (IsCloseInt rows) (slots_of 0 is.start) (slots_close 0 is.start is.rides close of);
           short = All-from_recursion IsShort rows (rows_short linked 0 path.from path.places is.start is.rides short good is.goes);
           sizes = record {
-            sizes = λ _. false;
-            slots = subst (All (IsSizeSlot rows (λ _. false))) (sym slots)
-                (All-from_recursion (IsSizeSlot rows (λ _. false)) (map (int_slot 0 is.start) ids) (slots_no_sizes rows 0 is.start ids));
-            kinds = λ k d l. record { alike = λ kind n term e size. absurd (false≢true size) };
+            sizes = kind_at (kinds_along is.start is.rides);
+            slots = slots_sized 0 is.start is.rides of (kind_at (kinds_along is.start is.rides))
+                (knows_first (kind_at (kinds_along is.start is.rides)) 0 is.start is.rides knows);
+            kinds = All-from_recursion (IsOneKind (kind_at (kinds_along is.start is.rides))) rows
+                (along_kind (kind_at (kinds_along is.start is.rides)) 0 is.start is.rides good knows);
           };
         })
 
 -- ---- all rules
 
 pub path_rules_are_plain : PathRulesArePlain
-path_rules_are_plain graph links cuts rules ready bounded short answer limits =
+path_rules_are_plain graph links cuts rules ready bounded short answer =
     let has = answer.1 in
     let linked : LinkedGraph = record { graph = graph; links = links; sizes = has.are.sizes } in
     let paths = take (length rules) has.paths in
@@ -140,7 +135,7 @@ path_rules_are_plain graph links cuts rules ready bounded short answer limits =
     let few = has.few in
     record {
       paths = record {
-        limits = limits;
+        limits = rules_fit graph links cuts rules ready bounded has;
         few = omega (arith, whole, few);
         each = All-from_recursion IsPathRule rules
             (zip_all (IsRuleOf linked cuts) (λ (rule : PathRule). length rule.rows ≤ 65536) IsPathRule paths rules has.are.are rows

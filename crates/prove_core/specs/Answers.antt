@@ -7,7 +7,6 @@ use Rattle.cert_write.specs.Data.{certificate}
 use Rattle.cert_check.specs.Certified.{IsCertified}
 use Rattle.cert_check.specs.Valid.{IsValid}
 use Rattle.cert_check.specs.Parts.{case_of}
-use Rattle.cert_check.specs.IntStates.{HasIntStates}
 use Rattle.graph_check.specs.Filling.{IsFilled}
 use Rattle.term_graph.specs.Graphs.{GraphNode}
 use Rattle.prove_core.specs.declared.found.Found.{Found}
@@ -28,7 +27,6 @@ pub record SaysValid (aim : Aim) (names : List (List ℕ)) (bytes : List ℕ) : 
   pub says : SaysOf (cert_of names) bytes (Ok content)
   pub nodes : List GraphNode
   pub filled : IsFilled aim.program aim.typing content.parts nodes
-  pub ints : HasIntStates aim.program aim.typing nodes
   pub valid : IsValid (case_of aim.program aim.typing aim.root nodes content.cuts content.proof)
   pub certified : IsCertified aim.program aim.typing nodes content.cuts aim.root
 

@@ -1,7 +1,6 @@
 -- Why the rules of a graph's paths are such as the search for plain forms asks for.
 use Rattle.std.specs.Prelude.{◌≡◌, ◌≤◌, ℕ, List, All, length, Some, slice_get, Ok}
 use Rattle.std.specs.List.{AllByRecursion}
-use Rattle.descent.specs.Conditions.{AreRules}
 use Rattle.descent.specs.declared.rules.PathRule.{PathRule}
 use Rattle.abs_cells.specs.AbstractStates.{AbstractState}
 use Rattle.class_world.specs.WorldTypes.{types_of}
@@ -12,8 +11,7 @@ use Rattle.term_graph.specs.Graphs.{GraphNode, GraphChild}
 use Rattle.abs_expand.specs.Expansions.{plan_of, AreExpanded}
 use Rattle.graph_check.specs.Good.{GraphOk}
 use Rattle.path_rules.specs.Answers.{Answers}
-use Rattle.path_rules.specs.Bare.{AreBounded}
-use Rattle.path_rules.specs.Conditions.{IsReady}
+use Rattle.path_rules.specs.Conditions.{AreBounded, IsReady}
 use Rattle.rank_forms.specs.Graphs.{ArePlainRules}
 use Rattle.prove_core.specs.ShortLinks.{IsShortLink, AreShortLinks}
 
@@ -30,7 +28,7 @@ abbrev pub PathRulesArePlain : Type 0
 PathRulesArePlain =
     (graph : List GraphNode) (links : List (List Link)) (cuts : List ℕ) (rules : List PathRule)
     → IsReady graph links cuts → All (λ (n : GraphNode). AreBounded n.state) graph → AreShortLinks links
-    → Answers graph links cuts (Ok rules) → AreRules rules → ArePlainRules rules
+    → Answers graph links cuts (Ok rules) → ArePlainRules rules
 
 -- Those of a good graph are.
 abbrev pub GoodGraphRulesArePlain : Type 0
@@ -38,9 +36,9 @@ GoodGraphRulesArePlain =
     (p : Program) (typing : ℕ → CodeTypes) (nodes : List GraphNode) (root : AbstractState) (links : List (List Link))
     (cuts : List ℕ) (rules : List PathRule)
     → GraphOk p typing nodes root links → IsReady nodes links cuts
-    → Answers nodes links cuts (Ok rules) → AreRules rules → ArePlainRules rules
+    → Answers nodes links cuts (Ok rules) → ArePlainRules rules
 
--- So are some of such rules.
+-- Rules that are all among such rules, and are no more than these, are such: there may be no more than 4,096 of them.
 abbrev pub SomeRulesArePlain : Type 0
 SomeRulesArePlain =
     (rules some : List PathRule) → ArePlainRules rules → length some ≤ length rules

@@ -20,6 +20,7 @@ use Rattle.cert_check.specs.Valid.{IsValid}
 use Rattle.cert_check.specs.Parts.{case_of}
 use Rattle.chain_proofs.specs.declared.proving.LeftRule.{LeftRule}
 use Rattle.chain_proofs.specs.Answers.{LeavesStuck}
+use Rattle.chain_proofs.specs.Lean.{AreLean}
 use Rattle.cert_form.specs.Limits.{most_certificate_bytes}
 use Rattle.prove_core.specs.Cuts.{AreTargets}
 use Rattle.prove_core.specs.Growth.{growth_of}
@@ -53,9 +54,6 @@ pub record IsWhole (aim : Aim) (nodes : List GraphNode) (links : List (List Link
   pub good : GraphOk aim.program aim.typing nodes aim.root links
   pub targets : AreTargets nodes cuts
 
-abbrev pub IsWholeWithSome : Aim → List GraphNode → List ℕ → Type 0
-IsWholeWithSome aim nodes cuts = (links : List (List Link)) × IsWhole aim nodes links cuts
-
 -- there are too many paths, or too many rows in their rules
 abbrev pub IsLong : PathFault → Type 0
 IsLong (Uncut node) = ⊥
@@ -79,21 +77,26 @@ pub record HasLongPaths (aim : Aim) (limit : ℕ) (nodes : List GraphNode) : Typ
 abbrev pub written : List (List ℕ) → List GraphNode → List ℕ → List ProofStep → List ℕ
 written names nodes cuts steps = compact_text (certificate names (content_of nodes cuts steps))
 
--- the certificate is valid, its graph has no more nodes than the limit, and it has so many bytes, which are more than 16 MiB
+-- the certificate is valid, its graph has no more nodes than the limit, its proof has no idle steps, and it has so many bytes,
+-- which are more than 16 MiB
 pub record IsTooLong (aim : Aim) (limit : ℕ) (names : List (List ℕ)) (nodes : List GraphNode) (cuts : List ℕ)
     (steps : List ProofStep) (size : ℕ) : Type 0 where
   pub few : length nodes ≤ limit
   pub links : List (List Link)
   pub whole : IsWhole aim nodes links cuts
   pub valid : IsValid (case_of aim.program aim.typing aim.root nodes cuts steps)
+  pub rules : List PathRule
+  pub paths : PathAnswers nodes links cuts (Ok rules)
   -- its steps are within the limits of proofs: a split has a step, or -1, for each part
   pub limits : AreSteps steps
+  pub lean : AreLean rules steps
   pub size_is : size ≡ length (written names nodes cuts steps)
   pub many : most_certificate_bytes < size
 
 -- ---- rules that no form ranks
 
--- the graph has no more nodes than the limit; the steps so far are within the limits of proofs and hold, and leave rules to the next one that are stuck
+-- the graph has no more nodes than the limit; the steps so far are within the limits of proofs and hold, none of them is idle, and
+-- they leave rules to the next one that are stuck
 pub record IsComponent (aim : Aim) (limit : ℕ) (nodes : List GraphNode) (cuts : List ℕ) (steps : List ProofStep)
     (left : List LeftRule) : Type 0 where
   pub few : length nodes ≤ limit
@@ -101,4 +104,5 @@ pub record IsComponent (aim : Aim) (limit : ℕ) (nodes : List GraphNode) (cuts 
   pub whole : IsWhole aim nodes links cuts
   pub rules : List PathRule
   pub paths : PathAnswers nodes links cuts (Ok rules)
+  pub lean : AreLean rules steps
   pub stuck : LeavesStuck rules steps left

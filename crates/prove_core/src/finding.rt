@@ -3,20 +3,18 @@ ghost use Rattle.std.specs.Prelude.{◌≡◌, ◌≤◌, ℕ, length, IsTrue};
 ghost use Rattle.std.specs.List.{list_all};
 ghost use Rattle.class_base.specs.ClassNames.{is_class_name};
 ghost use Rattle.class_program.specs.Views.{program_of};
-ghost use Rattle.code_verify.specs.Typings.{typing_at};
+ghost use Rattle.code_verify.specs.Typings.{IsTypingOf, typing_at};
 ghost use Rattle.descent.specs.Conditions.{AreSteps};
 ghost use Rattle.cert_check.specs.Certified.{IsCertified};
 ghost use Rattle.cert_check.specs.Valid.{IsValid};
 ghost use Rattle.cert_check.specs.Parts.{case_of};
-ghost use Rattle.cert_check.specs.IntStates.{HasIntStates};
 ghost use Rattle.term_graph.specs.Limits.{most_nodes};
-ghost use Rattle.prove_core.specs.Reasons.{IsWholeWithSome};
 ghost use Rattle.prove_core.specs.Answers.{SaysValid, SearchesOr};
-ghost use Rattle.prove_core.specs.Words.{aim_of};
+ghost use Rattle.prove_core.specs.Words.{aim_of, IsProved};
 
 use crate::found::{Cert, Found, Reason, SearchFault};
 use abs_cells::{AbsState, Pairs};
-use cert_check::{check_cert, first_other_state};
+use cert_check::check_cert;
 use cert_form::{CertText, ClassNames, MOST_CERTIFICATE_BYTES};
 use cert_write::encode;
 use class_program::Program;
@@ -36,7 +34,7 @@ fn is_valid<P: Pairs>(
     cuts: &[u32],
     proof: &Proof,
 ) -> bool
-    requires ints { HasIntStates (program_of program.now) (typing_at typing.now) graph.old }
+    requires typing { IsTypingOf (program_of program.now) (typing_at typing.now) }
     requires few { length graph.old ≤ most_nodes }
     requires steps { AreSteps proof.now.steps }
     ensures valid { IsTrue result
@@ -50,30 +48,6 @@ fn is_valid<P: Pairs>(
     }
 }
 
-/// Whether each state of a graph that has an expansion is one of ints, and the graph with cuts and a proof is a valid certificate.
-fn is_valid_over_ints<P: Pairs>(
-    alloc: Global,
-    program: &Program<'_>,
-    typing: &Typing,
-    root: &AbsState<P>,
-    graph: &mut Graph<P>,
-    cuts: &[u32],
-    proof: &Proof,
-) -> bool
-    requires few { length graph.old ≤ most_nodes }
-    requires steps { AreSteps proof.now.steps }
-    ensures ints { IsTrue result → HasIntStates (program_of program.now) (typing_at typing.now) graph.old }
-    ensures valid { IsTrue result
-        → IsValid (case_of (program_of program.now) (typing_at typing.now) root.now graph.old cuts.now proof.now.steps) }
-    ensures certified { IsTrue result → IsCertified (program_of program.now) (typing_at typing.now) graph.old cuts.now root.now }
-{
-    match first_other_state(alloc, program, typing, graph) {
-        Ok(None) => is_valid(alloc, program, typing, root, graph, cuts, proof),
-        Ok(Some(_)) => false,
-        Err(_) => false,
-    }
-}
-
 /// Whether bytes say a certificate which, filled, is valid.
 #[tactic(auto, using(graph_fill::proofs::Lacking::few_filled, crate::proofs::Giving::says))]
 fn says_valid<P: Pairs>(
@@ -84,6 +58,7 @@ fn says_valid<P: Pairs>(
     names: &ClassNames,
     bytes: &[u8],
 ) -> bool
+    requires { IsTypingOf (program_of program.now) (typing_at typing.now) }
     ensures { IsTrue result → SaysValid (aim_of (program_of program.now) (typing_at typing.now) root.now) names.now bytes.now }
 {
     let Ok(text) = CertText::read(alloc, bytes, names) else {
@@ -93,7 +68,7 @@ fn says_valid<P: Pairs>(
     match filled {
         Ok(graph) => {
             let mut graph = graph;
-            is_valid_over_ints(
+            is_valid(
                 alloc,
                 program,
                 typing,
@@ -107,8 +82,8 @@ fn says_valid<P: Pairs>(
     }
 }
 
-/// The bytes of a certificate, which are read and checked; or the certificate, where they are too many. One that isn't valid is answered as
-/// want of memory.
+/// The bytes of a valid certificate, which are read and checked again; or the certificate, where they are too many. One whose bytes
+/// don't say a valid one again is answered as want of memory.
 #[tactic(auto, using(crate::proofs::Giving::too_long))]
 pub(crate) fn given<P: Pairs>(
     alloc: Global,
@@ -119,28 +94,16 @@ pub(crate) fn given<P: Pairs>(
     cert: Cert<P>,
 ) -> Result<Found<P>, SearchFault>
     requires names { IsTrue (list_all is_class_name names.now) }
-    requires whole { IsWholeWithSome (aim_of (program_of program.now) (typing_at typing.now) root.now) cert.graph cert.cuts }
-    requires ints { HasIntStates (program_of program.now) (typing_at typing.now) cert.graph }
+    requires proved { IsProved (aim_of (program_of program.now) (typing_at typing.now) root.now) cert.graph cert.cuts cert.proof.steps }
+    requires typing { IsTypingOf (program_of program.now) (typing_at typing.now) }
     requires few { length cert.graph ≤ most_nodes }
-    requires steps { AreSteps cert.proof.steps }
     ensures { (limit : ℕ) → length cert.graph ≤ limit → SearchesOr (aim_of (program_of program.now) (typing_at typing.now) root.now)
         names.now limit result }
 {
     let Cert { graph, cuts, proof } = cert;
     let mut graph = graph;
-    let bytes = encode(alloc, &mut graph, cuts.as_slice(), &proof, names)?;
+    let bytes = encode(alloc, &mut graph, true, cuts.as_slice(), &proof, names)?;
     if bytes.len() > MOST_CERTIFICATE_BYTES {
-        if !is_valid(
-            alloc,
-            program,
-            typing,
-            root,
-            &mut graph,
-            cuts.as_slice(),
-            &proof,
-        ) {
-            return Err(SearchFault::Memory);
-        }
         let size = bytes.len() as u64;
         let cert = Cert { graph, cuts, proof };
         return Ok(Found::Maybe(Reason::Bytes { cert, size }));

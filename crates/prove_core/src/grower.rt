@@ -1,84 +1,70 @@
-//! How the graph of a program about ints grows.
-ghost use Rattle.std.specs.Prelude.{◌≡◌, ℕ, true, IfOk, IfSome, map};
+//! How the graph of a program's runs grows.
+ghost use Rattle.std.specs.Prelude.{◌≡◌, ℕ, true, IfOk, map};
 ghost use Rattle.abs_cells.specs.Cells.{HasCell};
 ghost use Rattle.abs_cells.specs.Sound.{IsWellFormed};
-ghost use Rattle.abs_expand.specs.IntForms.{HasIntForms};
+ghost use Rattle.abs_expand.specs.declared.fault.ExpandFault.TheVariants.{BadState};
 ghost use Rattle.abs_reach.specs.Reached.{IsReached};
 ghost use Rattle.class_program.specs.Views.{program_of};
 ghost use Rattle.code_verify.specs.Typings.{typing_at};
 ghost use Rattle.frame_types.specs.Tables.{CodeTypes};
 ghost use Rattle.graph_build.specs.Growing.{GrowsOr, MatchesOr, WidensOr};
+ghost use Rattle.graph_build.specs.Rules.{HaveSamePositions};
 ghost use Rattle.prove_core.specs.Growth.{growth_of};
-ghost use Rattle.prove_core.specs.Words.{Scope, IsGrowing, AreGrowing, GrowsFrom, grow_fault, IsTested};
+ghost use Rattle.prove_core.specs.Words.{Scope, CanGrow, BecomesThese, IsGrowFault};
 
 use crate::heads;
-use crate::states::is_growing;
 use abs_cells::{AbsState, Id, Pairs};
 use abs_expand::{ExpandFault, expand};
 use abs_match::find_map;
 use abs_reach::Marks;
-use abs_widen::{WidenFault, stand_alike, widen};
+use abs_widen::{WidenFault, widen};
 use class_program::Program;
 use code_verify::Typing;
 use graph_build::{GrowFault, Grower, Grown};
+use grow_laws::{children_grow, growing_states_stand_alike, widenings_grow};
 use list_views::Seq;
 use std::alloc::{AllocError, Global};
 use term_graph::Child;
 
-/// Grows by a program and its typing. Each state that it hands on is tested before.
+/// Grows by a program and its typing.
 #[derive(Drop)]
-pub(crate) struct IntGrower<'a, 'b> {
+pub(crate) struct RunGrower<'a, 'b> {
     pub(crate) program: &'a Program<'b>,
     pub(crate) typing: &'a Typing,
     pub(crate) marks: Marks,
 }
 
-/// The states of children, where each is one that grows; None where one isn't.
-#[tactic(auto, using(crate::proofs::Grown::states_last, crate::proofs::Grown::growing_last))]
+/// The states of children.
 fn states_of<P: Pairs>(
     alloc: Global,
-    program: &Program<'_>,
-    typing: &Typing,
     children: Seq<Child<P>>,
-) -> Result<Option<Seq<AbsState<P>>>, AllocError>
-    requires { HasIntForms (program_of program.now) }
-    ensures states { IfOk result (λ found. IfSome found (λ states. states ≡ map (λ child. child.state) children)) }
-    ensures growing { IfOk result (AreGrowing (program_of program.now) (typing_at typing.now)) }
+) -> Result<Seq<AbsState<P>>, AllocError>
+    ensures { IfOk result (λ states. states ≡ map (λ child. child.state) children) }
 {
     let mut states = Seq::new(alloc);
     for child in children.into_vec() {
         let (state, _link) = child.into_parts();
-        if !is_growing(program, typing, &state) {
-            return Ok(None);
-        }
         states.push(state)?;
     }
-    Ok(Some(states))
+    Ok(states)
 }
 
 /// What a state with these children becomes.
-fn grown_of<P: Pairs>(
-    alloc: Global,
-    program: &Program<'_>,
-    typing: &Typing,
-    children: Seq<Child<P>>,
-) -> Result<Grown<P>, GrowFault>
-    requires { HasIntForms (program_of program.now) }
-    ensures { GrowsFrom (program_of program.now) (typing_at typing.now) children result }
+fn grown_of<P: Pairs>(alloc: Global, children: Seq<Child<P>>) -> Result<Grown<P>, GrowFault>
+    ensures { BecomesThese children result }
 {
-    match states_of(alloc, program, typing, children)? {
-        Some(states) => Ok(Grown::Children(states)),
-        None => Err(GrowFault::Memory),
-    }
+    let states = states_of(alloc, children)?;
+    Ok(Grown::Children(states))
 }
 
-/// The fault of an expansion, as one of growing. A state that grows breaks no clause.
+/// The fault of an expansion, as one of growing, where the state breaks no clause.
 fn fault_of(fault: ExpandFault) -> GrowFault
-    ensures { result ≡ grow_fault fault }
+    requires { (clause : ℕ) → fault ≡ BadState clause → ⊥ }
+    ensures { IsGrowFault fault result }
 {
     match fault {
         ExpandFault::TooManyIds { .. } => GrowFault::TooManyIds,
-        ExpandFault::BadState { .. } => GrowFault::Memory,
+        ExpandFault::BadState { .. } => unreachable!(),
         ExpandFault::Memory => GrowFault::Memory,
     }
 }
@@ -91,12 +77,14 @@ fn expanded<P: Pairs>(
     state: &AbsState<P>,
     marks: &mut Marks,
 ) -> Result<Grown<P>, GrowFault>
-    requires { IsGrowing (program_of program.now) (typing_at typing.now) state.now }
+    requires { CanGrow (program_of program.now) (typing_at typing.now) state.now }
     ensures { GrowsOr (growth_of (program_of program.now) (typing_at typing.now))
-        (IsGrowing (program_of program.now) (typing_at typing.now)) state.now result }
+        (CanGrow (program_of program.now) (typing_at typing.now)) state.now result }
 {
+    program.is_good();
+    children_grow();
     match expand(alloc, program, typing, state, marks) {
-        Ok(Some(children)) => grown_of(alloc, program, typing, children),
+        Ok(Some(children)) => grown_of(alloc, children),
         Ok(None) => Ok(Grown::End),
         Err(fault) => Err(fault_of(fault)),
     }
@@ -120,23 +108,7 @@ fn matched<P: Pairs>(
     }
 }
 
-/// A widening, where it is one that grows.
-fn tested<P: Pairs>(
-    program: &Program<'_>,
-    typing: &Typing,
-    wide: AbsState<P>,
-) -> Result<AbsState<P>, GrowFault>
-    requires { HasIntForms (program_of program.now) }
-    ensures { IsTested (program_of program.now) (typing_at typing.now) wide result }
-{
-    if is_growing(program, typing, &wide) {
-        Ok(wide)
-    } else {
-        Err(GrowFault::Memory)
-    }
-}
-
-/// The widening of a state by another one.
+/// The widening of a state by another one with the same positions.
 fn widened<P: Pairs>(
     alloc: Global,
     program: &Program<'_>,
@@ -145,29 +117,30 @@ fn widened<P: Pairs>(
     state: &AbsState<P>,
     marks: &mut Marks,
 ) -> Result<AbsState<P>, GrowFault>
-    requires above { IsGrowing (program_of program.now) (typing_at typing.now) above.now }
-    requires state { IsGrowing (program_of program.now) (typing_at typing.now) state.now }
+    requires above { CanGrow (program_of program.now) (typing_at typing.now) above.now }
+    requires state { CanGrow (program_of program.now) (typing_at typing.now) state.now }
+    requires positions { HaveSamePositions state.now above.now }
     ensures { WidensOr (growth_of (program_of program.now) (typing_at typing.now))
-        (IsGrowing (program_of program.now) (typing_at typing.now)) above.now state.now result }
+        (CanGrow (program_of program.now) (typing_at typing.now)) above.now state.now result }
 {
-    if !stand_alike(above, state) {
-        return Err(GrowFault::Memory);
-    }
+    program.is_good();
+    growing_states_stand_alike();
+    widenings_grow();
     match widen(alloc, &program.world, above, state, marks) {
-        Ok(wide) => tested(program, typing, wide),
+        Ok(wide) => Ok(wide),
         Err(WidenFault::TooManyIds) => Err(GrowFault::TooManyIds),
         Err(WidenFault::Memory) => Err(GrowFault::Memory),
     }
 }
 
-impl<P: Pairs> Grower<P> for IntGrower<'_, '_> {
+impl<P: Pairs> Grower<P> for RunGrower<'_, '_> {
     ghost Meaning = { Scope };
 
     ghost meaning = { λ grower. record { program = program_of grower.program.now; typing = typing_at grower.typing.now } };
 
     ghost rules = { λ scope. growth_of scope.program scope.typing };
 
-    ghost good = { λ scope. IsGrowing scope.program scope.typing };
+    ghost good = { λ scope. CanGrow scope.program scope.typing };
 
     fn expand(&mut self, alloc: Global, state: &AbsState<P>) -> Result<Grown<P>, GrowFault> {
         expanded(alloc, self.program, self.typing, state, &mut self.marks)

@@ -1,5 +1,4 @@
-//! The search for a certificate that every run of a program about ints ends: one that was written, read again and checked, or why there
-//! is none.
+//! The search for a certificate that every run of a program ends: one that was written, read again and checked, or why there is none.
 //!
 //! The graph that is searched, and each reason, are definitions: `specs/Growth`, `specs/Reasons`, `specs/Answers`.
 #![tactic(auto)]
@@ -11,7 +10,6 @@ mod grower;
 mod heads;
 mod plain_rules;
 mod searching;
-mod states;
 
 pub use chain_proofs::LeftRule;
 pub use found::{Cert, Found, Reason, SearchFault};

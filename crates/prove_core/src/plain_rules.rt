@@ -6,8 +6,8 @@ pub fn links_are_short()
     ensures { LinksAreShort }
 {}
 
-/// The rules of all paths of a graph that is ready are as the search for plain forms asks, where the ends of its intervals are at most 2^31
-/// in size and its links have short equations.
+/// The rules of all paths of a graph that is ready are as the search for plain forms asks, where the ends of its intervals are at most
+/// 2^31 in size and its links have short equations.
 pub fn path_rules_are_plain()
     ensures { PathRulesArePlain }
 {}
@@ -17,7 +17,7 @@ pub fn good_graph_rules_are_plain()
     ensures { GoodGraphRulesArePlain }
 {}
 
-/// Some of such rules are such rules.
+/// Rules that are all among such rules, and are no more than these, are such.
 pub fn some_rules_are_plain()
     ensures { SomeRulesArePlain }
 {}

@@ -6,7 +6,8 @@ use Rattle.std.proofs.lemmas.Bool.{cases_lt, ltb-true}
 use Rattle.std.proofs.lemmas.Bool.Decides.{nat_tests}
 use Rattle.std.proofs.lemmas.Option.{same_Some, none-some}
 use Rattle.descent.specs.declared.rules.PathRule.{PathRule}
-use Rattle.rank_forms.specs.Forms.{AreCuts, IsCutOf, IsIn, RiseTo, less_of, lesser, next_from}
+use Rattle.rank_forms.specs.RankSteps.{IsCutOf}
+use Rattle.rank_forms.specs.Forms.{AreCuts, IsIn, RiseTo, less_of, lesser, next_from}
 
 -- the cuts of the rules that are below a number, rising
 pub record AreCutsTo (rules : List PathRule) (cuts : List ℕ) (end : ℕ) : Type 0 where
@@ -124,19 +125,19 @@ either_is : (best : Option ℕ) (rule : PathRule) (rest : List PathRule) (low x 
 either_is best rule rest low x e = elim (lesser_is (lesser best rule.from low) rule.to low x e) as
     (λ o. (best ≡ Some x) ⊎ IsCutOf (rule ∷ rest) x) [
       | inl before ↦ from_is (lesser_is best rule.from low x before)
-      | inr to ↦ inr (0, rule, refl, inr to)
+      | inr to ↦ inr record { n = 0; rule = rule; is = refl; ends = inr to }
     ]
   where
     from_is : (best ≡ Some x) ⊎ (rule.from ≡ x) → (best ≡ Some x) ⊎ IsCutOf (rule ∷ rest) x
     from_is (inl first) = inl first
-    from_is (inr from) = inr (0, rule, refl, inl from)
+    from_is (inr from) = inr record { n = 0; rule = rule; is = refl; ends = inl from }
 
 next_is : (low x : ℕ) (best : Option ℕ) (rules : List PathRule) → next_from low best rules ≡ Some x → (best ≡ Some x) ⊎ IsCutOf rules x
 next_is low x best [] e = inl e
 next_is low x best (rule ∷ rest) e = elim (next_is low x (lesser (lesser best rule.from low) rule.to low) rest e) as
     (λ o. (best ≡ Some x) ⊎ IsCutOf (rule ∷ rest) x) [
       | inl was ↦ either_is best rule rest low x was
-      | inr later ↦ inr (suc later.0, later.1, later.2, later.3)
+      | inr later ↦ inr record { n = suc later.n; rule = later.rule; is = later.is; ends = later.ends }
     ]
 
 found_cut : (low x : ℕ) (rules : List PathRule) → next_from low None rules ≡ Some x → IsCutOf rules x

@@ -3,7 +3,7 @@ use Rattle.std.proofs.Common.{◌≡◌, ◌⊎◌, inl, inr, ℕ, zero, suc, �
 use Rattle.std.proofs.Common.{length, get_or, ℤ, pos, ◌+ℤ◌, ◌*ℤ◌, Option, Some, None, subst, ap, arith, refl, ◌∙◌, sym}
 use Rattle.std.specs.Prelude.{◌&&◌, slice_get, unsigned_abs, is_some, nat_lt}
 use Rattle.std.specs.Ordering.{int_eq}
-use Rattle.std.specs.List.{All}
+use Rattle.std.specs.List.{All, AllByRecursion}
 use Rattle.std.proofs.lemmas.Bool.{eq-eqb, eqb-true, ltb-true}
 use Rattle.std.proofs.lemmas.Bool.Decides.{Decides-int_eq, nat_tests}
 use Rattle.std.proofs.lemmas.Int.{ints}
@@ -376,6 +376,13 @@ pub forms_rise : (size : Bool) (rules : List PathRule) (parts : List (Place × �
     → RiseTo low cuts end → FormsRise low (forms_over rules size parts constant cuts)
 forms_rise size rules parts constant low end [] h = tt
 forms_rise size rules parts constant low end (cut ∷ cuts) h = (h.0, forms_rise size rules parts constant (suc cut) end cuts h.1)
+
+-- the forms are of these cuts
+pub forms_own : (P : ℕ → Type 0) (size : Bool) (rules : List PathRule) (parts : List (Place × ℤ)) (constant : ℤ) (cuts : List ℕ)
+    → ((k cut : ℕ) → slice_get cuts k ≡ Some cut → P cut)
+    → AllByRecursion (λ (form : CutForm). P form.cut) (forms_over rules size parts constant cuts)
+forms_own P size rules parts constant [] h = tt
+forms_own P size rules parts constant (cut ∷ cuts) h = (h 0 cut refl, forms_own P size rules parts constant cuts (λ k x e. h (suc k) x e))
 
 pub forms_plain : (rules : List PathRule) (parts : List (Place × ℤ)) (constant : ℤ) (cuts : List ℕ)
     → HaveNoSizes (forms_over rules false parts constant cuts)

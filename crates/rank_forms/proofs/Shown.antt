@@ -4,11 +4,13 @@ use Rattle.std.proofs.Common.{None, subst, ap, arith, refl, ◌∙◌, sym, rule
 use Rattle.std.specs.Prelude.{slice_get, int_lt, unsigned_abs, IsTrue}
 use Rattle.std.proofs.lemmas.Int.{ints}
 use Rattle.std.proofs.lemmas.List.{length-map}
+use Rattle.std.proofs.lemmas.List.Elements.{All-from_recursion}
 use Rattle.std.proofs.lemmas.Option.{slice_get_within, slice_get-get_or}
 use Rattle.list_views.proofs.Quantified.{all_at}
 use Rattle.lin_core.specs.Rows.{Rise}
 use Rattle.lin_core.specs.Weights.{AreWeights, row_under, rows_under}
 use Rattle.lin_core.specs.declared.rows.WRow.{WRow}
+use Rattle.descent.specs.declared.proof.CutForm.{CutForm}
 use Rattle.descent.specs.declared.rules.PathRule.{PathRule}
 use Rattle.descent.specs.declared.rules.Place.{Place}
 use Rattle.descent.specs.Rankings.{Ranking, weigh_of, weak_fault, strict_fault, bounded_fault}
@@ -18,9 +20,9 @@ use Rattle.rank_forms.specs.declared.following.Followed.{Followed}
 use Rattle.rank_forms.specs.Following.{IsFollowed}
 use Rattle.rank_forms.specs.Forms.{AreCuts, forms_over, list_from, needed, or_zero}
 use Rattle.rank_forms.specs.Graphs.{ArePathRules, IsPathRule}
-use Rattle.rank_forms.specs.RankSteps.{IsLinear, IsRankStep, has_strict}
+use Rattle.rank_forms.specs.RankSteps.{IsCutOf, IsLinear, IsRankStep, has_strict}
 use Rattle.rank_forms.proofs.Bases.{AreSmall, all_few, base_most, constant_small, one_strict, ranked}
-use Rattle.rank_forms.proofs.Formed.{AreParts, forms_plain, forms_rise, forms_small}
+use Rattle.rank_forms.proofs.Formed.{AreParts, forms_own, forms_plain, forms_rise, forms_small}
 use Rattle.rank_forms.proofs.Lined.{AreLines, bounded_none, ranking_with, strict_none, weak_none}
 
 -- along a rule the form of the ranking never rises
@@ -144,6 +146,8 @@ made_step size weights other rules parts all constant cuts are small c weigh ris
             ));
       };
       rise = forms_rise size rules parts constant 0 c.end cuts c.rise;
+      own = All-from_recursion (λ (form : CutForm). IsCutOf rules form.cut) forms
+          (forms_own (IsCutOf rules) size rules parts constant cuts c.only);
       classes = rise;
       linear = linear;
       strict = is_true (has_strict (list_from 0 all))

@@ -1,5 +1,5 @@
 -- Words for the functions of this crate and of `rank_search`: the form of each cut that is made of multiples of what stands at places, and the listed rules.
-use Rattle.std.specs.Prelude.{ℕ, suc, ℤ, pos, ◌+ℤ◌, ◌≡◌, ◌⊎◌, ◌≤◌, ◌==◌, Bool, List, [], ◌∷◌, ◌++◌, Option, Some, None}
+use Rattle.std.specs.Prelude.{ℕ, suc, ℤ, pos, ◌+ℤ◌, ◌≡◌, ◌≤◌, ◌==◌, Bool, List, [], ◌∷◌, ◌++◌, Option, Some, None}
 use Rattle.std.specs.Prelude.{if◌then◌else◌, nat_lt, int_lt, slice_get, length}
 use Rattle.std.specs.Ordering.{int_eq}
 use Rattle.descent.specs.declared.proof.CutForm.{CutForm}
@@ -11,6 +11,7 @@ use Rattle.descent.specs.declared.rules.SlotForm.{SlotForm}
 use Rattle.rank_forms.specs.declared.following.Bound.{Bound}
 use Rattle.rank_forms.specs.declared.following.Followed.{Followed}
 use Rattle.rank_forms.specs.Following.{IsAlong}
+use Rattle.rank_forms.specs.RankSteps.{IsCutOf}
 use Rattle.rule_links.specs.Positions.{slot_at}
 use Rattle.rule_links.specs.FallLinks.{StepsDown}
 
@@ -34,10 +35,6 @@ RiseTo low (cut ∷ rest) end = (low ≤ cut) × RiseTo (suc cut) rest end
 
 abbrev pub IsIn : List ℕ → ℕ → Type 0
 IsIn cuts cut = (k : ℕ) × (slice_get cuts k ≡ Some cut)
-
--- some rule starts or ends at the cut
-abbrev pub IsCutOf : List PathRule → ℕ → Type 0
-IsCutOf rules cut = (n : ℕ) × (rule : PathRule) × (slice_get rules n ≡ Some rule) × ((rule.from ≡ cut) ⊎ (rule.to ≡ cut))
 
 -- the cuts of the rules, rising
 pub record AreCuts (rules : List PathRule) (cuts : List ℕ) : Type 0 where

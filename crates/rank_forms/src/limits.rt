@@ -4,7 +4,7 @@ ghost use Rattle.lin_core.specs.Rows.{RiseFrom};
 ghost use Rattle.lin_core.specs.Weights.{AreWeights, IsWeight};
 ghost use Rattle.descent.specs.Conditions.{AreFew, AreForms, AreMultiples, AreRules, IsForm, IsListed, IsRanked};
 ghost use Rattle.descent.specs.Steps.{numbers_from, ranking_fault, ranking_of};
-ghost use Rattle.rank_forms.specs.RankSteps.{FormsRise, HaveNoSizes, IsLinear, IsRankStep, has_strict, is_strict};
+ghost use Rattle.rank_forms.specs.RankSteps.{FormsRise, HaveNoSizes, IsCutOf, IsLinear, IsRankStep, has_strict, is_strict};
 
 use descent::{
     CutForm, PathRule, RankRule, RankStep, Scratch, all_rules, check_rank_step, most_variables,
@@ -122,6 +122,25 @@ fn cuts_rise(forms: &[CutForm]) -> bool
     true
 }
 
+/// Whether a rule starts or ends at the cut.
+fn is_cut(rules: &[PathRule], cut: u32) -> bool
+    ensures { IsTrue result → IsCutOf rules.now cut }
+{
+    for rule in rules {
+        if rule.from == cut || rule.to == cut {
+            return true;
+        }
+    }
+    false
+}
+
+/// Whether each form is one of a cut at which a rule starts or ends.
+fn are_own(rules: &[PathRule], forms: &[CutForm]) -> bool
+    ensures { IsTrue result → All (λ form. IsCutOf rules.now form.cut) forms.now }
+{
+    forms.iter().all(|form| is_cut(rules, form.cut))
+}
+
 /// Whether the classes rise.
 fn classes_rise(weights: &[(u32, i64)]) -> bool
     ensures { IsTrue result → RiseFrom 0 4294967296 weights.now }
@@ -215,7 +234,7 @@ fn is_taken(alloc: Global, rules: &[PathRule], step: &RankStep) -> Result<bool, 
     }
 }
 
-/// Whether a step is within its limits, has a strict rule, and is taken by `check_rank_step` for all of the rules.
+/// Whether a step is within its limits, has forms of cuts of the rules alone and a strict rule, and is taken by `check_rank_step` for all of the rules.
 ///
 /// # Errors
 ///
@@ -228,6 +247,7 @@ pub fn is_rank_step(alloc: Global, rules: &[PathRule], step: &RankStep) -> Resul
         return Ok(false);
     }
     let keeps = cuts_rise(step.forms.as_slice())
+        && are_own(rules, step.forms.as_slice())
         && classes_rise(step.weights.as_slice())
         && is_linear(step)
         && has_strict(step.rules.as_slice());

@@ -8,7 +8,7 @@ use Rattle.descent.specs.Steps.{proof_fault, Refuses as ProofRefuses}
 use Rattle.term_graph.specs.Graphs.{GraphNode}
 use Rattle.graph_check.specs.Good.{GraphOk}
 use Rattle.cert_check.specs.Valid.{Tells}
-use Rattle.cert_check.specs.Parts.{case_of, IsPrepared, RulesOr}
+use Rattle.cert_check.specs.Parts.{case_of, RulesOr}
 use Rattle.cert_check.proofs.Preparing.{prepared}
 use Rattle.cert_check.proofs.Telling.{proof_refused, valid, certified}
 use Rattle.cert_check.proofs.checking.check_cert.Goals as goal
@@ -20,13 +20,6 @@ pub rules_between-requires-clause-graph : goal.rules_between-requires-clause-gra
 rules_between-requires-clause-graph g c =
     subst (λ (ns : List GraphNode). GraphOk (program_of c.args.program.now) (typing_at c.args.typing.now) ns c.args.root.now
     c.in-Ok.links.nodes) (sym c.in-Ok.ensures.same) (c.in-Ok.ensures.graph c.args.cuts.now c.args.proof.now.steps)
-
-pub rules_between-requires-clause-prepared : goal.rules_between-requires-clause-prepared
-rules_between-requires-clause-prepared g c =
-    subst (λ (ns : List GraphNode). IsPrepared ns c.in-Ok.links.nodes) (sym c.in-Ok.ensures.same)
-    (prepared c.links_fit.ensures (program_of c.args.program.now) (typing_at c.args.typing.now) c.is_good.ensures.widths
-    (g.S.NodeSource.graph c.args.source.now) c.args.root.now c.in-Ok.links.nodes c.requires.ints
-    (c.in-Ok.ensures.graph c.args.cuts.now c.args.proof.now.steps))
 
 pub returns-in-Err-rules_between-clause-tells : goal.returns-in-Err-rules_between-clause-tells
 returns-in-Err-rules_between-clause-tells g c =
@@ -59,7 +52,7 @@ returns-in-Ok-check_proof-clause-certified g c =
     let steps = c.args.proof.now.steps in
     let graph = c.in-Ok.ensures.graph cuts steps in
     certified p typing nodes cuts c.args.root.now steps c.in-Ok.links.nodes c.in-Ok-rules_between.rules graph
-    (prepared c.links_fit.ensures p typing c.is_good.ensures.widths nodes c.args.root.now c.in-Ok.links.nodes c.requires.ints graph)
+    (prepared c.links_fit.ensures p typing c.is_good.ensures.widths nodes c.args.root.now c.in-Ok.links.nodes c.requires.typing graph)
     (subst (λ (ns : List GraphNode). RulesOr (case_of p typing c.args.root.now ns cuts steps) c.in-Ok.links.nodes
     (Ok c.in-Ok-rules_between.rules)) c.in-Ok.ensures.same (c.in-Ok-rules_between.ensures.rules steps))
     (subst (λ (rs : List PathRule). ChainsEnd rs) c.as_slice.ensures c.in-Ok-check_proof.ensures.ends)

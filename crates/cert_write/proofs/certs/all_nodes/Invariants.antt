@@ -7,6 +7,6 @@ use Rattle.cert_write.proofs.certs.all_nodes.Given as goal
 abbrev pub invariant-loop-n : goal.invariant-loop-n
 invariant-loop-n g l =
     record {
-      written : AreWritten l.words.names.now (g.S.NodeSource.graph l.fn.source) l.n l.count l.named (map view l.values.items);
+      written : AreWritten l.second l.words.names.now (g.S.NodeSource.graph l.fn.source) l.n l.count l.named (map view l.values.items);
       same : g.S.NodeSource.graph l.source ≡ g.S.NodeSource.graph l.fn.source;
     }

@@ -17,7 +17,8 @@ text-requires-clause-nests g c = subst (λ (d : Data). depth d ≤ 6) (sym c.in_
 
 pub returns-clause-again : goal.returns-clause-again
 returns-clause-again g c =
-    λ is. says_if c.args.names.now
+    λ is. says_if c.args.second c.args.names.now
     (record { cuts = c.args.cuts.now; parts = g.S.PartSource.parts c.args.source.now; proof = c.args.proof.now.steps })
-    (certificate_of c.args.cuts.now (view c.in_ok-nodes.nodes) c.args.proof.now.steps) c.text.result
-    (ap (λ (d : Data). certificate_of c.args.cuts.now d c.args.proof.now.steps) c.in_ok-nodes.ensures) c.text.ensures.reads is
+    (certificate_of c.args.second c.args.cuts.now (view c.in_ok-nodes.nodes) c.args.proof.now.steps) c.text.result
+    (ap (λ (d : Data). certificate_of c.args.second c.args.cuts.now d c.args.proof.now.steps) c.in_ok-nodes.ensures)
+    c.text.ensures.reads is

@@ -19,5 +19,5 @@ returns-clause-next g c =
           ∙ map-append view c.args.values.now.items (c.in_ok-value.value ∷ [])
           ∙ ap (λ (d : Data). written ++ d ∷ [])
           (c.in_ok-value.ensures ∙ ap (λ (lacks : Bool). node c.args.words.now.names.now (part_of lacks c.in_ok-next.next))
-          c.has.ensures);
+          c.lacks.ensures);
     }

@@ -5,6 +5,6 @@ use Rattle.chain_proofs.proofs.copying.left_rules.Goals as goal
 
 pub loop-number-preserved : goal.loop-number-preserved
 loop-number-preserved c =
-    zip_more (IsLeftOf c.args.rules.now) c.args.set.now c.loop-number.left _ c.loop-number.number-index _ c.in_ok-left_rule.field-0
+    zip_more (IsLeftOf c.args.rules.now) c.args.set.now c.loop-number.left _ c.loop-number.number-index _ c.left_rule.result
     (slice_get-get_or c.args.set.now c.loop-number.number-index 0 c.loop-number-test.true) c.loop-number.invariant
-    c.in_ok-left_rule.ensures c.in_ok-push.ensures.items
+    c.left_rule.ensures c.in_ok-push.ensures.items

@@ -9,4 +9,4 @@ loop-number-preserved c =
     zip_more (λ (n : ℕ) (rule : PathRule). slice_get c.args.rules.now n ≡ Some rule) c.args.set.now c.loop-number.own _
     c.loop-number.number-index _ c.in_ok-copied_rule.field-0
     (slice_get-get_or c.args.set.now c.loop-number.number-index 0 c.loop-number-test.true) c.loop-number.invariant
-    (c.in_ok-rule_at.ensures ∙ ap Some (sym c.in_ok-copied_rule.ensures)) c.in_ok-push.ensures.items
+    (c.rule_at.ensures ∙ ap Some (sym c.in_ok-copied_rule.ensures)) c.in_ok-push.ensures.items

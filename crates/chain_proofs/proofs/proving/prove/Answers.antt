@@ -1,5 +1,5 @@
 use Rattle.chain_proofs.proofs.Plainly.{own_are_plain}
 use Rattle.chain_proofs.proofs.proving.prove.Goals as goal
 
-pub prove_by-requires-clause-asked : goal.prove_by-requires-clause-asked
-prove_by-requires-clause-asked c = λ set own rise are. own_are_plain c.args.rules.now set own c.requires rise are
+pub prove_by-requires : goal.prove_by-requires
+prove_by-requires c = λ set own rise are. own_are_plain c.args.rules.now set own c.requires rise are

@@ -19,4 +19,5 @@ pub returns : goal.returns
 returns c =
     let end = c.above-round-end.ensures in
     let past = c.loop-round-test.false in
-    enough c.args.lists.now c.args.marks.now c.args.ranks.now c.loop-round.counts c.loop-round._round (omega (arith, end, past)) c.loop-round.invariant
+    enough c.args.lists.now c.args.marks.now c.args.ranks.now c.loop-round.counts c.loop-round._round (omega (arith, end, past))
+    c.loop-round.invariant

@@ -5,4 +5,8 @@ use Rattle.path_rules.proofs.Finding.{ids_in_cells}
 use Rattle.path_rules.proofs.stops.push_size_bounds.Given as goal
 
 abbrev pub invariant-loop-id : goal.invariant-loop-id
-invariant-loop-id g l = l.rows ++ map (λ id. at_least_zero ((variable_of l.first l.state id, pos 1) ∷ []) (pos 0)) (ids_in_cells is_size_variable (drop l.id-index l.state.cells)) ≡ l.initial.rows ++ map (λ id. at_least_zero ((variable_of l.first l.state id, pos 1) ∷ []) (pos 0)) (ids_in_cells is_size_variable l.state.cells)
+invariant-loop-id g l =
+    l.rows ++ map (λ id. at_least_zero ((variable_of l.stop.first l.stop.node.state id, pos 1) ∷ []) (pos 0))
+    (ids_in_cells is_size_variable (drop l.id-index l.stop.node.state.cells))
+    ≡ l.initial.rows ++ map (λ id. at_least_zero ((variable_of l.stop.first l.stop.node.state id, pos 1) ∷ []) (pos 0))
+    (ids_in_cells is_size_variable l.stop.node.state.cells)

@@ -7,7 +7,10 @@ pub returns-then-is_at : goal.returns-then-is_at
 returns-then-is_at c =
     let fits : FitsSigned w64 c.sum_of-sum.result = search rules in
     let narrow : to_z w64 (of_z w64 c.sum_of-sum.result) ≡ c.sum_of-sum.result = to_z-of_z fits in
-    same_ok c.args.term.now c.args.terms.now (to_z w64 (of_z w64 c.sum_of-sum.result)) c.place_among-place.result (0, pos 0) c.between.result (sym c.is_at.ensures ∙ c.if-is_at.true) c.place_among-place.ensures.split (narrow ∙ c.sum_of-sum.ensures) c.between.ensures
+    same_ok c.args.term.now c.args.terms.now (to_z w64 (of_z w64 c.sum_of-sum.result)) c.place_among-place.result (0, pos 0)
+    c.between.result (sym c.is_at.ensures ∙ c.if-is_at.true) c.place_among-place.ensures.split (narrow ∙ c.sum_of-sum.ensures)
+    c.between.ensures
 
 pub returns : goal.returns
-returns c = new_ok c.args.term.now c.args.terms.now c.place_among-place.result c.between-2.result c.place_among-place.ensures.next (sym c.is_at.ensures ∙ c.if-is_at.false) c.place_among-place.ensures.split c.between-2.ensures
+returns c = new_ok c.args.term.now c.args.terms.now c.place_among-place.result c.between-2.result c.place_among-place.ensures.next
+    (sym c.is_at.ensures ∙ c.if-is_at.false) c.place_among-place.ensures.split c.between-2.ensures

@@ -10,11 +10,11 @@ pub of_graph-requires-clause-grown : goal.of_graph-requires-clause-grown
 of_graph-requires-clause-grown g c =
     let p = program_of c.args.program.now in
     let typing = typing_at c.args.typing.now in
-    subst (λ (root : AbstractState). IsGrownGraph (aim_of p typing root) c.args.graph) (sym c.in_ok-root.ensures) c.requires.grown
+    subst (λ (root : AbstractState). IsGrownGraph (aim_of p typing root) c.args.graph) (sym c.in_ok-root.ensures.is) c.requires.grown
 
 pub returns : goal.returns
 returns g c =
     let p = program_of c.args.program.now in
     let typing = typing_at c.args.typing.now in
     λ limit few. subst (λ (root : AbstractState). SearchesOr (aim_of p typing root) c.args.names.now limit c.of_graph.result)
-    c.in_ok-root.ensures (c.of_graph.ensures limit few)
+    c.in_ok-root.ensures.is (c.of_graph.ensures limit few)

@@ -8,7 +8,7 @@ use Rattle.prove_core.proofs.searching.search.Goals as goal
 pub of_closed-requires-clause-grown : goal.of_closed-requires-clause-grown
 of_closed-requires-clause-grown g c =
     let p = program_of c.args.program.now in
-    grown_from p (typing_at c.args.typing.now) c.in_ok-first.first (initial_of p c.args.desc.now) c.in_ok-first.ensures c.args.limit
+    grown_from p (typing_at c.args.typing.now) c.in_ok-first.first (initial_of p c.args.desc.now) c.in_ok-first.ensures.is c.args.limit
     c.in-Ok-Closed.graph (rw c.in-Ok-Closed.field-0-is at c.in-Ok-Closed.ensures)
 
 pub of_closed-requires-clause-few : goal.of_closed-requires-clause-few
@@ -25,11 +25,11 @@ returns-in-Ok-Closed g c =
 pub returns-in-Ok-Nodes : goal.returns-in-Ok-Nodes
 returns-in-Ok-Nodes g c =
     let p = program_of c.args.program.now in
-    nodes_from p (typing_at c.args.typing.now) c.in_ok-first.first (initial_of p c.args.desc.now) c.in_ok-first.ensures c.args.limit
+    nodes_from p (typing_at c.args.typing.now) c.in_ok-first.first (initial_of p c.args.desc.now) c.in_ok-first.ensures.is c.args.limit
     c.in-Ok-Nodes.graph (rw c.in-Ok-Nodes.field-0-is at c.in-Ok-Nodes.ensures)
 
 pub returns-in-Ok-Ids : goal.returns-in-Ok-Ids
 returns-in-Ok-Ids g c =
     let p = program_of c.args.program.now in
-    ids_from p (typing_at c.args.typing.now) c.in_ok-first.first (initial_of p c.args.desc.now) c.in_ok-first.ensures c.args.limit
+    ids_from p (typing_at c.args.typing.now) c.in_ok-first.first (initial_of p c.args.desc.now) c.in_ok-first.ensures.is c.args.limit
     c.in-Ok-Ids.graph (rw c.in-Ok-Ids.field-0-is at c.in-Ok-Ids.ensures)

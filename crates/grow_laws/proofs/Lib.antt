@@ -1,0 +1,10 @@
+pub mod Merges
+pub mod NewCells
+pub mod Plans
+pub mod Roots
+pub mod Splits
+pub mod StandAlike
+pub mod Steps
+pub mod Wholes
+pub mod Widened
+pub mod Writes

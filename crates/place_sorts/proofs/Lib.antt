@@ -1,0 +1,17 @@
+pub mod ArrayRoots
+pub mod CallRows
+pub mod Dropping
+pub mod Following
+pub mod FormTable
+pub mod IntCases
+pub mod IntRows
+pub mod Keeping
+pub mod Landing
+pub mod MoveRows
+pub mod ObjectRows
+pub mod ReturnRows
+pub mod SortLists
+pub mod Spots
+pub mod Throwing
+pub mod Turns
+pub mod Waiting
