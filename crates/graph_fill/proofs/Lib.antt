@@ -4,3 +4,4 @@ pub mod Lists
 pub mod Once
 pub mod OwnChildren
 pub mod SlotStates
+pub mod Sources
