@@ -4,4 +4,3 @@ pub mod Lists
 pub mod Once
 pub mod OwnChildren
 pub mod SlotStates
-pub mod Sources

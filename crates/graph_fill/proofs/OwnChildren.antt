@@ -1,12 +1,10 @@
 -- A state's child at a place is one, and states without an expansion have none.
-use Rattle.std.proofs.Common.{◌≡◌, ◌∙◌, ℕ, List, [], Some, Err, slice_get, inr, refl, ap}
+use Rattle.std.proofs.Common.{◌≡◌, ◌∙◌, ℕ, List, [], Some, slice_get, inr, refl, ap}
 use Rattle.abs_cells.specs.AbstractStates.{AbstractState}
 use Rattle.class_world.specs.WorldTypes.{types_of}
 use Rattle.class_program.specs.Programs.{Program}
 use Rattle.frame_types.specs.Tables.{CodeTypes}
 use Rattle.term_graph.specs.Graphs.{GraphChild}
-use Rattle.abs_expand.specs.Answers.{Answers}
-use Rattle.abs_expand.specs.declared.fault.ExpandFault.TheVariants.{TooManyIds}
 use Rattle.abs_expand.specs.BadStates.{IsBadState}
 use Rattle.abs_expand.specs.Expansions.{plan_of, counts_of, IsFirstTooMany}
 use Rattle.one_expansion.proofs.OneAnswer.{few_or_many, not_bad}
@@ -30,12 +28,3 @@ pub none_many : (p : Program) (typing : ℕ → CodeTypes) (state : AbstractStat
     → IsFirstTooMany (counts_of (types_of p.world) state (plan_of p typing state)) child → HasChildrenOrNone p typing state []
 none_many p typing state child many = inr
     (refl, λ others h. few_or_many (counts_of (types_of p.world) state (plan_of p typing state)) child h.1.few many)
-
-pub not_bad_here : (p : Program) (typing : ℕ → CodeTypes) (state : AbstractState) (clause : ℕ) → IsBadState p typing state clause
-    → (others : List GraphChild) → HasChildren p typing state others → ⊥
-not_bad_here p typing state clause bad others h = not_bad p typing state clause h.0 bad
-
-pub not_many_here : (p : Program) (typing : ℕ → CodeTypes) (state : AbstractState) (child : ℕ)
-    → Answers p typing state (Err (TooManyIds child)) → (others : List GraphChild) → HasChildren p typing state others → ⊥
-not_many_here p typing state child many others h =
-    few_or_many (counts_of (types_of p.world) state (plan_of p typing state)) child h.1.few many.1

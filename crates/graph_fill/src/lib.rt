@@ -2,13 +2,9 @@
 #![tactic(auto)]
 
 mod children;
-mod expansions;
 mod filling;
 mod laws;
 mod slots;
-mod source;
 
-pub use expansions::Expansions;
 pub use filling::fill;
 pub use laws::{filled_graphs_are_one, good_graphs_fill_themselves};
-pub use source::filled;
