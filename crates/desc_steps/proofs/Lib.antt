@@ -5,3 +5,4 @@ pub mod GivenValues
 pub mod NamedOnce
 pub mod Naming
 pub mod OneAnswer
+pub mod Said
