@@ -5,4 +5,3 @@ pub mod GivenValues
 pub mod NamedOnce
 pub mod Naming
 pub mod OneAnswer
-pub mod Said
