@@ -1,5 +1,4 @@
-pub mod WordsLemmas
-pub mod Numbers
+pub mod Making
 pub mod ReadingOrder
 pub mod Proving
 pub mod Ruling

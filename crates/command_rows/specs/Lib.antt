@@ -1,0 +1,6 @@
+pub mod Limits
+pub mod Rows
+pub mod Words
+pub mod Usage
+pub mod Laws
+pub mod Reading
