@@ -1,4 +1,3 @@
-pub mod Rest
 pub mod Answering
 pub mod BareHeaps
 pub mod Fitting
@@ -6,4 +5,3 @@ pub mod GivenValues
 pub mod NamedOnce
 pub mod Naming
 pub mod OneAnswer
-pub mod Said

@@ -1,7 +1,6 @@
 -- From what a command says of the bytes of its files to the answer.
 use Rattle.std.proofs.Common.{◌≡◌, ◌≤◌, ◌-◌, ℕ, List, [], ◌∷◌, length, Result, Ok, Err, IfOk, map, drop, take, get_or, refl, sym}
 use Rattle.std.proofs.Common.{subst, ap, ◌∙◌, arith}
-use Rattle.std.proofs.lemmas.List.{length-map}
 use Rattle.list_views.proofs.Items.{take_length}
 use Rattle.input_steps.specs.declared.refused.Refused.{Refused}
 use Rattle.prove_call.specs.Answers as prove
@@ -16,11 +15,10 @@ use Rattle.check_call.specs.declared.outcome.Outcome.{Outcome}
 use Rattle.check_call.specs.Answers as check
 use Rattle.check_call.specs.Headline.{AllEndIfAccepted}
 use Rattle.check_call.specs.Lines.{accepted_line}
-use Rattle.command_rows.specs.declared.request.Request.{Request}
-use Rattle.command_rows.specs.declared.request.Request.TheVariants.{Prove, Check, Run, Asm, Generate, Its}
-use Rattle.command_rows.specs.Rows.{Takes, least_files, row_at}
+use Rattle.jterm.specs.declared.verdict.Request.{Request}
+use Rattle.jterm.specs.declared.verdict.Request.TheVariants.{Prove, Check, Run, Asm, Its}
 use Rattle.jterm.specs.declared.verdict.Verdict.{Verdict}
-use Rattle.jterm.specs.Decision.{Says, Ruled, Proved, done_of, DoneWith, verdict_of, IsAnswer}
+use Rattle.jterm.specs.Decision.{Takes, Says, Ruled, Proved, done_of, DoneWith, verdict_of, IsAnswer}
 use Rattle.jterm.proofs.Proving.{verdict_of_prove, proved_true}
 use Rattle.jterm.proofs.Checking.{judged_with, accepted_true}
 
@@ -40,25 +38,16 @@ proved_with P (Err refused) result e h = subst (Proved P) (sym e) h
 
 -- ---- inputs
 
--- as many inputs as the row of the request has files
-pub least_inputs : {A : Type 0} (f : A → List ℕ) (inputs : List A) (request asked : Request) → request ≡ asked
-    → Takes request (length inputs) → least_files (row_at asked) ≤ length (map f inputs)
-least_inputs f inputs request asked is t =
-    let here : Takes asked (length inputs) = subst (λ (r : Request). Takes r (length inputs)) is t in
-    let some = here.some in
-    let same = length-map inputs f in
-    omega (arith, some, same)
-
--- none where it has none
-pub no_inputs : {A : Type 0} (f : A → List ℕ) (inputs : List A) (request : Request) (n : ℕ) → request ≡ Generate n
-    → Takes request (length inputs) → map f inputs ≡ []
-no_inputs f [] request n is t = refl
-no_inputs {A} f (x ∷ inputs) request n is t =
-    let here : Takes (Generate n) (length (x ∷ inputs)) = subst (λ (r : Request). Takes r (length (x ∷ inputs))) is t in
-    absurd (let few = here.few in omega (arith, few))
+-- there is an input
+pub some_inputs : (request : Request) (given : List (List ℕ)) → Takes request given → 1 ≤ length given
+some_inputs (Prove nodes) given t = let some = t.2 in omega (arith, some)
+some_inputs Check given t = let some = t.0 in omega (arith, some)
+some_inputs (Run fuel) given t = let some = t.1 in omega (arith, some)
+some_inputs Asm given t = omega (arith, t)
+some_inputs Its given t = omega (arith, t)
 
 -- the first input and the others, as they are handed on
-pub inputs_are : {A : Type 0} (f : A → List ℕ) (inputs : List A) (one : A) (first : List ℕ) → 2 ≤ length (map f inputs)
+pub inputs_are : {A : Type 0} (f : A → List ℕ) (inputs : List A) (one : A) (first : List ℕ) → 1 ≤ length (map f inputs)
     → one ≡ get_or inputs 0 one → first ≡ f one
     → map f inputs ≡ first ∷ map f (take (length inputs - 1) (drop 1 inputs))
 inputs_are f [] one first some at is = absurd (omega arith)
@@ -81,6 +70,10 @@ inputs_are_two {A} f (x ∷ y ∷ xs) one two first second some at is at_two is_
     let others : xs ≡ take (length (x ∷ y ∷ xs) - 2) xs = sym (ap (λ (n : ℕ). take n xs) long ∙ take_length xs) in
     ap (λ (w : List ℕ). w ∷ f y ∷ map f xs) here
     ∙ (ap (λ (w : List ℕ). first ∷ w ∷ map f xs) there ∙ ap (λ (ys : List A). first ∷ second ∷ map f ys) others)
+
+pub three_inputs : {A : Type 0} (f : A → List ℕ) (inputs : List A) (request : Request) → request ≡ Check
+    → Takes request (map f inputs) → 3 ≤ length (map f inputs)
+three_inputs f inputs request asked t = (subst (λ (r : Request). Takes r (map f inputs)) asked t).0
 
 pub prove_answer : (request : Request) (nodes : ℕ) (given : List (List ℕ)) (desc : List ℕ) (files : List (List ℕ))
     (answer : Result Answer Refused) (result : Result Verdict Refused)
@@ -140,12 +133,10 @@ accepted_at given first second others cert desc classes out result e f d a ends 
 
 -- a single input is all of them
 pub one_input : {A : Type 0} (f : A → List ℕ) (inputs : List A) (request : Request) (one : A) (first : List ℕ) → request ≡ Its
-    → Takes request (length inputs) → one ≡ get_or inputs 0 one → first ≡ f one → map f inputs ≡ first ∷ []
-one_input {A} f inputs request one first asked t at is =
-    let here : Takes Its (length inputs) = subst (λ (r : Request). Takes r (length inputs)) asked t in
-    by inputs (let some = here.some in let few = here.few in omega (arith, some, few)) at
+    → Takes request (map f inputs) → one ≡ get_or inputs 0 one → first ≡ f one → map f inputs ≡ first ∷ []
+one_input {A} f inputs request one first asked t at is = by inputs (subst (λ (r : Request). Takes r (map f inputs)) asked t) at
   where
-    by : (xs : List A) → length xs ≡ 1 → one ≡ get_or xs 0 one → map f xs ≡ first ∷ []
+    by : (xs : List A) → length (map f xs) ≡ 1 → one ≡ get_or xs 0 one → map f xs ≡ first ∷ []
     by [] e at = absurd (omega (arith, e))
     by (x ∷ []) e at = ap (λ (w : List ℕ). w ∷ []) (sym (is ∙ ap f at))
     by (x ∷ y ∷ xs) e at = absurd (omega (arith, e))

@@ -1,4 +1,5 @@
-pub mod Making
+pub mod WordsLemmas
+pub mod Numbers
 pub mod ReadingOrder
 pub mod Proving
 pub mod Ruling

@@ -1,24 +1,21 @@
--- Why a call ends without a verdict.
+-- Why a call ends without a verdict, and words of numbers.
 use Rattle.std.specs.Prelude.{◌≡◌, ℕ, ◌≤◌, ◌==◌, Bool, true, false, if◌then◌else◌, List, [], ◌∷◌, length, codes, Ok, Err, ⊤}
 use Rattle.io_ports.specs.Told.{Told}
 use Rattle.io_ports.specs.declared.files.FileFault.{FileFault}
 use Rattle.io_ports.specs.declared.files.FileFault.TheVariants.{Failed, TooLong, Missing, Memory}
 use Rattle.jterm.specs.declared.inputs.Failure.{Failure}
 use Rattle.jterm.specs.declared.inputs.Failure.TheVariants.{Unread, Broken, NoMemory}
-use Rattle.command_rows.specs.declared.request.Request.{Request}
-use Rattle.command_rows.specs.declared.request.Request.TheVariants.{Prove, Check, Generate, Its}
+use Rattle.jterm.specs.declared.verdict.Request.{Request}
+use Rattle.jterm.specs.declared.verdict.Request.TheVariants.{Prove, Check, Its}
 use Rattle.input_steps.specs.declared.refused.Refused.TheVariants.{At}
 use Rattle.jterm.specs.declared.verdict.Verdict.{Verdict}
 use Rattle.jterm.specs.Decision.{IsAnswer, Says}
 use Rattle.check_call.specs.Lines.{accepted_line}
 use Rattle.prove_call.specs.Lines.{yes_line}
 use Rattle.desc_steps.specs.Headline.{AllEnd}
-use Rattle.generate_text.specs.Descriptions.{description}
-use Rattle.generate_call.specs.Answers.{IsClass}
-use Rattle.generate_call.specs.Headline.{SaysYes}
 use Rattle.its_call.specs.Answers.{IsEnding}
 use Rattle.its_call.specs.Lines as its
-use Rattle.command_rows.specs.Words.{IsCommand}
+use Rattle.jterm.specs.Words.{IsCommand}
 use Rattle.input_steps.specs.Lines.{refusal_line}
 use Rattle.jterm.specs.Lines.{read_line, memory_line}
 use Rattle.jterm.specs.Outside.{AreContents, IsUnread}
@@ -66,11 +63,6 @@ IsTrueCheck request contents verdict =
     (cert desc : List ℕ) (classes : List (List ℕ)) → request ≡ Check → contents ≡ cert ∷ desc ∷ classes → Says accepted_line verdict
     → AllEnd classes desc
 
--- so does a `generate` whose answer is YES
-abbrev pub IsTrueMade : Request → Verdict → Type 0
-IsTrueMade request verdict = (n : ℕ) (class : List ℕ) → request ≡ Generate n → IsClass n class → SaysYes n verdict.out
-    → AllEnd (class ∷ []) description
-
 -- so does an `its` that says `YES`
 abbrev pub IsTrueSystem : Request → List (List ℕ) → Verdict → Type 0
 IsTrueSystem request contents verdict =
@@ -85,8 +77,17 @@ pub record IsAnswered (limits : ℕ → ℕ) (request : Request) (names : List (
   pub low : verdict.status ≤ 2
   pub true_proof : IsTrueProof request contents verdict
   pub true_check : IsTrueCheck request contents verdict
-  pub true_made : IsTrueMade request verdict
   pub true_its : IsTrueSystem request contents verdict
+
+-- the words behind `prove` begin with that of a limit on nodes
+abbrev pub NamesLimit : List (List ℕ) → Type 0
+NamesLimit [] = ⊥
+NamesLimit (word ∷ words) = word ≡ codes "--nodes"
+
+-- neither a plus nor a zero stands first, but in `0`
+abbrev pub is_plain : List ℕ → Bool
+is_plain [] = true
+is_plain (first ∷ rest) = if first == 43 then false else (if first == 48 then length (first ∷ rest) == 1 else true)
 
 -- want of memory has no line of its own
 abbrev pub HasLine : Failure → Type 0

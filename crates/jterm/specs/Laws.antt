@@ -5,21 +5,19 @@ use Rattle.prove_core.specs.declared.found.Reason.{Reason}
 use Rattle.its_search.specs.declared.searching.ItsFound.{ItsFound}
 use Rattle.input_steps.specs.declared.refused.Refused.{Refused}
 use Rattle.input_steps.specs.declared.refused.Refused.TheVariants.{Memory}
-use Rattle.command_rows.specs.declared.request.Request.{Request}
-use Rattle.command_rows.specs.declared.request.Request.TheVariants.{Prove, Check, Run, Asm, Generate, Its}
+use Rattle.jterm.specs.declared.verdict.Request.{Request}
+use Rattle.jterm.specs.declared.verdict.Request.TheVariants.{Prove, Check, Run, Asm, Its}
 use Rattle.jterm.specs.declared.verdict.Verdict.{Verdict}
 use Rattle.jterm.specs.Decision.{accepted, IsAnswer}
 use Rattle.prove_call.specs.Lines.{yes_text}
-use Rattle.generate_call.specs.Headline.{SaysYes}
 
--- Verdicts for the same contents. What `prove`, `generate` and `its` find is free: one certificate or another, or none for a reason; a proof, or
--- rules that are left. Of each other command they are one.
+-- Verdicts for the same contents. What `prove` and `its` find is free: one certificate or another, or none for a reason; a proof, or rules
+-- that are left. Of each other command they are one.
 abbrev pub AreAlike : Request → Verdict → Verdict → Type 0
 AreAlike (Prove nodes) a b = Unit {0}
 AreAlike Check a b = a ≡ b
 AreAlike (Run fuel) a b = a ≡ b
 AreAlike Asm a b = a ≡ b
-AreAlike (Generate n) a b = Unit {0}
 AreAlike Its a b = Unit {0}
 
 -- two verdicts that are alike, or one place and fault twice
@@ -29,7 +27,7 @@ AreOne request (Err a) (Err b) = a ≡ b
 AreOne request a b = ⊥
 
 -- Want of memory aside, a request has one answer for the contents of its files: one place and fault; or a verdict, which for all commands but
--- `prove`, `generate` and `its` is one.
+-- `prove` and `its` is one.
 abbrev pub AnswersAreOne : Type 0
 AnswersAreOne = (request : Request) (contents : List (List ℕ)) (a b : Result Verdict Refused) → IsAnswer request contents a
     → IsAnswer request contents b
@@ -39,15 +37,10 @@ AnswersAreOne = (request : Request) (contents : List (List ℕ)) (a b : Result V
 abbrev pub HasReason : Verdict → Type 0
 HasReason verdict = ((reason : Reason PackedPairs) × (verdict.reason ≡ Some reason)) ⊎ ((left : ItsFound) × (verdict.its ≡ Some left))
 
--- no certificate or no proof is given: the status is 1, or the line of `generate` says no YES
-abbrev pub IsUnproved : Request → Verdict → Type 0
-IsUnproved (Generate n) verdict = SaysYes n verdict.out → ⊥
-IsUnproved request verdict = verdict.status ≡ 1
-
--- a reason, or what is left, is kept exactly there
+-- it does exactly where it is that of a `prove` that gives no certificate, or of an `its` that gives no proof: its status is 1
 abbrev pub ReasonsAreKept : Type 0
 ReasonsAreKept = (request : Request) (contents : List (List ℕ)) (verdict : Verdict) → IsAnswer request contents (Ok verdict)
-    → IsUnproved request verdict ↔ HasReason verdict
+    → (verdict.status ≡ 1) ↔ HasReason verdict
 
 -- behind YES stands a certificate, which `check` accepts for the same files
 abbrev pub CertificatesAreAccepted : Type 0

@@ -1,22 +1,16 @@
 //! The decision over the bytes of the input files.
-ghost use Rattle.std.specs.Prelude.{◌≡◌, List, ℕ, ◌∷◌, [], length, map, IfOk};
+ghost use Rattle.std.specs.Prelude.{◌≡◌, List, ℕ, ◌∷◌, [], map, IfOk};
 ghost use Rattle.desc_steps.specs.Headline.{AllEnd};
 ghost use Rattle.check_call.specs.Lines.{accepted_line};
 ghost use Rattle.prove_call.specs.Lines.{yes_line};
 ghost use Rattle.its_call.specs.Answers.{IsEnding};
 ghost use Rattle.its_call.specs.Lines as its;
-ghost use Rattle.command_rows.specs.Rows.{Takes};
-ghost use Rattle.generate_text.specs.Descriptions.{description};
-ghost use Rattle.generate_call.specs.Answers.{IsClass};
-ghost use Rattle.generate_call.specs.Headline.{SaysYes};
-ghost use Rattle.jterm.specs.Decision.{Says, IsAnswer, done_of, verdict_of, verdict_of_made};
+ghost use Rattle.jterm.specs.Decision.{Takes, Says, IsAnswer, done_of, verdict_of};
 
+use crate::listing::assemble_listing;
 use crate::rules::rules_verdict;
-use crate::verdict::Verdict;
-use asm_call::class_file;
+use crate::verdict::{Request, Verdict};
 use check_call::{Outcome, check_line};
-use command_rows::Request;
-use generate_call::{Generated, generate_line};
 use input_steps::Refused;
 use list_views::Seq;
 use prove_call::prove_line;
@@ -53,29 +47,14 @@ fn judged(outcome: Result<Outcome, Refused>) -> Result<Verdict, Refused>
     }
 }
 
-/// What is said of a class that was made, as a verdict.
-fn made(generated: Result<Generated, Refused>) -> Result<Verdict, Refused>
-    ensures { result ≡ verdict_of_made generated }
-{
-    match generated {
-        Ok(generated) => Ok(Verdict {
-            status: 0,
-            out: generated.out,
-            reason: generated.reason,
-            its: None,
-        }),
-        Err(refused) => Err(refused),
-    }
-}
-
 /// Does what the request asks for with the bytes of the files that its command names, in the order of the words:
-/// the certificate of a check, the description or the state, and then the classes; or the listing; or none; or the rules.
+/// the certificate of a check, the description or the state, and then the classes; or the listing; or the rules.
 ///
 /// # Errors
 ///
 /// The first fault of the input with its place, or want of memory.
 pub fn decide(alloc: Global, request: &Request, inputs: &[Vec<u8>]) -> Result<Verdict, Refused>
-    requires { Takes request.now (length inputs.now) }
+    requires { Takes request.now (map (λ file. file.items) inputs.now) }
 
     // Where YES is answered, every state that the description fits ends.
     ensures headline { (nodes : ℕ) (desc : List ℕ) (classes : List (List ℕ)) → request.now ≡ Request.Prove nodes
@@ -84,10 +63,6 @@ pub fn decide(alloc: Global, request: &Request, inputs: &[Vec<u8>]) -> Result<Ve
     // So it does where ACCEPTED is answered.
     ensures headline_of_check { (cert desc : List ℕ) (classes : List (List ℕ)) → request.now ≡ Request.Check
         → map (λ file. file.items) inputs.now ≡ cert ∷ desc ∷ classes → IfOk result (λ verdict. Says accepted_line verdict → AllEnd classes desc) }
-
-    // So it does of the class that is made where the answer is YES.
-    ensures headline_of_generate { (n : ℕ) (class : List ℕ) → request.now ≡ Request.Generate n → IsClass n class
-        → IfOk result (λ verdict. SaysYes n verdict.out → AllEnd (class ∷ []) description) }
 
     // Where YES is answered to a text of rules, there is no infinite sequence of locations with whole numbers for the variables in which each
     // neighbours meet all rows of one rule between them.
@@ -119,8 +94,7 @@ pub fn decide(alloc: Global, request: &Request, inputs: &[Vec<u8>]) -> Result<Ve
             &inputs[2..],
         )),
         Request::Run { fuel } => done(run_line(alloc, *fuel, inputs[0].as_slice(), &inputs[1..])),
-        Request::Asm => done(class_file(alloc, inputs[0].as_slice())),
-        Request::Generate { n } => made(generate_line(alloc, *n)),
+        Request::Asm => done(assemble_listing(alloc, inputs[0].as_slice())),
         Request::Its => rules_verdict(alloc, inputs[0].as_slice()),
     }
 }

@@ -4,7 +4,8 @@ ghost use Rattle.jterm.specs.Outside.{AreContents, FirstAreRead, limit_at};
 ghost use Rattle.jterm.specs.Failure.{HasCause, failure_at};
 ghost use Rattle.jterm.specs.declared.inputs.Failure.TheVariants.{NoMemory};
 
-use command_rows::{Asked, FileWord, Request};
+use crate::Request;
+use crate::commands::Command;
 use input_steps::{Fault, Place};
 use io_ports::{FileFault, Files};
 use list_views::Bytes;
@@ -67,8 +68,8 @@ fn limit_at(request: &Request, place: usize, certificate: usize, other: usize) -
     ensures limit { result ≡ limit_at certificate other request.now place }
     ensures small { result ≤ 2 ^ 31 }
 {
-    match request.command().row().file(place) {
-        FileWord::Cert => certificate,
+    match request {
+        Request::Check if place == 0 => certificate,
         _ => other,
     }
 }
@@ -77,7 +78,7 @@ fn limit_at(request: &Request, place: usize, certificate: usize, other: usize) -
 /// file at most `other`.
 pub(crate) fn read_inputs<'a, F: Files>(
     alloc: Global,
-    command: &Asked<'a>,
+    command: &Command<'a>,
     files: &mut F,
     certificate: usize,
     other: usize,

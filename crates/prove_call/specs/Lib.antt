@@ -2,4 +2,5 @@ pub mod Lines
 pub mod Answers
 pub mod Headline
 pub mod Laws
+pub mod Limits
 pub mod Said

@@ -1,13 +1,12 @@
 use Rattle.std.proofs.Common.{map, sym, ap}
 use Rattle.jterm.proofs.Proving.{verdict_of_prove}
-use Rattle.jterm.proofs.Deciding.{least_inputs, no_inputs, inputs_are, inputs_are_two, prove_answer, check_answer, run_answer}
+use Rattle.jterm.proofs.Deciding.{some_inputs, inputs_are, inputs_are_two, three_inputs, prove_answer, check_answer, run_answer}
 use Rattle.jterm.proofs.Deciding.{one_input, its_answer, proved_at, accepted_at, ended_at}
-use Rattle.jterm.proofs.Making.{made_answer, made_true}
 use Rattle.jterm.proofs.decision.decide.Goals as goal
 
 pub returns-in-Ok-clause-headline : goal.returns-in-Ok-clause-headline
 returns-in-Ok-clause-headline c nodes desc classes asked given =
-    let some = least_inputs (λ file. file.items) c.args.inputs.now c.args.request.now _ c.in-Prove.is c.requires in
+    let some = some_inputs c.args.request.now (map (λ file. file.items) c.args.inputs.now) c.requires in
     let split = inputs_are (λ file. file.items) c.args.inputs.now c.index-inputs-0.result c.as_slice.result.now some
     c.index-inputs-0.is c.as_slice.ensures.value in
     proved_at (map (λ file. file.items) c.args.inputs.now) c.as_slice.result.now _ _ desc classes c.prove_line.result _ split given
@@ -15,7 +14,7 @@ returns-in-Ok-clause-headline c nodes desc classes asked given =
 
 pub returns-in-Ok-clause-answer : goal.returns-in-Ok-clause-answer
 returns-in-Ok-clause-answer c =
-    let some = least_inputs (λ file. file.items) c.args.inputs.now c.args.request.now _ c.in-Prove.is c.requires in
+    let some = some_inputs c.args.request.now (map (λ file. file.items) c.args.inputs.now) c.requires in
     let split = inputs_are (λ file. file.items) c.args.inputs.now c.index-inputs-0.result c.as_slice.result.now some
     c.index-inputs-0.is c.as_slice.ensures.value in
     prove_answer c.args.request.now _ (map (λ file. file.items) c.args.inputs.now) c.as_slice.result.now _ c.prove_line.result _
@@ -23,7 +22,7 @@ returns-in-Ok-clause-answer c =
 
 pub returns-in-Err-clause-answer : goal.returns-in-Err-clause-answer
 returns-in-Err-clause-answer c =
-    let some = least_inputs (λ file. file.items) c.args.inputs.now c.args.request.now _ c.in-Prove.is c.requires in
+    let some = some_inputs c.args.request.now (map (λ file. file.items) c.args.inputs.now) c.requires in
     let split = inputs_are (λ file. file.items) c.args.inputs.now c.index-inputs-0.result c.as_slice.result.now some
     c.index-inputs-0.is c.as_slice.ensures.value in
     prove_answer c.args.request.now _ (map (λ file. file.items) c.args.inputs.now) c.as_slice.result.now _ c.prove_line.result _
@@ -31,7 +30,7 @@ returns-in-Err-clause-answer c =
 
 pub returns-in-Check-clause-headline_of_check : goal.returns-in-Check-clause-headline_of_check
 returns-in-Check-clause-headline_of_check c cert desc classes asked given =
-    let some = least_inputs (λ file. file.items) c.args.inputs.now c.args.request.now _ c.in-Check.is c.requires in
+    let some = three_inputs (λ file. file.items) c.args.inputs.now c.args.request.now c.in-Check.is c.requires in
     let split = inputs_are_two (λ file. file.items) c.args.inputs.now c.index-inputs-0-in-Check.result c.index-inputs-1.result
     c.as_slice-in-Check.result.now c.as_slice-in-Check-2.result.now some c.index-inputs-0-in-Check.is
     c.as_slice-in-Check.ensures.value c.index-inputs-1.is c.as_slice-in-Check-2.ensures.value in
@@ -41,7 +40,7 @@ returns-in-Check-clause-headline_of_check c cert desc classes asked given =
 
 pub returns-in-Check-clause-answer : goal.returns-in-Check-clause-answer
 returns-in-Check-clause-answer c =
-    let some = least_inputs (λ file. file.items) c.args.inputs.now c.args.request.now _ c.in-Check.is c.requires in
+    let some = three_inputs (λ file. file.items) c.args.inputs.now c.args.request.now c.in-Check.is c.requires in
     let split = inputs_are_two (λ file. file.items) c.args.inputs.now c.index-inputs-0-in-Check.result c.index-inputs-1.result
     c.as_slice-in-Check.result.now c.as_slice-in-Check-2.result.now some c.index-inputs-0-in-Check.is
     c.as_slice-in-Check.ensures.value c.index-inputs-1.is c.as_slice-in-Check-2.ensures.value in
@@ -51,7 +50,7 @@ returns-in-Check-clause-answer c =
 
 pub returns-in-Run-clause-answer : goal.returns-in-Run-clause-answer
 returns-in-Run-clause-answer c =
-    let some = least_inputs (λ file. file.items) c.args.inputs.now c.args.request.now _ c.in-Run.is c.requires in
+    let some = some_inputs c.args.request.now (map (λ file. file.items) c.args.inputs.now) c.requires in
     let split = inputs_are (λ file. file.items) c.args.inputs.now c.index-inputs-0-in-Run.result c.as_slice-in-Run.result.now some
     c.index-inputs-0-in-Run.is c.as_slice-in-Run.ensures.value in
     run_answer c.args.request.now _ (map (λ file. file.items) c.args.inputs.now) c.as_slice-in-Run.result.now _ c.run_line.result
@@ -70,14 +69,3 @@ returns-in-Its-clause-answer c =
     c.as_slice-in-Its.result.now c.in-Its.is c.requires c.index-inputs-0-in-Its.is c.as_slice-in-Its.ensures.value in
     its_answer c.args.request.now (map (λ file. file.items) c.args.inputs.now) c.as_slice-in-Its.result.now c.rules_verdict.result
     c.in-Its.is one c.rules_verdict.ensures.answer
-
-pub returns-in-Generate-clause-headline_of_generate : goal.returns-in-Generate-clause-headline_of_generate
-returns-in-Generate-clause-headline_of_generate c n class asked is =
-    made_true _ n c.args.request.now class c.generate_line.result c.made.result c.in-Generate.is asked c.made.ensures
-    c.generate_line.ensures.headline is
-
-pub returns-in-Generate-clause-answer : goal.returns-in-Generate-clause-answer
-returns-in-Generate-clause-answer c =
-    let none = no_inputs (λ file. file.items) c.args.inputs.now c.args.request.now _ c.in-Generate.is c.requires in
-    made_answer c.args.request.now _ (map (λ file. file.items) c.args.inputs.now) c.generate_line.result c.made.result
-    c.in-Generate.is none c.made.ensures c.generate_line.ensures.answers

@@ -1,6 +1,0 @@
-pub mod Limits
-pub mod Rows
-pub mod Words
-pub mod Usage
-pub mod Laws
-pub mod Reading
