@@ -4,7 +4,6 @@ pub mod Changing
 pub mod ChildLists
 pub mod GoingTo
 pub mod HeapChildren
-pub mod IntPrograms
 pub mod Placed
 pub mod SplitChildren
 pub mod SplitCounts

@@ -12,7 +12,6 @@ pub mod Children
 pub mod Expansions
 pub mod Answers
 pub mod Laws
-pub mod IntForms
 pub mod PlaceTests
 pub mod Making
 pub mod Building
