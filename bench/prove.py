@@ -1,5 +1,5 @@
 #!/usr/bin/env python3
-"""Times `jterm prove` on generated methods of ints.
+"""Times `jterm prove` on generated methods, of ints and of objects. Those of objects are compiled by `javac`.
 
 usage: prove.py [PROGRAM]
 
@@ -11,6 +11,9 @@ paths      two switches of 62 labels in a loop: 4,096 paths, which no form ranks
 loops N    N loops, each in the one before, up to a parameter of its own
 locals     65,535 locals, of which one is set, and a loop over 43 places to each of which could be jumped back: the certificate has more
            than 16 MiB
+kinds N    a list is walked, and a method of each item called: its class is one of N below an abstract one
+walks N    N loops, each in the one before; every other one walks a list, the others count up to a parameter
+calls N    N calls, one after another, each of a method of its own
 """
 import json
 import pathlib
@@ -19,7 +22,7 @@ import subprocess
 import sys
 import tempfile
 
-from check import class_file, description, told
+from check import LEAST, MOST, class_file, description, told
 from common import TOP, u2
 
 
@@ -134,10 +137,66 @@ SHAPES = [
 ]
 
 
+def java_kinds(count):
+    """The source of `kinds`, and what its method is given: a list that may be null and doesn't lead back into itself."""
+    below = ''.join('class Item%d extends Item { int weight() { return %d; } }\n' % (n, n) for n in range(count))
+    source = '''abstract class Item { Item next; abstract int weight(); }
+%sclass A {
+    static int f(Item first) {
+        int sum = 0;
+        for (Item item = first; item != null; item = item.next) sum += item.weight();
+        return sum;
+    }
+}''' % below
+    return source, '(LItem;)I', [{'type': 'Item', 'null': True, 'shape': 'dag'}]
+
+
+def java_walks(depth):
+    """The source of `walks`, and what its method is given: such a list, and a number."""
+    heads = ['for (Item p%d = first; p%d != null; p%d = p%d.next) ' % (n, n, n, n) if n % 2 == 0
+             else 'for (int i%d = 0; i%d < last; i%d++) ' % (n, n, n) for n in range(depth)]
+    source = '''class Item { Item next; }
+class A {
+    static void f(Item first, int last) {
+        %s;
+    }
+}''' % ''.join(heads)
+    return source, '(LItem;I)V', [{'type': 'Item', 'null': True, 'shape': 'dag'}, {'lo': LEAST, 'hi': MOST}]
+
+
+def java_calls(count):
+    """The source of `calls`, and what its method is given: a number."""
+    called = ''.join('    static int g%d(int x) { return x ^ %d; }\n' % (n, n) for n in range(count))
+    source = 'class A {\n%s    static int f(int x) {\n%s        return x;\n    }\n}' % (
+        called, ''.join('        x = g%d(x);\n' % n for n in range(count)))
+    return source, '(I)I', [{'lo': LEAST, 'hi': MOST}]
+
+
+OBJECTS = [('kinds %d' % count, java_kinds(count)) for count in (25, 50, 100)] + [
+    ('walks %d' % depth, java_walks(depth)) for depth in (10, 20, 30)] + [
+    ('calls %d' % count, java_calls(count)) for count in (125, 250, 500)]
+
+
+def compiled(place, shape):
+    """The files of a shape of objects: its description, and its classes, of which there may be many."""
+    source, descriptor, given = shape
+    place.mkdir()
+    (place / 'A.java').write_text(source)
+    subprocess.run(['javac', '--release', '8', '-Xlint:-options', '-nowarn', '-d', place, place / 'A.java'], check=True, stderr=subprocess.DEVNULL)
+    said = {'form': 1, 'class': 'A', 'method': 'f', 'desc': descriptor, 'params': given, 'same': [], 'share': []}
+    (place / 'desc.json').write_text(json.dumps(said, separators=(',', ':')))
+    return [str(file) for file in [place / 'desc.json'] + sorted(place.glob('*.class'))]
+
+
 def nodes_of(out):
     """The number of a certificate's nodes; a dash where there is none."""
     lines = out.decode().split('\n')
     return str(len(json.loads(lines[1])['nodes'])) if lines[0] == 'YES' else '-'
+
+
+def print_shape(program, name, words):
+    out, took, peak = told(program, ['prove'] + words)
+    print('%-10s %10s %10d %10.0f %10.1f  %s' % (name, nodes_of(out), len(out), 1000 * took, peak, out.decode().split('\n')[0]), flush=True)
 
 
 def main():
@@ -150,8 +209,9 @@ def main():
         for name, (params, code), local_count, words in SHAPES:
             (place / 'A.class').write_bytes(class_file(params, code, locals_=local_count))
             (place / 'desc.json').write_text(json.dumps(description(params), separators=(',', ':')))
-            out, took, peak = told(program, ['prove'] + words + [str(place / 'desc.json'), str(place / 'A.class')])
-            print('%-10s %10s %10d %10.0f %10.1f  %s' % (name, nodes_of(out), len(out), 1000 * took, peak, out.decode().split('\n')[0]), flush=True)
+            print_shape(program, name, words + [str(place / 'desc.json'), str(place / 'A.class')])
+        for name, shape in OBJECTS:
+            print_shape(program, name, ['--nodes', '20000'] + compiled(place / name, shape))
 
 
 if __name__ == '__main__':
