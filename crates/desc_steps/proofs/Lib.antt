@@ -1,3 +1,4 @@
+pub mod Rest
 pub mod Answering
 pub mod BareHeaps
 pub mod Fitting
@@ -5,3 +6,4 @@ pub mod GivenValues
 pub mod NamedOnce
 pub mod Naming
 pub mod OneAnswer
+pub mod Said

@@ -27,7 +27,8 @@ use Rattle.input_steps.specs.Programs.{IsProgramOf, RefusesProgram, IsAcyclic, R
 use Rattle.input_steps.proofs.OneAnswer.{map_some_one, IsExact, IsOne, at_one, then_one, none_some, classes_exact, world_exact}
 use Rattle.input_steps.proofs.OneAnswer.{program_exact, calls_exact, types_exact}
 use Rattle.input_steps.proofs.OneText.{said_exact, text_exact}
-use Rattle.desc_steps.specs.Answers.{OfProgram, OfEntry, OfClasses, OfFiles}
+use Rattle.desc_steps.specs.Answers.{Saying, OfFiles}
+use Rattle.desc_steps.proofs.Rest.{OfProgram, OfEntry, OfClasses}
 use Rattle.desc_steps.specs.Descriptions.{IsDescText, RefusesText, RefusesEntry, IsDesc, RefusesDesc}
 
 -- ---- what is described
@@ -66,8 +67,8 @@ typing_exact p linked = record {
 
 -- ---- the whole
 
-module _ {X : Type 0} (Says : Program → (ℕ → CodeTypes) → Desc → Result X Refused → Type 0)
-    (one : (p : Program) (typing : ℕ → CodeTypes) (described : Desc) → IsOne (Says p typing described)) where
+module _ {X : Type 0} (Says : Saying X) (one : (p : Program) (typing : ℕ → CodeTypes) (described : Desc)
+    → IsOne (Says p typing described)) where
   program_one : (text : DescText) (p : Program) → IsClosed p → IsOne (OfProgram Says text p)
   program_one text p closed =
       then_one {A = Unit {0}} (λ nothing. IsAcyclic p) (RefusesCalls p) _ (calls_exact p) (λ nothing a.

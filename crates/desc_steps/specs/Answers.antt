@@ -1,48 +1,31 @@
--- What a command answers for the bytes of a description and of class files, up to what it says of a program with described inputs: the
--- steps in their one order, each of which gives something or refuses the input.
+-- What a command answers for the bytes of a description and of class files, up to what it says of a program with described inputs.
 use Rattle.std.specs.Prelude.{◌≡◌, ℕ, List, Result, Ok, Err}
-use Rattle.class_read.specs.Content.{ClassContent}
-use Rattle.class_world.specs.World.{World}
-use Rattle.class_world.specs.declared.world.MethodRef.{MethodRef}
 use Rattle.class_program.specs.Programs.{Program}
 use Rattle.frame_types.specs.Tables.{CodeTypes}
-use Rattle.code_verify.specs.Typings.{IsTypingOf}
-use Rattle.input_text.specs.declared.texts.DescText.{DescText}
 use Rattle.input_desc.specs.declared.desc.Desc.{Desc}
-use Rattle.input_desc.specs.Entries.{entry_of}
 use Rattle.input_steps.specs.declared.refused.Refused.{Refused}
 use Rattle.input_steps.specs.declared.refused.Refused.TheVariants.{At, Memory}
-use Rattle.input_steps.specs.Steps.{Then}
-use Rattle.input_steps.specs.Classes.{AllSpell, RefusesClasses, IsWorldOf, RefusesWorld}
-use Rattle.input_steps.specs.Programs.{IsProgramOf, RefusesProgram, IsAcyclic, RefusesCalls, RefusesTypes}
-use Rattle.desc_steps.specs.Descriptions.{IsDescText, RefusesText, RefusesEntry, IsDesc, RefusesDesc}
+use Rattle.input_steps.specs.Steps.{◌>>=◌}
+use Rattle.input_steps.specs.Classes.{reading_classes, linking}
+use Rattle.input_steps.specs.Programs.{closing, testing_calls, typing_methods}
+use Rattle.desc_steps.specs.Descriptions.{reading_description, finding_entry, describing}
 
--- of a program: its calls, its types, and what the description says of its inputs; and then what the command says of it
-abbrev pub OfProgram : {X : Type 0} → (Program → (ℕ → CodeTypes) → Desc → Result X Refused → Type 0) → DescText → Program
-    → Result X Refused → Type 0
-OfProgram {X} Says text p =
-    Then {A = Unit {0}} {X = X} (λ nothing. IsAcyclic p) (RefusesCalls p) (λ nothing.
-    Then {A = ℕ → CodeTypes} {X = X} (IsTypingOf p) (RefusesTypes p) (λ typing.
-    Then {A = Desc} {X = X} (IsDesc p text) (RefusesDesc p text) (Says p typing)))
+-- what a command says of a program with its typing and described inputs
+abbrev pub Saying : Type 0 → Type 1
+Saying X = Program → (ℕ → CodeTypes) → Desc → Result X Refused → Type 0
 
--- of an entry: its program
-abbrev pub OfEntry : {X : Type 0} → (Program → (ℕ → CodeTypes) → Desc → Result X Refused → Type 0) → DescText → World → MethodRef
-    → Result X Refused → Type 0
-OfEntry {X} Says text world entry = Then {A = Program} {X = X} (IsProgramOf world entry) (RefusesProgram world entry) (OfProgram Says text)
-
--- of classes: the world that they make, and the method that the description names
-abbrev pub OfClasses : {X : Type 0} → (Program → (ℕ → CodeTypes) → Desc → Result X Refused → Type 0) → DescText → List ClassContent
-    → Result X Refused → Type 0
-OfClasses {X} Says text classes =
-    Then {A = World} {X = X} (IsWorldOf classes) (RefusesWorld classes) (λ world.
-    Then {A = MethodRef} {X = X} (λ entry. entry_of world text.entry ≡ Ok entry) (RefusesEntry world text) (OfEntry Says text world))
-
--- of the files: the classes that they spell, and the description's text
-abbrev pub OfFiles : {X : Type 0} → (Program → (ℕ → CodeTypes) → Desc → Result X Refused → Type 0) → List ℕ → List (List ℕ)
-    → Result X Refused → Type 0
-OfFiles {X} Says desc files =
-    Then {A = List ClassContent} {X = X} (AllSpell files) (RefusesClasses files) (λ classes.
-    Then {A = DescText} {X = X} (IsDescText desc) (RefusesText desc) (λ text. OfClasses Says text classes))
+-- The steps in their one order, from the first to the last: each gives something, or refuses the input. `docs/REFUSALS.md` numbers them so.
+abbrev pub OfFiles : {X : Type 0} → Saying X → List ℕ → List (List ℕ) → Result X Refused → Type 0
+OfFiles Says desc files = do
+  classes ← reading_classes files
+  text ← reading_description desc
+  world ← linking classes
+  entry ← finding_entry world text
+  program ← closing world entry
+  acyclic ← testing_calls program
+  typing ← typing_methods program
+  described ← describing program text
+  Says program typing described
 
 -- what is said where nothing is refused: this, or want of memory
 abbrev pub AnswersAs : {X : Type 0} → X → Result X Refused → Type 0

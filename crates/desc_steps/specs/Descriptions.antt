@@ -1,6 +1,7 @@
 -- What the bytes of a description say, step by step: its text, its method, and what it says of the inputs of the method's program.
 use Rattle.std.specs.Prelude.{◌≡◌, ℕ, List, Some, Ok, Err}
 use Rattle.class_world.specs.World.{World}
+use Rattle.class_world.specs.declared.world.MethodRef.{MethodRef}
 use Rattle.class_program.specs.Programs.{Program}
 use Rattle.input_text.specs.Answers.{SaysOf}
 use Rattle.input_text.specs.Descriptions.{description_of}
@@ -11,6 +12,7 @@ use Rattle.input_desc.specs.Entries.{entry_of}
 use Rattle.input_steps.specs.declared.refused.Place.{Place}
 use Rattle.input_steps.specs.declared.refused.Place.TheVariants as places
 use Rattle.input_steps.specs.declared.refused.Fault.{Fault}
+use Rattle.input_steps.specs.Steps.{Step}
 use Rattle.input_steps.specs.Texts.{OfInput, IsTextFault}
 
 -- the bytes say this
@@ -32,3 +34,17 @@ IsDesc p text described = Describes p text (Ok described)
 -- the first fault of the description against the program
 abbrev pub RefusesDesc : Program → DescText → Place → Fault → Type 0
 RefusesDesc p text = OfInput places.Description (λ fault. desc_fault p text ≡ Some fault)
+
+-- ---- the steps
+
+-- the text of a description is read
+abbrev pub reading_description : List ℕ → Step DescText
+reading_description desc = record { gives = IsDescText desc; refuses = RefusesText desc }
+
+-- the method that it names is looked up
+abbrev pub finding_entry : World → DescText → Step MethodRef
+finding_entry world text = record { gives = λ entry. entry_of world text.entry ≡ Ok entry; refuses = RefusesEntry world text }
+
+-- it is read as one of the program's inputs
+abbrev pub describing : Program → DescText → Step Desc
+describing p text = record { gives = IsDesc p text; refuses = RefusesDesc p text }

@@ -14,7 +14,7 @@ use Rattle.input_steps.specs.declared.refused.Place.{Place}
 use Rattle.input_steps.specs.declared.refused.Place.TheVariants as places
 use Rattle.input_steps.specs.declared.refused.Fault.{Fault}
 use Rattle.input_steps.specs.declared.refused.Fault.TheVariants as faults
-use Rattle.input_steps.specs.Steps.{IsAt}
+use Rattle.input_steps.specs.Steps.{IsAt, Step}
 
 -- each file spells a class, in order
 abbrev pub AllSpell : List (List ℕ) → List ClassContent → Type 0
@@ -55,3 +55,13 @@ pub record IsWorldOf (classes : List ClassContent) (world : World) : Type 0 wher
 -- classes are refused for the first rule that they break as a world
 abbrev pub RefusesWorld : List ClassContent → Place → Fault → Type 0
 RefusesWorld classes = IsAt {C = LinkFault} (λ fault. places.Link) faults.Link (λ fault. link_fault (world_of classes) ≡ Some fault)
+
+-- ---- the steps
+
+-- the classes of files are read, in order
+abbrev pub reading_classes : List (List ℕ) → Step (List ClassContent)
+reading_classes files = record { gives = AllSpell files; refuses = RefusesClasses files }
+
+-- they are linked
+abbrev pub linking : List ClassContent → Step World
+linking classes = record { gives = IsWorldOf classes; refuses = RefusesWorld classes }

@@ -15,7 +15,7 @@ use Rattle.input_steps.specs.declared.refused.Place.{Place}
 use Rattle.input_steps.specs.declared.refused.Place.TheVariants as places
 use Rattle.input_steps.specs.declared.refused.Fault.{Fault}
 use Rattle.input_steps.specs.declared.refused.Fault.TheVariants as faults
-use Rattle.input_steps.specs.Steps.{IsAt}
+use Rattle.input_steps.specs.Steps.{IsAt, Step}
 
 -- the program of an entry of a world: the methods that it reaches, itself first, and the static fields that these name
 pub record IsProgramOf (world : World) (entry : MethodRef) (p : Program) : Type 0 where
@@ -44,3 +44,21 @@ HasTypings p = (typing : ℕ → CodeTypes) × IsTypingOf p typing
 abbrev pub RefusesTypes : Program → Place → Fault → Type 0
 RefusesTypes p = IsAt {C = MethodName} (λ method. places.Verify) faults.Untyped
     (λ method. (a : ℕ) × (IsFirstUntyped p a × IsNameOf p a method))
+
+-- ---- the steps
+
+-- the program of an entry is closed
+abbrev pub closing : World → MethodRef → Step Program
+closing world entry = record { gives = IsProgramOf world entry; refuses = RefusesProgram world entry }
+
+-- its calls are tested
+abbrev pub testing_calls : Program → Step (Unit {0})
+testing_calls p = record { gives = λ nothing. IsAcyclic p; refuses = RefusesCalls p }
+
+-- that its methods can be typed is tested
+abbrev pub testing_types : Program → Step (Unit {0})
+testing_types p = record { gives = λ nothing. HasTypings p; refuses = RefusesTypes p }
+
+-- its methods are typed
+abbrev pub typing_methods : Program → Step (ℕ → CodeTypes)
+typing_methods p = record { gives = IsTypingOf p; refuses = RefusesTypes p }

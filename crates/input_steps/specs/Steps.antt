@@ -28,6 +28,16 @@ Then {A} Gives Refuses Next (Ok x) = (a : A) × (Gives a × Next a (Ok x))
 Then {A} Gives Refuses Next (Err (At place fault)) = Refuses place fault ⊎ ((a : A) × (Gives a × Next a (Err (At place fault))))
 Then Gives Refuses Next (Err Memory) = Unit {0}
 
+-- A step: when it gives something, and with which place and fault it refuses.
+pub record Step (A : Type 0) : Type 1 where
+  pub gives : A → Type 0
+  pub refuses : Place → Fault → Type 0
+
+-- a step, and then others, which speak of what it gives
+infixl 10 ◌>>=◌
+abbrev pub ◌>>=◌ : {A X : Type 0} → Step A → (A → Result X Refused → Type 0) → Result X Refused → Type 0
+step >>= next = Then step.gives step.refuses next
+
 -- what is said of a description or a state that has this fault
 abbrev pub desc_refusal : Place → DescFault → Refused
 desc_refusal place descs.Memory = Memory

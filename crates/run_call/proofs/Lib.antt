@@ -1,3 +1,4 @@
+pub mod Rest
 pub mod Answering
 pub mod Endings
 pub mod Inputs

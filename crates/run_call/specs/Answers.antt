@@ -1,7 +1,6 @@
 -- What `run` answers for so many steps, the bytes of a state, and those of class files.
 use Rattle.std.specs.Prelude.{◌≡◌, ℕ, List, Option, Some, Result, Ok, Err}
 use Rattle.jvm_values.specs.States.{MachineState}
-use Rattle.class_read.specs.Content.{ClassContent}
 use Rattle.class_world.specs.World.{World}
 use Rattle.class_world.specs.declared.world.MethodRef.{MethodRef}
 use Rattle.class_program.specs.Programs.{Program}
@@ -22,10 +21,10 @@ use Rattle.input_steps.specs.declared.refused.Place.{Place}
 use Rattle.input_steps.specs.declared.refused.Place.TheVariants as places
 use Rattle.input_steps.specs.declared.refused.Fault.{Fault}
 use Rattle.input_steps.specs.declared.refused.Fault.TheVariants as faults
-use Rattle.input_steps.specs.Steps.{Then}
+use Rattle.input_steps.specs.Steps.{Step, ◌>>=◌}
 use Rattle.input_steps.specs.Texts.{OfInput, IsTextFault}
-use Rattle.input_steps.specs.Classes.{AllSpell, RefusesClasses, IsWorldOf, RefusesWorld}
-use Rattle.input_steps.specs.Programs.{IsProgramOf, RefusesProgram, IsAcyclic, RefusesCalls, HasTypings, RefusesTypes}
+use Rattle.input_steps.specs.Classes.{reading_classes, linking}
+use Rattle.input_steps.specs.Programs.{closing, testing_calls, testing_types}
 use Rattle.run_call.specs.Lines.{ended_line}
 
 -- ---- what a state says
@@ -74,27 +73,29 @@ AnswersRun fuel p input (Ok line) = IsRunLine fuel p input line
 AnswersRun fuel p input (Err (At place fault)) = ⊥
 AnswersRun fuel p input (Err Memory) = Unit {0}
 
--- ---- the steps, in their order
+-- ---- the steps
 
--- of a program: its calls, its types, and what the state gives to it
-abbrev pub AnswersProgram : ℕ → StateText → Program → Result (List ℕ) Refused → Type 0
-AnswersProgram fuel text p =
-    Then {A = Unit {0}} (λ nothing. IsAcyclic p) (RefusesCalls p) (λ nothing.
-    Then {A = Unit {0}} (λ nothing. HasTypings p) (RefusesTypes p) (λ nothing.
-    Then (IsInput p text) (RefusesInput p text) (AnswersRun fuel p)))
+-- the text of a state is read
+abbrev pub reading_state : List ℕ → Step StateText
+reading_state state = record { gives = IsStateText state; refuses = RefusesState state }
 
--- of an entry: its program
-abbrev pub AnswersEntry : ℕ → StateText → World → MethodRef → Result (List ℕ) Refused → Type 0
-AnswersEntry fuel text world entry = Then (IsProgramOf world entry) (RefusesProgram world entry) (AnswersProgram fuel text)
+-- the method that it names is looked up
+abbrev pub finding_entry : World → StateText → Step MethodRef
+finding_entry world text = record { gives = λ entry. entry_of world text.entry ≡ Ok entry; refuses = RefusesEntry world text }
 
--- of classes: the world that they make, and the method that the state names
-abbrev pub AnswersNamed : ℕ → StateText → List ClassContent → Result (List ℕ) Refused → Type 0
-AnswersNamed fuel text classes =
-    Then (IsWorldOf classes) (RefusesWorld classes) (λ world.
-    Then (λ entry. entry_of world text.entry ≡ Ok entry) (RefusesEntry world text) (AnswersEntry fuel text world))
+-- it is read as what it gives to the program
+abbrev pub giving_input : Program → StateText → Step StateInput
+giving_input p text = record { gives = IsInput p text; refuses = RefusesInput p text }
 
--- of the files: the classes that they spell, and the state's text
+-- The steps in their one order, from the first to the last: each gives something, or refuses the input. `docs/REFUSALS.md` numbers them so.
 abbrev pub Answers : ℕ → List ℕ → List (List ℕ) → Result (List ℕ) Refused → Type 0
-Answers fuel state files =
-    Then (AllSpell files) (RefusesClasses files) (λ classes.
-    Then (IsStateText state) (RefusesState state) (λ text. AnswersNamed fuel text classes))
+Answers fuel state files = do
+  classes ← reading_classes files
+  text ← reading_state state
+  world ← linking classes
+  entry ← finding_entry world text
+  program ← closing world entry
+  acyclic ← testing_calls program
+  typed ← testing_types program
+  input ← giving_input program text
+  AnswersRun fuel program input
