@@ -7,9 +7,12 @@ PROGRAM is the built `jterm`; without it, it is `.built/jterm`, which `./jterm` 
 
 ints 1     255 int parameters and 1,000 `nop`s, in form 1: each node says its 255 ints
 ints 2     the same in form 2: node 0 alone says its ints
-nodes      20 int parameters and 19,999 `nop`s, in form 2
+nodes      20 int parameters and 19,999 `nop`s, in form 2: 20,000 nodes of 20 ids
+ids        255 int parameters, 245 constants on the stack and 1,000 `nop`s, in form 2: 1,001 nodes of 500 ids behind 245 of fewer
 paths      a loop over 3 ints that switches twice, 64 ways each time, in form 2: 4,096 paths of 9 edges, on each of which one form falls
 rows       the same over 20 ints, with `nop`s: 4,096 paths of 4,060 rows each, near the most that they may have together
+
+Behind the peak of memory stands that of the same certificate with `"form":3`, which is refused once its JSON is read: what the JSON takes alone.
 """
 import json
 import pathlib
@@ -46,14 +49,14 @@ def state(params, place):
     return {'cells': cells, 'eq': [], 'frames': [[0, place, list(range(params)), []]], 'share': [], 'throw': -1}
 
 
-def straight(params, nops, form):
-    """A node for each `nop` and one for `return`."""
-    nodes = [{'by': ['expand', [n + 1]]} for n in range(nops)] + [{'by': ['end']}]
+def straight(params, nops, form, constants=0):
+    """A node for each constant that is pushed, for each `nop`, and one for `return`."""
+    nodes = [{'by': ['expand', [n + 1]]} for n in range(constants + nops)] + [{'by': ['end']}]
     for place, node in enumerate(nodes):
         if form == 1 or place == 0:
             node['state'] = state(params, place)
     cert = {'cuts': [0], 'form': form, 'nodes': nodes, 'proof': [['empty']]}
-    return class_file(params, bytes(nops) + b'\xb1'), description(params), cert
+    return class_file(params, b'\x03' * constants + bytes(nops) + b'\xb1', max(2, constants)), description(params), cert
 
 
 def switch(place, labels, to):
@@ -109,8 +112,12 @@ def switches(params, nops):
     return class_file(params, code), description(params), {'cuts': [0], 'form': 2, 'nodes': nodes, 'proof': proof}
 
 
+def written(cert):
+    return json.dumps(cert, separators=(',', ':'), sort_keys=True)
+
+
 def told(program, words):
-    """The program's output, and the least processor time of five runs, or of one that takes above a second."""
+    """The program's output, the least processor time of five runs, or of one that takes above a second, and the peak of memory in MiB."""
     best = None
     for _ in range(5):
         before = processor_seconds()
@@ -119,8 +126,13 @@ def told(program, words):
         best = took if best is None else min(best, took)
         if best > 1:
             break
-    peak = subprocess.run([sys.executable, '-c', PEAK, program] + words, stdout=subprocess.DEVNULL, stderr=subprocess.PIPE).stderr
-    return out, best, int(peak.split()[-1]) / 1024
+    return out, best, peak_of(program, words)
+
+
+def peak_of(program, words):
+    """The peak of memory of a run, in MiB."""
+    told = subprocess.run([sys.executable, '-c', PEAK, program] + words, stdout=subprocess.DEVNULL, stderr=subprocess.PIPE).stderr
+    return int(told.split()[-1]) / 1024
 
 
 def main():
@@ -131,19 +143,23 @@ def main():
         ('ints 1', straight(255, 1000, 1)),
         ('ints 2', straight(255, 1000, 2)),
         ('nodes', straight(20, 19999, 2)),
+        ('ids', straight(255, 1000, 2, 245)),
         ('paths', switches(3, 0)),
         ('rows', switches(20, 58)),
     ]
-    print('%-10s %10s %10s %10s  %s' % ('shape', 'bytes', 'ms', 'MiB', 'answer'))
+    print('%-10s %10s %10s %10s %10s  %s' % ('shape', 'bytes', 'ms', 'MiB', 'JSON MiB', 'answer'))
     with tempfile.TemporaryDirectory() as place:
         place = pathlib.Path(place)
         for name, (bytes_, desc, cert) in shapes:
             (place / 'A.class').write_bytes(bytes_)
             (place / 'desc.json').write_text(json.dumps(desc, separators=(',', ':')))
-            text = json.dumps(cert, separators=(',', ':'), sort_keys=True)
+            text = written(cert)
             (place / 'cert.json').write_text(text)
-            out, took, peak = told(program, ['check', str(place / 'cert.json'), str(place / 'desc.json'), str(place / 'A.class')])
-            print('%-10s %10d %10.0f %10.1f  %s' % (name, len(text), 1000 * took, peak, out.decode().strip()[:60]))
+            (place / 'read.json').write_text(written(dict(cert, form=3)))
+            files = [str(place / 'desc.json'), str(place / 'A.class')]
+            out, took, peak = told(program, ['check', str(place / 'cert.json')] + files)
+            read = peak_of(program, ['check', str(place / 'read.json')] + files)
+            print('%-10s %10d %10.0f %10.1f %10.1f  %s' % (name, len(text), 1000 * took, peak, read, out.decode().strip()[:60]))
 
 
 if __name__ == '__main__':

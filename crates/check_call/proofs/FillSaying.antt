@@ -7,7 +7,7 @@ use Rattle.input_steps.specs.declared.refused.Refused.{Refused}
 use Rattle.input_steps.specs.declared.refused.Refused.TheVariants.{At, Memory}
 use Rattle.desc_steps.specs.Names.{names_of}
 use Rattle.term_graph.specs.Graphs.{GraphNode}
-use Rattle.graph_check.specs.Filling.{IsFilled}
+use Rattle.graph_fill.specs.ChildrenOfStates.{IsFilledGraph}
 use Rattle.cert_form.specs.declared.fault.CertFault.{CertFault}
 use Rattle.cert_form.specs.declared.fault.CertFault.TheVariants as certs
 use Rattle.cert_form.specs.Certificates.{CertContent, cert_of, AnswersText}
@@ -32,7 +32,7 @@ text_is names nodes cuts proof text is = ap (λ (bytes : List ℕ). bytes ++ 10 
 -- ---- what a certificate says
 
 pub filled_goes : (p : Program) (typing : ℕ → CodeTypes) (content : CertContent) (nodes : List GraphNode) (outcome : Outcome)
-    → IsFilled p typing content.parts nodes → outcome ≡ filled p nodes content → AnswersContent p typing content (Ok outcome)
+    → IsFilledGraph p typing content.parts nodes → outcome ≡ filled p nodes content → AnswersContent p typing content (Ok outcome)
 filled_goes p typing content nodes outcome f e = (nodes, (f, e))
 
 -- ---- the bytes

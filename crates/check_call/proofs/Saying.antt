@@ -13,7 +13,7 @@ use Rattle.input_steps.specs.declared.refused.Refused.TheVariants.{At, Memory}
 use Rattle.desc_steps.specs.Answers.{AnswersAs}
 use Rattle.desc_steps.specs.Names.{names_of}
 use Rattle.term_graph.specs.Graphs.{GraphNode}
-use Rattle.graph_check.specs.Filling.{IsFilled}
+use Rattle.graph_fill.specs.ChildrenOfStates.{IsFilledGraph}
 use Rattle.cert_form.specs.declared.fault.CertFault.{CertFault}
 use Rattle.cert_form.specs.declared.fault.CertFault.TheVariants as certs
 use Rattle.cert_form.specs.Certificates.{CertContent, cert_of, AnswersText}
@@ -72,7 +72,7 @@ text_said certs.Memory cause result other is s = absurd (other refl)
 -- ---- what a certificate says
 
 pub filled_goes : (p : Program) (typing : ℕ → CodeTypes) (desc : Desc) (content : CertContent) (nodes : List GraphNode)
-    (result : Answer) → IsFilled p typing content.parts nodes
+    (result : Answer) → IsFilledGraph p typing content.parts nodes
     → AnswersChecked (case_of p typing (initial_of p desc) nodes content.cuts content.proof) result
     → AnswersContent p typing desc content result
 filled_goes p typing desc content nodes (Ok outcome) filled h = (nodes, (filled, h))

@@ -9,7 +9,7 @@ use Rattle.input_steps.specs.declared.refused.Refused.TheVariants.{At, Memory}
 use Rattle.desc_steps.specs.Answers.{OfFiles}
 use Rattle.desc_steps.specs.Names.{names_of}
 use Rattle.term_graph.specs.Graphs.{GraphNode}
-use Rattle.graph_check.specs.Filling.{IsFilled}
+use Rattle.graph_fill.specs.ChildrenOfStates.{IsFilledGraph}
 use Rattle.cert_form.specs.declared.fault.CertFault.{CertFault}
 use Rattle.cert_form.specs.declared.fault.CertFault.TheVariants as certs
 use Rattle.cert_form.specs.Certificates.{CertContent, cert_of, SaysOf, AnswersText}
@@ -43,7 +43,7 @@ AnswersChecked case (Err Memory) = Unit {0}
 
 -- of what a certificate says: the nodes get the states that are left out, and then it is checked
 abbrev pub AnswersContent : Program → (ℕ → CodeTypes) → Desc → CertContent → Result Outcome Refused → Type 0
-AnswersContent p typing desc content (Ok outcome) = (nodes : List GraphNode) × (IsFilled p typing content.parts nodes
+AnswersContent p typing desc content (Ok outcome) = (nodes : List GraphNode) × (IsFilledGraph p typing content.parts nodes
     × AnswersChecked (case_of p typing (initial_of p desc) nodes content.cuts content.proof) (Ok outcome))
 AnswersContent p typing desc content (Err (At place fault)) = ⊥
 AnswersContent p typing desc content (Err Memory) = Unit {0}

@@ -7,7 +7,7 @@ use Rattle.input_steps.specs.declared.refused.Refused.TheVariants.{At, Memory}
 use Rattle.desc_steps.specs.Answers.{OfFiles}
 use Rattle.desc_steps.specs.Names.{names_of}
 use Rattle.term_graph.specs.Graphs.{GraphNode}
-use Rattle.graph_check.specs.Filling.{IsFilled}
+use Rattle.graph_fill.specs.ChildrenOfStates.{IsFilledGraph}
 use Rattle.cert_form.specs.declared.fault.CertFault.{CertFault}
 use Rattle.cert_form.specs.Certificates.{CertContent}
 use Rattle.cert_form.specs.Faults.{fault_text}
@@ -23,7 +23,7 @@ filled p nodes content = record { status = 0; out = filled_text (names_of p.worl
 -- of what a certificate says: the filled graph with the certificate's cuts and proof
 abbrev pub AnswersContent : Program → (ℕ → CodeTypes) → CertContent → Result Outcome Refused → Type 0
 AnswersContent p typing content (Ok outcome) = (nodes : List GraphNode)
-    × (IsFilled p typing content.parts nodes × (outcome ≡ filled p nodes content))
+    × (IsFilledGraph p typing content.parts nodes × (outcome ≡ filled p nodes content))
 AnswersContent p typing content (Err (At place fault)) = ⊥
 AnswersContent p typing content (Err Memory) = Unit {0}
 

@@ -21,11 +21,11 @@ use class_program::Program;
 use code_verify::Typing;
 use desc_steps::class_names;
 use descent::Proof;
-use graph_fill::fill;
+use graph_fill::filled;
 use input_desc::{Desc, initial};
 use input_steps::Refused;
 use std::alloc::Global;
-use term_graph::Graph;
+use term_graph::NodeSource;
 
 /// What is said of a certificate that was checked.
 fn said(alloc: Global, checked: Result<(), Refusal>) -> Result<Outcome, Refused>
@@ -43,34 +43,34 @@ fn said(alloc: Global, checked: Result<(), Refusal>) -> Result<Outcome, Refused>
 
 /// What is said of a graph with cuts and a proof.
 #[tactic(auto, using(crate::proofs::Saying::said_tells, crate::proofs::Saying::said_ends))]
-fn check_graph(
+fn check_graph<S: NodeSource<PackedPairs>>(
     alloc: Global,
     program: &Program<'_>,
     typing: &Typing,
     desc: &Desc,
-    graph: &mut Graph<PackedPairs>,
+    nodes: &mut S,
     cuts: &[u32],
     proof: &Proof,
 ) -> Result<Outcome, Refused>
     requires typing { IsTypingOf (program_of program.now) (typing_at typing.now) }
     requires own { IsOwnDesc (program_of program.now) desc.now }
     requires good { IsGoodDesc (program_of program.now) desc.now }
-    requires few { length graph.old ≤ 2 ^ 32 - 16 }
+    requires few { length (S.graph nodes.old) ≤ 2 ^ 32 - 16 }
     requires steps { AreSteps proof.now.steps }
     ensures checked { AnswersChecked
-        (case_of (program_of program.now) (typing_at typing.now) (initial_of (program_of program.now) desc.now) graph.old cuts.now
-        proof.now.steps) result }
+        (case_of (program_of program.now) (typing_at typing.now) (initial_of (program_of program.now) desc.now) (S.graph nodes.old)
+        cuts.now proof.now.steps) result }
     ensures ends { EndsIfAccepted (program_of program.now) desc.now result }
 {
     program.is_good();
     certified_runs_end();
     let root = initial(alloc, desc, program)?;
-    let checked = check_cert(alloc, program, typing, graph, &root, cuts, proof);
+    let checked = check_cert(alloc, program, typing, nodes, &root, cuts, proof);
     said(alloc, checked)
 }
 
 /// What is said of what a certificate says.
-#[tactic(auto, using(crate::proofs::Saying::filled_goes))]
+#[tactic(auto, using(graph_fill::proofs::Lacking::few_filled, crate::proofs::Saying::filled_goes))]
 fn check_content(
     alloc: Global,
     program: &Program<'_>,
@@ -87,13 +87,14 @@ fn check_content(
     ensures content { AnswersContent (program_of program.now) (typing_at typing.now) desc.now cert.now result }
     ensures ends { EndsIfAccepted (program_of program.now) desc.now result }
 {
-    let mut graph: Graph<PackedPairs> = fill(alloc, program, typing, cert)?;
+    let mut nodes = filled::<PackedPairs, _>(alloc, program, typing, cert)?;
+    nodes.begin(true);
     check_graph(
         alloc,
         program,
         typing,
         desc,
-        &mut graph,
+        &mut nodes,
         cert.cuts(),
         cert.proof(),
     )

@@ -18,10 +18,9 @@ use cert_form::{CertText, ClassNames};
 use class_program::Program;
 use code_verify::Typing;
 use desc_steps::class_names;
-use graph_fill::fill;
+use graph_fill::filled;
 use input_steps::Refused;
 use std::alloc::Global;
-use term_graph::Graph;
 
 /// What is said of what a certificate says.
 #[tactic(auto, using(crate::proofs::FillSaying::filled_goes))]
@@ -38,8 +37,8 @@ fn fill_content(
     requires few { length cert.now.parts ≤ most_nodes }
     ensures { AnswersContent (program_of program.now) (typing_at typing.now) cert.now result }
 {
-    let mut graph: Graph<PackedPairs> = fill(alloc, program, typing, cert)?;
-    let out = filled_text(alloc, &mut graph, cert.cuts(), cert.proof(), names)?;
+    let mut nodes = filled::<PackedPairs, _>(alloc, program, typing, cert)?;
+    let out = filled_text(alloc, &mut nodes, cert.cuts(), cert.proof(), names)?;
     Ok(Outcome { status: 0, out })
 }
 

@@ -1,5 +1,4 @@
 pub mod Good
 pub mod Laws
 pub mod OneVerdict
-pub mod Filling
 pub mod Checked

@@ -1,7 +1,9 @@
 -- Parts of which those without a state are named by earlier ones, as a certificate's text has them, can be filled; and the filled graph has as
 -- many nodes.
+use mathlib.Core.Logic.{∥∥₁_elim}
 use Rattle.std.proofs.Common.{◌≡◌, ◌∙◌, ◌<◌, ◌≤◌, ◌==◌, ℕ, zero, suc, Bool, true, false, ◌||◌, List, [], ◌∷◌, length, take, Option}
 use Rattle.std.proofs.Common.{Some, None, slice_get, refl, ap, arith}
+use Rattle.std.proofs.Props.{props}
 use Rattle.std.specs.List.{list_any}
 use Rattle.std.proofs.lemmas.Bool.{false≢true, eqb-true}
 use Rattle.std.proofs.lemmas.Option.{none-some}
@@ -11,9 +13,10 @@ use Rattle.frame_types.specs.Tables.{CodeTypes}
 use Rattle.term_graph.specs.declared.nodes.By.{By}
 use Rattle.term_graph.specs.declared.nodes.By.TheVariants.{Expand, Instance, End, Todo}
 use Rattle.term_graph.specs.Graphs.{GraphNode, GraphPart}
-use Rattle.graph_check.specs.Filling.{IsFilled, CanBeFilled}
+use Rattle.filled_graphs.specs.Filling.{CanBeFilled}
+use Rattle.filled_graphs.proofs.Lists.{image_at}
 use Rattle.cert_form.specs.Certificates.{names_child, LackingAreNamed}
-use Rattle.graph_fill.proofs.Lists.{same_length}
+use Rattle.graph_fill.specs.ChildrenOfStates.{IsFilledGraph}
 
 record IsPlaceOf {X : Type 0} (f : X → Bool) (xs : List X) : Type 0 where
   place : ℕ
@@ -58,20 +61,21 @@ can_be_filled parts lacking number part at none =
     let named = named_in found.item.by number found.passes in
     record {
       namer = found.place;
-      part = found.item;
-      named = named.named;
       place = named.place;
       earlier = before.1;
-      is = before.0;
-      by
-          = named.is;
-      at = named.at;
+      names = record {
+        named = named.named;
+        is = image_at (λ (q : GraphPart). q.by) parts found.place found.item before.0 ∙ ap Some named.is;
+        at = named.at;
+      };
     }
 
 -- ---- the filled graph
 
+few_prop : (m n : ℕ) → IsProp (m ≤ n)
+few_prop m n = hlevel props
+
 pub few_filled : (p : Program) (typing : ℕ → CodeTypes) (parts : List GraphPart) (nodes : List GraphNode) → length parts ≤ 20000
-    → IsFilled p typing parts nodes → length nodes ≤ 20000
+    → IsFilledGraph p typing parts nodes → length nodes ≤ 20000
 few_filled p typing parts nodes few filled =
-    let same = same_length (λ (node : GraphNode). node.by) (λ (part : GraphPart). part.by) nodes parts filled.ways in
-    omega (arith, few, same)
+    ∥∥₁_elim filled (few_prop (length nodes) 20000) (λ f. let long = f.long in omega (arith, few, long))

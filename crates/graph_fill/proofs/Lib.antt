@@ -1,6 +1,3 @@
-pub mod Growing
 pub mod Lacking
-pub mod Lists
+pub mod NoChildren
 pub mod Once
-pub mod OwnChildren
-pub mod SlotStates

@@ -5,14 +5,14 @@ use Rattle.class_program.specs.Programs.{Program}
 use Rattle.frame_types.specs.Tables.{CodeTypes}
 use Rattle.term_graph.specs.declared.links.Link.{Link}
 use Rattle.term_graph.specs.Graphs.{GraphNode, GraphPart}
-use Rattle.graph_check.specs.Filling.{IsFilled}
 use Rattle.graph_check.specs.Good.{GraphOk}
+use Rattle.graph_fill.specs.ChildrenOfStates.{IsFilledGraph}
 
 -- parts have one filled graph
 abbrev pub FilledGraphsAreOne : Type 0
 FilledGraphsAreOne =
     (p : Program) (typing : ℕ → CodeTypes) (parts : List GraphPart) (nodes others : List GraphNode)
-    → IsFilled p typing parts nodes → IsFilled p typing parts others → nodes ≡ others
+    → IsFilledGraph p typing parts nodes → IsFilledGraph p typing parts others → nodes ≡ others
 
 -- the nodes of a graph, some without their states
 abbrev pub IsStateOrNone : Option AbstractState → AbstractState → Type 0
@@ -29,4 +29,4 @@ abbrev pub GoodGraphsFillThemselves : Type 0
 GoodGraphsFillThemselves =
     (p : Program) (typing : ℕ → CodeTypes) (nodes filled : List GraphNode) (root : AbstractState) (links : List (List Link))
     (parts : List GraphPart)
-    → GraphOk p typing nodes root links → ArePartsOf nodes parts → IsFilled p typing parts filled → filled ≡ nodes
+    → GraphOk p typing nodes root links → ArePartsOf nodes parts → IsFilledGraph p typing parts filled → filled ≡ nodes

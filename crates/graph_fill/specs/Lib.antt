@@ -1,2 +1,2 @@
+pub mod ChildrenOfStates
 pub mod Laws
-pub mod Words

@@ -10,7 +10,7 @@ use Rattle.cert_form.specs.Certificates.{CertContent, cert_of, SaysOf}
 use Rattle.cert_check.specs.Parts.{case_of}
 use Rattle.cert_write.specs.Data.{certificate, content_of}
 use Rattle.descent.specs.declared.proof.ProofStep.{ProofStep}
-use Rattle.graph_check.specs.Filling.{IsFilled}
+use Rattle.graph_fill.specs.ChildrenOfStates.{IsFilledGraph}
 use Rattle.term_graph.specs.Graphs.{GraphNode}
 use Rattle.prove_core.specs.Answers.{IsCertificate, SaysValid}
 use Rattle.prove_core.specs.Reasons.{Aim, IsTooLong}
@@ -18,7 +18,7 @@ use Rattle.prove_core.specs.Words.{aim_of, IsProved}
 
 pub says : (p : Program) (typing : ℕ → CodeTypes) (root : AbstractState) (names : List (List ℕ)) (bytes : List ℕ)
     (content : CertContent) (nodes : List GraphNode) → SaysOf (cert_of names) bytes (Ok content)
-    → IsFilled p typing content.parts nodes
+    → IsFilledGraph p typing content.parts nodes
     → IsValid (case_of p typing root nodes content.cuts content.proof) → IsCertified p typing nodes content.cuts root
     → SaysValid (aim_of p typing root) names bytes
 says p typing root names bytes content nodes said filled valid certified = record

@@ -7,7 +7,7 @@ use Rattle.cert_write.specs.Data.{certificate}
 use Rattle.cert_check.specs.Certified.{IsCertified}
 use Rattle.cert_check.specs.Valid.{IsValid}
 use Rattle.cert_check.specs.Parts.{case_of}
-use Rattle.graph_check.specs.Filling.{IsFilled}
+use Rattle.graph_fill.specs.ChildrenOfStates.{IsFilledGraph}
 use Rattle.term_graph.specs.Graphs.{GraphNode}
 use Rattle.prove_core.specs.declared.found.Found.{Found}
 use Rattle.prove_core.specs.declared.found.Found.TheVariants.{Certificate, Maybe}
@@ -26,7 +26,7 @@ pub record SaysValid (aim : Aim) (names : List (List ℕ)) (bytes : List ℕ) : 
   pub content : CertContent
   pub says : SaysOf (cert_of names) bytes (Ok content)
   pub nodes : List GraphNode
-  pub filled : IsFilled aim.program aim.typing content.parts nodes
+  pub filled : IsFilledGraph aim.program aim.typing content.parts nodes
   pub valid : IsValid (case_of aim.program aim.typing aim.root nodes content.cuts content.proof)
   pub certified : IsCertified aim.program aim.typing nodes content.cuts aim.root
 

@@ -20,29 +20,29 @@ use cert_write::encode;
 use class_program::Program;
 use code_verify::Typing;
 use descent::Proof;
-use graph_fill::fill;
-use std::alloc::{AllocError, Global};
-use term_graph::Graph;
+use graph_fill::filled;
+use std::alloc::Global;
+use term_graph::NodeSource;
 
 /// Whether a graph with cuts and a proof is a valid certificate.
-fn is_valid<P: Pairs>(
+fn is_valid<P: Pairs, S: NodeSource<P>>(
     alloc: Global,
     program: &Program<'_>,
     typing: &Typing,
     root: &AbsState<P>,
-    graph: &mut Graph<P>,
+    nodes: &mut S,
     cuts: &[u32],
     proof: &Proof,
 ) -> bool
     requires typing { IsTypingOf (program_of program.now) (typing_at typing.now) }
-    requires few { length graph.old ≤ most_nodes }
+    requires few { length (S.graph nodes.old) ≤ most_nodes }
     requires steps { AreSteps proof.now.steps }
     ensures valid { IsTrue result
-        → IsValid (case_of (program_of program.now) (typing_at typing.now) root.now graph.old cuts.now proof.now.steps) }
-    ensures certified { IsTrue result → IsCertified (program_of program.now) (typing_at typing.now) graph.old cuts.now root.now }
-    ensures same { graph.new ≡ graph.old }
+        → IsValid (case_of (program_of program.now) (typing_at typing.now) root.now (S.graph nodes.old) cuts.now proof.now.steps) }
+    ensures certified { IsTrue result → IsCertified (program_of program.now) (typing_at typing.now) (S.graph nodes.old) cuts.now root.now }
+    ensures same { S.graph nodes.new ≡ S.graph nodes.old }
 {
-    match check_cert(alloc, program, typing, graph, root, cuts, proof) {
+    match check_cert(alloc, program, typing, nodes, root, cuts, proof) {
         Ok(()) => true,
         Err(_refusal) => false,
     }
@@ -64,16 +64,17 @@ fn says_valid<P: Pairs>(
     let Ok(text) = CertText::read(alloc, bytes, names) else {
         return false;
     };
-    let filled: Result<Graph<P>, AllocError> = fill(alloc, program, typing, &text);
-    match filled {
-        Ok(graph) => {
-            let mut graph = graph;
+    let source = filled::<P, _>(alloc, program, typing, &text);
+    match source {
+        Ok(nodes) => {
+            let mut nodes = nodes;
+            nodes.begin(true);
             is_valid(
                 alloc,
                 program,
                 typing,
                 root,
-                &mut graph,
+                &mut nodes,
                 text.cuts(),
                 text.proof(),
             )

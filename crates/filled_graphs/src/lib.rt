@@ -1,0 +1,6 @@
+//! Graphs whose nodes may lack their states, filled: what the filled graph is, that it is one, and where its states come from.
+#![tactic(auto)]
+
+mod origins;
+
+pub use origins::{Origin, origins_of};

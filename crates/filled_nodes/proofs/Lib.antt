@@ -1,0 +1,3 @@
+pub mod Knowing
+pub mod Putting
+pub mod SlotStates

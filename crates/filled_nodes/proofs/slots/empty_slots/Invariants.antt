@@ -1,0 +1,5 @@
+use Rattle.filled_nodes.specs.Holding.{AreEmpty}
+use Rattle.filled_nodes.proofs.slots.empty_slots.Given as goal
+
+abbrev pub invariant-loop : goal.invariant-loop
+invariant-loop g l = AreEmpty l.slots l.counter
