@@ -10,6 +10,7 @@ use Rattle.list_views.proofs.Items.{get_within}
 use Rattle.list_views.proofs.Quantified.{all_at, all_places}
 use Rattle.lin_core.specs.declared.faults.LinFault.{LinFault}
 use Rattle.lin_core.specs.Combination.{first_fault}
+use Rattle.lin_core.specs.Rows.{Rise}
 use Rattle.lin_core.specs.Weights.{AreWeights, rows_under}
 use Rattle.descent.specs.declared.faults.DescentFault.{DescentFault}
 use Rattle.descent.specs.declared.faults.DescentFault.TheVariants.{NotCovered, NotWeak, NotStrict, NotBounded}
@@ -24,7 +25,7 @@ use Rattle.descent.specs.Rankings.{Ranking, weak_fault, strict_fault, bounded_fa
 use Rattle.descent.specs.Rankings.{takes_start, takes_end}
 use Rattle.descent.specs.Splits.{edge_fault}
 use Rattle.descent.specs.Steps.{rule_of, ranking_of, listed_fault, rank_fault, ranking_fault}
-use Rattle.rank_forms.specs.RankSteps.{IsCutOf, IsRankStep, has_strict}
+use Rattle.rank_forms.specs.RankSteps.{IsCutOf, IsRankStep, has_strict, FormsRise, HaveNoSizes, IsLinear}
 use Rattle.chain_proofs.specs.Lean.{IsOwnCut}
 use Rattle.chain_proofs.specs.Sets.{AreOwn, IsRankOf, IsRenumbered, IsStepOver}
 use Rattle.chain_proofs.proofs.Dividing.{own_at, as_long}
@@ -37,7 +38,7 @@ fault_parts true c x y rest e = absurd (none-some x (sym e))
 fault_parts false true x y rest e = absurd (none-some y (sym e))
 fault_parts false false x y rest e = (refl, refl, e)
 
-edge_none : (one other : Option DescentFault) → edge_fault one other ≡ None → (one ≡ None) × (other ≡ None)
+pub edge_none : (one other : Option DescentFault) → edge_fault one other ≡ None → (one ≡ None) × (other ≡ None)
 edge_none None other e = (refl, e)
 edge_none (Some fault) other e = absurd (none-some fault (sym e))
 
@@ -47,7 +48,7 @@ edge_both one other e f = ap (λ (o : Option DescentFault). edge_fault o other) 
 equal : (a b : ℕ) → nat_lt a b ≡ false → nat_lt b a ≡ false → b ≡ a
 equal a b e f = let low = ltb-false a b e in let high = ltb-false b a f in omega (arith, low, high)
 
-one_listed : (weak strict bounded : Says) (rules : List PathRule) (n : ℕ) (rest : List ℕ) (one : RankRule) (listed : List RankRule)
+pub one_listed : (weak strict bounded : Says) (rules : List PathRule) (n : ℕ) (rest : List ℕ) (one : RankRule) (listed : List RankRule)
     → rank_fault weak strict bounded rules (n ∷ rest) (one ∷ listed) ≡ None
     → (rule_of one ≡ n) × (listed_fault weak strict bounded one (slice_get rules n) ≡ None)
     × (rank_fault weak strict bounded rules rest listed ≡ None)
@@ -230,6 +231,12 @@ own_cut rules set own over cut are same is =
       meets = is.ends;
     }
 
+so_linear : (step over : RankStep) → over.forms ≡ step.forms → over.weights ≡ step.weights → over.size ≡ step.size → IsLinear step
+    → IsLinear over
+so_linear step over f w s linear e =
+    let own = linear (sym s ∙ e) in
+    (w ∙ own.0, subst HaveNoSizes (sym f) own.1)
+
 pub ranks_over : (rules : List PathRule) (set : List ℕ) (own : List PathRule) (step over : RankStep) → AreOwn rules set own
     → IsRankStep own step → IsStepOver set step over → IsRankOf rules set over
 ranks_over rules set own step over are is so =
@@ -254,5 +261,8 @@ ranks_over rules set own step over are is so =
         strict = so_strict set step.rules over.rules so.listed is.strict;
         own = subst (All (λ (form : CutForm). IsOwnCut rules over.rules form.cut)) (sym so.forms)
             (λ k d w. own_cut rules set own over.rules (get_or step.forms k d).cut are numbers (is.own k d w));
+        rise = subst (FormsRise 0) (sym so.forms) is.rise;
+        classes = subst (Rise 4294967296) (sym so.weights) is.classes;
+        linear = so_linear step over so.forms so.weights so.size is.linear;
       };
     }

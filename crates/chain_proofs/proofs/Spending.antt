@@ -117,14 +117,14 @@ pub rises_lower : (low base : ℕ) (set : List ℕ) → base ≤ low → Rises l
 rises_lower low base [] l h = tt
 rises_lower low base (n ∷ set) l h = let first = h.0 in (omega (arith, l, first), h.1)
 
-weak_rise : (low : ℕ) (listed : List RankRule) → Rises low (map rule_of listed) → Rises low (weak_ones listed)
+pub weak_rise : (low : ℕ) (listed : List RankRule) → Rises low (map rule_of listed) → Rises low (weak_ones listed)
 weak_rise low [] h = tt
 weak_rise low (Weak rule fall ∷ rest) h = (h.0, weak_rise (suc rule) rest h.1)
 weak_rise low (Strict rule fall bound ∷ rest) h =
     let first = h.0 in
     rises_lower (suc rule) low (weak_ones rest) (omega (arith, first)) (weak_rise (suc rule) rest h.1)
 
-weak_below : (count : ℕ) (listed : List RankRule) → AllByRecursion (λ (n : ℕ). n < count) (map rule_of listed)
+pub weak_below : (count : ℕ) (listed : List RankRule) → AllByRecursion (λ (n : ℕ). n < count) (map rule_of listed)
     → AllByRecursion (λ (n : ℕ). n < count) (weak_ones listed)
 weak_below count [] h = tt
 weak_below count (Weak rule fall ∷ rest) h = (h.0, weak_below count rest h.1)

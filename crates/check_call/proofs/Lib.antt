@@ -3,8 +3,5 @@ pub mod Accepting
 pub mod FileBytes
 pub mod FillSaying
 pub mod OneAnswer
-pub mod Paths
 pub mod ProgramNumbers
-pub mod Rules
 pub mod Saying
-pub mod VerdictLaw

@@ -27,7 +27,7 @@ use Rattle.cert_check.specs.declared.refusal.Cause.{Cause}
 use Rattle.cert_check.specs.declared.refusal.Refusal.{Refusal}
 use Rattle.cert_check.specs.declared.refusal.Refusal.TheVariants as refusals
 use Rattle.cert_check.specs.Valid.{Case, IsValid, IsFirstFault}
-use Rattle.check_call.proofs.VerdictLaw.{verdicts_one}
+use Rattle.cert_verdict.proofs.VerdictLaw.{verdicts_one}
 use Rattle.cert_check.specs.Parts.{case_of}
 use Rattle.check_call.specs.declared.outcome.Outcome.{Outcome}
 use Rattle.check_call.specs.Answers.{IsCertText, IsCertFault, AnswersChecked, AnswersContent, AnswersCert}

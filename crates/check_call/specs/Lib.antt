@@ -3,7 +3,6 @@ pub mod Lines
 pub mod Answers
 pub mod Headline
 pub mod Laws
-pub mod OneVerdict
 pub mod FillTexts
 pub mod FillAnswers
 pub mod Said

@@ -12,7 +12,6 @@ mod fill;
 mod filled;
 mod laws;
 mod outcome;
-mod verdicts;
 mod writing;
 
 pub use call::check_line;
@@ -20,4 +19,3 @@ pub use certs::refuse_text;
 pub use fill::fill_line;
 pub use laws::{accepted_ends, answers_are_one};
 pub use outcome::Outcome;
-pub use verdicts::verdicts_are_one;

@@ -73,7 +73,7 @@ module _ (rules : GrowthRules) (root : AbstractState) (nodes : List GraphNode) (
   abbrev Count : ℕ
   Count = length nodes
 
-  above_low : (between u v : ℕ) → v < length nodes → IsAboveBy parent u between v → u < v
+  pub above_low : (between u v : ℕ) → v < length nodes → IsAboveBy parent u between v → u < v
   above_low zero u v l h =
       let low = d.tree.lower v h.0 l in
       subst (λ (n : ℕ). n < v) h.1 low
@@ -99,7 +99,7 @@ module _ (rules : GrowthRules) (root : AbstractState) (nodes : List GraphNode) (
   over_parent (suc between) u v h = inr (between, h.1)
 
   -- a node isn't before its parent
-  not_before : (n : ℕ) → 0 < n → n < length nodes → IsUnderLater nodes parent n (parent n) → ⊥
+  pub not_before : (n : ℕ) → 0 < n → n < length nodes → IsUnderLater nodes parent n (parent n) → ⊥
   not_before n positive within later =
       let first = d.tree.children later.at later.earlier later.first later.state later.named later.is later.is_first in
       let second = d.tree.children later.at later.later later.second later.state later.named later.is later.is_second in

@@ -66,7 +66,7 @@ both_ids size (x ∷ xs) ys =
     ap (λ (r : List (ℕ × ℤ)). cond (same x.size size) ((x.id, pos 1) ∷ []) [] ++ r) (both_ids size xs ys)
     ∙ sym (append_assoc (cond (same x.size size) ((x.id, pos 1) ∷ []) []) (ids_of size xs) (ids_of size ys))
 
-high_id : (low : ℕ) (cells : List (ℕ × Cell)) (id : ℕ) (cell : Cell) → AreIdsRising low cells → cell_in cells id ≡ Some cell → id < 2048
+pub high_id : (low : ℕ) (cells : List (ℕ × Cell)) (id : ℕ) (cell : Cell) → AreIdsRising low cells → cell_in cells id ≡ Some cell → id < 2048
 high_id low [] id cell rising e = absurd (none-some cell e)
 high_id low (c ∷ cells) id cell rising e = at (eqb c.0 id) refl e (λ k. high_id (suc c.0) cells id cell rising.1.1 k)
   where

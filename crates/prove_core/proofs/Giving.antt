@@ -1,28 +1,15 @@
 -- What is given, by what was found of its bytes.
-use Rattle.std.proofs.Common.{◌≡◌, ◌<◌, ◌≤◌, ℕ, List, length, Ok, ap}
+use Rattle.std.proofs.Common.{◌≡◌, ◌<◌, ◌≤◌, ℕ, List, length, ap}
 use Rattle.serde_json.specs.Written.{compact_text}
 use Rattle.abs_cells.specs.AbstractStates.{AbstractState}
 use Rattle.class_program.specs.Programs.{Program}
 use Rattle.frame_types.specs.Tables.{CodeTypes}
-use Rattle.cert_check.specs.Certified.{IsCertified}
-use Rattle.cert_check.specs.Valid.{IsValid}
-use Rattle.cert_form.specs.Certificates.{CertContent, cert_of, SaysOf}
-use Rattle.cert_check.specs.Parts.{case_of}
 use Rattle.cert_write.specs.Data.{certificate, content_of}
 use Rattle.descent.specs.declared.proof.ProofStep.{ProofStep}
-use Rattle.graph_fill.specs.ChildrenOfStates.{IsFilledGraph}
 use Rattle.term_graph.specs.Graphs.{GraphNode}
 use Rattle.prove_core.specs.Answers.{IsCertificate, SaysValid}
 use Rattle.prove_core.specs.Reasons.{Aim, IsTooLong}
 use Rattle.prove_core.specs.Words.{aim_of, IsProved}
-
-pub says : (p : Program) (typing : ℕ → CodeTypes) (root : AbstractState) (names : List (List ℕ)) (bytes : List ℕ)
-    (content : CertContent) (nodes : List GraphNode) → SaysOf (cert_of names) bytes (Ok content)
-    → IsFilledGraph p typing content.parts nodes
-    → IsValid (case_of p typing root nodes content.cuts content.proof) → IsCertified p typing nodes content.cuts root
-    → SaysValid (aim_of p typing root) names bytes
-says p typing root names bytes content nodes said filled valid certified = record
-    { content = content; says = said; nodes = nodes; filled = filled; valid = valid; certified = certified }
 
 pub is_certificate : (aim : Aim) (names : List (List ℕ)) (nodes : List GraphNode) (cuts : List ℕ) (steps : List ProofStep)
     (bytes : List ℕ) → bytes ≡ compact_text (certificate names (content_of nodes cuts steps)) → length bytes ≤ 16777216

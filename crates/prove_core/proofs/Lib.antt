@@ -7,6 +7,8 @@ mod Giving
 mod Good
 mod Grown
 mod Plain
+mod ReadableRules
+mod Reading
 mod Readying
 mod RuleRows
 mod ShortCases

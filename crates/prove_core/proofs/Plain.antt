@@ -31,7 +31,7 @@ use Rattle.prove_core.proofs.SizeKinds.{along_kind, kinds_along, kind_at, knows_
 
 -- ---- lists side by side
 
-zip_all : {A B : Type 0} (R : A → B → Type 0) (P Q : B → Type 0) (xs : List A) (ys : List B) → AllZip R xs ys → AllByRecursion P ys
+pub zip_all : {A B : Type 0} (R : A → B → Type 0) (P Q : B → Type 0) (xs : List A) (ys : List B) → AllZip R xs ys → AllByRecursion P ys
     → ((x : A) (y : B) → R x y → P y → Q y) → AllByRecursion Q ys
 zip_all R P Q [] [] zip all h = tt
 zip_all R P Q [] (y ∷ ys) zip all h = absurd zip

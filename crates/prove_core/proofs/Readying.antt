@@ -144,6 +144,7 @@ proved p typing root nodes links cuts rules steps h paths limits closed lean = r
   valid = valid p typing root nodes links cuts rules steps h paths closed;
   rules = rules;
   paths = paths;
+  closed = closed;
   limits = limits;
   lean = lean;
 }

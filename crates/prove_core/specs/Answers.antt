@@ -1,14 +1,10 @@
 -- What a search answers.
 use Rattle.std.specs.Prelude.{◌≡◌, ℕ, ◌≤◌, List, length, Result, Ok, Err}
 use Rattle.serde_json.specs.Written.{compact_text}
-use Rattle.cert_form.specs.Certificates.{CertContent, cert_of, SaysOf}
+use Rattle.cert_form.specs.Certificates.{CertContent}
 use Rattle.cert_form.specs.Limits.{most_certificate_bytes}
 use Rattle.cert_write.specs.Data.{certificate}
-use Rattle.cert_check.specs.Certified.{IsCertified}
-use Rattle.cert_check.specs.Valid.{IsValid}
-use Rattle.cert_check.specs.Parts.{case_of}
-use Rattle.graph_fill.specs.ChildrenOfStates.{IsFilledGraph}
-use Rattle.term_graph.specs.Graphs.{GraphNode}
+use Rattle.cert_verdict.specs.Verdicts as verdict
 use Rattle.prove_core.specs.declared.found.Found.{Found}
 use Rattle.prove_core.specs.declared.found.Found.TheVariants.{Certificate, Maybe}
 use Rattle.prove_core.specs.declared.found.Reason.{Reason}
@@ -22,13 +18,8 @@ pub record IsWritten (names : List (List ℕ)) (bytes : List ℕ) : Type 0 where
   pub is : bytes ≡ compact_text (certificate names content)
 
 -- the bytes say a certificate which, filled, is valid; so its graph, cuts and proof show that the program ends
-pub record SaysValid (aim : Aim) (names : List (List ℕ)) (bytes : List ℕ) : Type 0 where
-  pub content : CertContent
-  pub says : SaysOf (cert_of names) bytes (Ok content)
-  pub nodes : List GraphNode
-  pub filled : IsFilledGraph aim.program aim.typing content.parts nodes
-  pub valid : IsValid (case_of aim.program aim.typing aim.root nodes content.cuts content.proof)
-  pub certified : IsCertified aim.program aim.typing nodes content.cuts aim.root
+abbrev pub SaysValid : Aim → List (List ℕ) → List ℕ → Type 0
+SaysValid aim names bytes = verdict.SaysValid aim.program aim.typing aim.root names bytes
 
 -- a valid certificate of form 2, of at most 16 MiB
 pub record IsCertificate (aim : Aim) (names : List (List ℕ)) (bytes : List ℕ) : Type 0 where

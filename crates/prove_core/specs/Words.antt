@@ -1,6 +1,6 @@
 -- Words for the calls that grow graphs and give what is found.
 use Rattle.std.specs.Prelude.{◌≡◌, ℕ, suc, ◌==◌, ◌||◌, nat_lt, slice_set, length, true, Bool, if◌then◌else◌, List, [], ◌∷◌, map}
-use Rattle.std.specs.Prelude.{Result, Ok, Err}
+use Rattle.std.specs.Prelude.{Result, Ok, Err, None}
 use Rattle.abs_cells.specs.AbstractStates.{AbstractState}
 use Rattle.abs_expand.specs.declared.fault.ExpandFault.{ExpandFault}
 use Rattle.abs_expand.specs.declared.fault.ExpandFault.TheVariants as faults
@@ -20,6 +20,7 @@ use Rattle.graph_build.specs.Answers.{IsClosed}
 use Rattle.prove_core.specs.Growth.{growth_of}
 use Rattle.path_rules.specs.Answers.{Answers as PathAnswers}
 use Rattle.descent.specs.Conditions.{AreSteps}
+use Rattle.descent.specs.Steps.{proof_fault}
 use Rattle.descent.specs.declared.proof.ProofStep.{ProofStep}
 use Rattle.descent.specs.declared.rules.PathRule.{PathRule}
 use Rattle.term_graph.specs.declared.links.Link.{Link}
@@ -79,6 +80,7 @@ pub record IsProved (aim : Aim) (nodes : List GraphNode) (cuts : List ℕ) (step
   pub valid : IsValid (case_of aim.program aim.typing aim.root nodes cuts steps)
   pub rules : List PathRule
   pub paths : PathAnswers nodes links cuts (Ok rules)
+  pub closed : proof_fault rules steps ≡ None
   pub limits : AreSteps steps
   pub lean : AreLean rules steps
 

@@ -1,5 +1,6 @@
 //! The search for a certificate.
-ghost use Rattle.std.specs.Prelude.{◌≡◌, ◌≤◌, ℕ, length, Ok, IfOk, IsTrue};
+ghost use Rattle.std.specs.Prelude.{◌≡◌, ◌≤◌, ℕ, length, map, Ok, IfOk, IsTrue};
+ghost use Rattle.abs_cells.specs.Limits.{most_ids};
 ghost use Rattle.std.specs.List.{list_all};
 ghost use Rattle.class_base.specs.ClassNames.{is_class_name};
 ghost use Rattle.class_program.specs.Views.{program_of};
@@ -54,6 +55,8 @@ fn of_rules<P: Pairs>(
 ) -> Result<Found<P>, SearchFault>
     requires typing { IsTypingOf (program_of program.now) (typing_at typing.now) }
     requires names { IsTrue (list_all is_class_name names.now) }
+    requires own_names { names.now ≡ map (λ class. class.name) (program_of program.now).world }
+    requires root_ids { length root.now.cells ≤ most_ids }
     requires whole { IsWhole (aim_of (program_of program.now) (typing_at typing.now) root.now) graph links.now.nodes cuts }
     requires few { length graph ≤ most_nodes }
     requires paths { PathAnswers graph links.now.nodes cuts (Ok rules.now) }
@@ -86,6 +89,8 @@ fn of_links<P: Pairs>(
 ) -> Result<Found<P>, SearchFault>
     requires typing { IsTypingOf (program_of program.now) (typing_at typing.now) }
     requires names { IsTrue (list_all is_class_name names.now) }
+    requires own_names { names.now ≡ map (λ class. class.name) (program_of program.now).world }
+    requires root_ids { length root.now.cells ≤ most_ids }
     requires grown { IsGrownGraph (aim_of (program_of program.now) (typing_at typing.now) root.now) graph }
     requires few { length graph ≤ most_nodes }
     requires good { GraphOk (program_of program.now) (typing_at typing.now) graph root.now links.now.nodes }
@@ -146,6 +151,8 @@ fn of_graph<P: Pairs>(
 ) -> Result<Found<P>, SearchFault>
     requires first { CanGrow (program_of program.now) (typing_at typing.now) root.now }
     requires names { IsTrue (list_all is_class_name names.now) }
+    requires own_names { names.now ≡ map (λ class. class.name) (program_of program.now).world }
+    requires root_ids { length root.now.cells ≤ most_ids }
     requires grown { IsGrownGraph (aim_of (program_of program.now) (typing_at typing.now) root.now) graph }
     requires few { length graph ≤ most_nodes }
     ensures { (limit : ℕ) → length graph ≤ limit → SearchesOr (aim_of (program_of program.now) (typing_at typing.now) root.now)
@@ -159,7 +166,7 @@ fn of_graph<P: Pairs>(
 }
 
 /// The state that a program's own description begins with.
-#[tactic(auto, using(crate::proofs::Beginning::root_grows))]
+#[tactic(auto, using(crate::proofs::Beginning::root_grows, crate::proofs::Beginning::root_small))]
 fn root_of<P: Pairs>(
     alloc: Global,
     program: &Program<'_>,
@@ -169,6 +176,7 @@ fn root_of<P: Pairs>(
     requires typing { IsTypingOf (program_of program.now) (typing_at typing.now) }
     requires own { IsOwnDesc (program_of program.now) desc.now }
     ensures is { IfOk result (λ root. root ≡ initial_of (program_of program.now) desc.now) }
+    ensures ids { IfOk result (λ root. length root.cells ≤ most_ids) }
     ensures grows { IfOk result (λ root. CanGrow (program_of program.now) (typing_at typing.now) root) }
 {
     program.is_good();
@@ -189,6 +197,7 @@ fn of_closed<P: Pairs>(
     requires typing { IsTypingOf (program_of program.now) (typing_at typing.now) }
     requires own { IsOwnDesc (program_of program.now) desc.now }
     requires names { IsTrue (list_all is_class_name names.now) }
+    requires own_names { names.now ≡ map (λ class. class.name) (program_of program.now).world }
     requires grown { IsGrownGraph
         (aim_of (program_of program.now) (typing_at typing.now) (initial_of (program_of program.now) desc.now)) graph }
     requires few { length graph ≤ most_nodes }
@@ -222,7 +231,8 @@ fn grown<P: Pairs>(
 }
 
 /// A certificate that every run of a program ends which begins with a state that its description fits; or why none is given. The graph is
-/// grown up to a limit of nodes, from 1 to 20,000. The names are those of the world's classes, in the order of their numbers.
+/// grown up to a limit of nodes, from 1 to 20,000. The names are those of the world's classes, in the order of their numbers: with them
+/// what is found is read again.
 ///
 /// # Errors
 ///
@@ -239,6 +249,7 @@ pub fn search<P: Pairs>(
     requires typing { IsTypingOf (program_of program.now) (typing_at typing.now) }
     requires own { IsOwnDesc (program_of program.now) desc.now }
     requires names { IsTrue (list_all is_class_name names.now) }
+    requires own_names { names.now ≡ map (λ class. class.name) (program_of program.now).world }
     requires positive { 1 ≤ limit }
     requires small { limit ≤ most_nodes }
     ensures { SearchesOr (aim_of (program_of program.now) (typing_at typing.now) (initial_of (program_of program.now) desc.now))

@@ -1,0 +1,11 @@
+pub mod Multipliers
+pub mod Forms
+pub mod Sets
+pub mod Steps
+pub mod IdCounts
+pub mod ChildCounts
+pub mod NodeCounts
+pub mod States
+pub mod Names
+pub mod Parts
+pub mod Storing

@@ -1,0 +1,4 @@
+pub mod ReadableRules
+pub mod Stored
+pub mod Laws
+pub mod GraphLaws

@@ -1,0 +1,5 @@
+pub mod Judging
+pub mod OneText
+pub mod Paths
+pub mod Rules
+pub mod VerdictLaw

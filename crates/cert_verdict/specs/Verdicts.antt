@@ -1,0 +1,46 @@
+-- The verdict on the bytes of a certificate.
+use Rattle.std.specs.Prelude.{ℕ, List, Result, Ok, Err}
+use Rattle.abs_cells.specs.AbstractStates.{AbstractState}
+use Rattle.class_program.specs.Programs.{Program}
+use Rattle.frame_types.specs.Tables.{CodeTypes}
+use Rattle.term_graph.specs.Graphs.{GraphNode}
+use Rattle.graph_fill.specs.ChildrenOfStates.{IsFilledGraph}
+use Rattle.cert_form.specs.declared.fault.CertFault.{CertFault}
+use Rattle.cert_form.specs.declared.fault.CertFault.TheVariants as certs
+use Rattle.cert_form.specs.Certificates.{CertContent, cert_of, SaysOf, AnswersText}
+use Rattle.cert_check.specs.declared.refusal.Cause.{Cause}
+use Rattle.cert_check.specs.Certified.{IsCertified}
+use Rattle.cert_check.specs.Valid.{IsValid, IsFirstFault}
+use Rattle.cert_check.specs.Parts.{case_of}
+use Rattle.cert_verdict.specs.declared.verdict.CertVerdict.{CertVerdict}
+use Rattle.cert_verdict.specs.declared.verdict.CertVerdict.TheVariants.{Accepted, Refused, NoText}
+
+-- the bytes say a certificate which, filled, is valid; so its graph, cuts and proof show that the program ends
+pub record SaysValid (p : Program) (typing : ℕ → CodeTypes) (root : AbstractState) (names : List (List ℕ)) (bytes : List ℕ) : Type 0 where
+  pub content : CertContent
+  pub says : SaysOf (cert_of names) bytes (Ok content)
+  pub nodes : List GraphNode
+  pub filled : IsFilledGraph p typing content.parts nodes
+  pub valid : IsValid (case_of p typing root nodes content.cuts content.proof)
+  pub certified : IsCertified p typing nodes content.cuts root
+
+-- they say one of which, filled, this item fails first, for this cause
+pub record SaysFaulty (p : Program) (typing : ℕ → CodeTypes) (root : AbstractState) (names : List (List ℕ)) (bytes : List ℕ)
+    (item : ℕ) (cause : Cause) : Type 0 where
+  pub content : CertContent
+  pub says : SaysOf (cert_of names) bytes (Ok content)
+  pub nodes : List GraphNode
+  pub filled : IsFilledGraph p typing content.parts nodes
+  pub fails : IsFirstFault (case_of p typing root nodes content.cuts content.proof) item cause
+
+-- they say none, for this fault
+abbrev pub SaysNone : List (List ℕ) → List ℕ → CertFault → Type 0
+SaysNone names bytes certs.Memory = ⊥
+SaysNone names bytes fault = AnswersText (cert_of names) bytes (Err fault)
+
+-- the verdict. Want of memory says nothing
+abbrev pub Judges : {E : Type 0} → Program → (ℕ → CodeTypes) → AbstractState → List (List ℕ) → List ℕ → Result CertVerdict E → Type 0
+Judges p typing root names bytes (Ok Accepted) = SaysValid p typing root names bytes
+Judges p typing root names bytes (Ok (Refused item cause)) = SaysFaulty p typing root names bytes item cause
+Judges p typing root names bytes (Ok (NoText fault)) = SaysNone names bytes fault
+Judges p typing root names bytes (Err error) = Unit {0}
