@@ -4,8 +4,9 @@ ghost use Rattle.std.specs.Prelude.{◌≤◌, IfOk};
 ghost use Rattle.term_graph.specs.Limits.{most_nodes};
 
 use anyhow::{Context, Result, bail};
+use command_rows::DEFAULT_NODES;
 use line_cases::{files_from, refused_line};
-use prove_call::{DEFAULT_NODES, prove_line};
+use prove_call::prove_line;
 use std::alloc::Global;
 use table_cases::{Case, ascii, natural, said};
 use term_graph::MOST_NODES;
@@ -29,7 +30,7 @@ fn limit(field: &str) -> Result<u32>
     ensures small { IfOk result (λ nodes. nodes ≤ most_nodes) }
 {
     if field.is_empty() {
-        return Ok(DEFAULT_NODES);
+        return Ok(DEFAULT_NODES as u32);
     }
     let nodes = natural(field)?;
     if nodes < 1 || nodes > GREATEST_NODES {

@@ -1,24 +1,23 @@
 -- From what a command says of the bytes of its files to the answer.
 use Rattle.std.proofs.Common.{◌≡◌, ◌≤◌, ◌-◌, ℕ, List, [], ◌∷◌, length, Result, Ok, Err, IfOk, map, drop, take, get_or, refl, sym}
 use Rattle.std.proofs.Common.{subst, ap, ◌∙◌, arith}
+use Rattle.std.proofs.lemmas.List.{length-map}
 use Rattle.list_views.proofs.Items.{take_length}
 use Rattle.input_steps.specs.declared.refused.Refused.{Refused}
 use Rattle.prove_call.specs.Answers as prove
 use Rattle.prove_call.specs.declared.answer.Answer.{Answer}
 use Rattle.prove_call.specs.Headline.{AllEndIfYes}
-use Rattle.prove_call.specs.Lines.{yes_line}
-use Rattle.desc_steps.specs.Headline.{AllEnd}
 use Rattle.its_call.specs.Answers.{IsEnding}
 use Rattle.its_call.specs.Lines as its
 use Rattle.run_call.specs.Answers as run
 use Rattle.check_call.specs.declared.outcome.Outcome.{Outcome}
 use Rattle.check_call.specs.Answers as check
 use Rattle.check_call.specs.Headline.{AllEndIfAccepted}
-use Rattle.check_call.specs.Lines.{accepted_line}
-use Rattle.jterm.specs.declared.verdict.Request.{Request}
-use Rattle.jterm.specs.declared.verdict.Request.TheVariants.{Prove, Check, Run, Asm, Its}
+use Rattle.command_rows.specs.declared.table.Request.{Request}
+use Rattle.command_rows.specs.declared.table.Request.TheVariants.{Prove, Check, Run, Asm, Generate, Its}
+use Rattle.command_rows.specs.Rows.{Takes, least_files, row_at}
 use Rattle.jterm.specs.declared.verdict.Verdict.{Verdict}
-use Rattle.jterm.specs.Decision.{Takes, Says, Ruled, Proved, done_of, DoneWith, verdict_of, IsAnswer}
+use Rattle.jterm.specs.Decision.{Says, Ruled, Proved, done_of, DoneWith, verdict_of, IsAnswer, HoldsClaim}
 use Rattle.jterm.proofs.Proving.{verdict_of_prove, proved_true}
 use Rattle.jterm.proofs.Checking.{judged_with, accepted_true}
 
@@ -36,18 +35,47 @@ pub proved_with : (P : Result Answer Refused → Type 0) (answer : Result Answer
 proved_with P (Ok answer) result e h = subst (Proved P) (sym e) (refl, h)
 proved_with P (Err refused) result e h = subst (Proved P) (sym e) h
 
+-- ---- claims
+
+-- what is claimed for a request and contents, for those that are the same
+pub claimed : (request own : Request) (given contents : List (List ℕ)) (result : Result Verdict Refused) → request ≡ own
+    → given ≡ contents → IfOk result (λ verdict. HoldsClaim own contents verdict) → IfOk result (λ verdict. HoldsClaim request given verdict)
+claimed request own given contents result asked e h =
+    subst (λ (r : Request). IfOk result (λ verdict. HoldsClaim r given verdict)) (sym asked)
+    (subst (λ (fs : List (List ℕ)). IfOk result (λ verdict. HoldsClaim own fs verdict)) (sym e) h)
+
+-- where nothing is claimed
+pub run_claim : (request : Request) (fuel : ℕ) (given : List (List ℕ)) (result : Result Verdict Refused) → request ≡ Run fuel
+    → IfOk result (λ verdict. HoldsClaim request given verdict)
+run_claim request fuel given (Ok verdict) asked = subst (λ (r : Request). HoldsClaim r given verdict) (sym asked) tt
+run_claim request fuel given (Err refused) asked = tt
+
+pub asm_claim : (request : Request) (given : List (List ℕ)) (result : Result Verdict Refused) → request ≡ Asm
+    → IfOk result (λ verdict. HoldsClaim request given verdict)
+asm_claim request given (Ok verdict) asked = subst (λ (r : Request). HoldsClaim r given verdict) (sym asked) tt
+asm_claim request given (Err refused) asked = tt
+
 -- ---- inputs
 
--- there is an input
-pub some_inputs : (request : Request) (given : List (List ℕ)) → Takes request given → 1 ≤ length given
-some_inputs (Prove nodes) given t = let some = t.2 in omega (arith, some)
-some_inputs Check given t = let some = t.0 in omega (arith, some)
-some_inputs (Run fuel) given t = let some = t.1 in omega (arith, some)
-some_inputs Asm given t = omega (arith, t)
-some_inputs Its given t = omega (arith, t)
+-- as many inputs as the row of the request has files
+pub least_inputs : {A : Type 0} (f : A → List ℕ) (inputs : List A) (request asked : Request) → request ≡ asked
+    → Takes request (length inputs) → least_files (row_at asked) ≤ length (map f inputs)
+least_inputs f inputs request asked is t =
+    let here : Takes asked (length inputs) = subst (λ (r : Request). Takes r (length inputs)) is t in
+    let some = here.1 in
+    let same = length-map inputs f in
+    omega (arith, some, same)
+
+-- none where it has none
+pub no_inputs : {A : Type 0} (f : A → List ℕ) (inputs : List A) (request : Request) (n : ℕ) → request ≡ Generate n
+    → Takes request (length inputs) → map f inputs ≡ []
+no_inputs f [] request n is t = refl
+no_inputs {A} f (x ∷ inputs) request n is t =
+    let here : Takes (Generate n) (length (x ∷ inputs)) = subst (λ (r : Request). Takes r (length (x ∷ inputs))) is t in
+    absurd (let few = here.2 in omega (arith, few))
 
 -- the first input and the others, as they are handed on
-pub inputs_are : {A : Type 0} (f : A → List ℕ) (inputs : List A) (one : A) (first : List ℕ) → 1 ≤ length (map f inputs)
+pub inputs_are : {A : Type 0} (f : A → List ℕ) (inputs : List A) (one : A) (first : List ℕ) → 2 ≤ length (map f inputs)
     → one ≡ get_or inputs 0 one → first ≡ f one
     → map f inputs ≡ first ∷ map f (take (length inputs - 1) (drop 1 inputs))
 inputs_are f [] one first some at is = absurd (omega arith)
@@ -71,10 +99,6 @@ inputs_are_two {A} f (x ∷ y ∷ xs) one two first second some at is at_two is_
     ap (λ (w : List ℕ). w ∷ f y ∷ map f xs) here
     ∙ (ap (λ (w : List ℕ). first ∷ w ∷ map f xs) there ∙ ap (λ (ys : List A). first ∷ second ∷ map f ys) others)
 
-pub three_inputs : {A : Type 0} (f : A → List ℕ) (inputs : List A) (request : Request) → request ≡ Check
-    → Takes request (map f inputs) → 3 ≤ length (map f inputs)
-three_inputs f inputs request asked t = (subst (λ (r : Request). Takes r (map f inputs)) asked t).0
-
 pub prove_answer : (request : Request) (nodes : ℕ) (given : List (List ℕ)) (desc : List ℕ) (files : List (List ℕ))
     (answer : Result Answer Refused) (result : Result Verdict Refused)
     → request ≡ Prove nodes → given ≡ desc ∷ files → result ≡ verdict_of_prove answer → prove.Answers nodes desc files answer
@@ -92,19 +116,12 @@ run_answer request fuel given state files out result asked e d a =
     (done_with (run.Answers fuel state files) out result d a) in
     subst (λ (r : Request). IsAnswer r given result) (sym asked) here
 
--- what YES says of a description and classes
-pub proved_at : (given : List (List ℕ)) (first : List ℕ) (others : List (List ℕ)) (nodes : ℕ) (desc : List ℕ)
-    (classes : List (List ℕ)) (answer : Result Answer Refused) (result : Result Verdict Refused)
-    → given ≡ first ∷ others → given ≡ desc ∷ classes → result ≡ verdict_of_prove answer → prove.Answers nodes first others answer
-    → AllEndIfYes others first answer
-    → IfOk result (λ verdict. Says yes_line verdict → AllEnd classes desc)
-proved_at given first others nodes desc classes answer result e f d a ends =
-    let same : (first ∷ others) ≡ (desc ∷ classes) = sym e ∙ f in
-    let one : first ≡ desc = cc in
-    let rest : others ≡ classes = cc in
-    let here = proved_true nodes first others answer result d a ends in
-    subst (λ (xs : List (List ℕ)). IfOk result (λ verdict. Says yes_line verdict → AllEnd xs desc)) rest
-    (subst (λ (x : List ℕ). IfOk result (λ verdict. Says yes_line verdict → AllEnd others x)) one here)
+pub prove_claim : (request : Request) (nodes : ℕ) (given : List (List ℕ)) (desc : List ℕ) (files : List (List ℕ))
+    (answer : Result Answer Refused) (result : Result Verdict Refused)
+    → request ≡ Prove nodes → given ≡ desc ∷ files → result ≡ verdict_of_prove answer → prove.Answers nodes desc files answer
+    → AllEndIfYes files desc answer → IfOk result (λ verdict. HoldsClaim request given verdict)
+prove_claim request nodes given desc files answer result asked e d a ends =
+    claimed request (Prove nodes) given (desc ∷ files) result asked e (proved_true nodes desc files answer result d a ends)
 
 pub check_answer : (request : Request) (given : List (List ℕ)) (cert desc : List ℕ) (files : List (List ℕ))
     (out : Result Outcome Refused) (result : Result Verdict Refused)
@@ -115,28 +132,23 @@ check_answer request given cert desc files out result asked e d a =
     (judged_with (check.Answers cert desc files) out result d a) in
     subst (λ (r : Request). IsAnswer r given result) (sym asked) here
 
--- what ACCEPTED says of a description and classes
-pub accepted_at : (given : List (List ℕ)) (first second : List ℕ) (others : List (List ℕ)) (cert desc : List ℕ)
-    (classes : List (List ℕ)) (out : Result Outcome Refused) (result : Result Verdict Refused)
-    → given ≡ first ∷ second ∷ others → given ≡ cert ∷ desc ∷ classes → result ≡ verdict_of out
-    → check.Answers first second others out → AllEndIfAccepted others second out
-    → IfOk result (λ verdict. Says accepted_line verdict → AllEnd classes desc)
-accepted_at given first second others cert desc classes out result e f d a ends =
-    let same : (first ∷ second ∷ others) ≡ (cert ∷ desc ∷ classes) = sym e ∙ f in
-    let two : second ≡ desc = cc in
-    let rest : others ≡ classes = cc in
-    let here = accepted_true first second others out result d a ends in
-    subst (λ (xs : List (List ℕ)). IfOk result (λ verdict. Says accepted_line verdict → AllEnd xs desc)) rest
-    (subst (λ (x : List ℕ). IfOk result (λ verdict. Says accepted_line verdict → AllEnd others x)) two here)
+pub check_claim : (request : Request) (given : List (List ℕ)) (cert desc : List ℕ) (files : List (List ℕ))
+    (out : Result Outcome Refused) (result : Result Verdict Refused)
+    → request ≡ Check → given ≡ cert ∷ desc ∷ files → result ≡ verdict_of out → check.Answers cert desc files out
+    → AllEndIfAccepted files desc out → IfOk result (λ verdict. HoldsClaim request given verdict)
+check_claim request given cert desc files out result asked e d a ends =
+    claimed request Check given (cert ∷ desc ∷ files) result asked e (accepted_true cert desc files out result d a ends)
 
 -- ---- rules
 
 -- a single input is all of them
 pub one_input : {A : Type 0} (f : A → List ℕ) (inputs : List A) (request : Request) (one : A) (first : List ℕ) → request ≡ Its
-    → Takes request (map f inputs) → one ≡ get_or inputs 0 one → first ≡ f one → map f inputs ≡ first ∷ []
-one_input {A} f inputs request one first asked t at is = by inputs (subst (λ (r : Request). Takes r (map f inputs)) asked t) at
+    → Takes request (length inputs) → one ≡ get_or inputs 0 one → first ≡ f one → map f inputs ≡ first ∷ []
+one_input {A} f inputs request one first asked t at is =
+    let here : Takes Its (length inputs) = subst (λ (r : Request). Takes r (length inputs)) asked t in
+    by inputs (let some = here.1 in let few = here.2 in omega (arith, some, few)) at
   where
-    by : (xs : List A) → length (map f xs) ≡ 1 → one ≡ get_or xs 0 one → map f xs ≡ first ∷ []
+    by : (xs : List A) → length xs ≡ 1 → one ≡ get_or xs 0 one → map f xs ≡ first ∷ []
     by [] e at = absurd (omega (arith, e))
     by (x ∷ []) e at = ap (λ (w : List ℕ). w ∷ []) (sym (is ∙ ap f at))
     by (x ∷ y ∷ xs) e at = absurd (omega (arith, e))
@@ -147,10 +159,7 @@ its_answer request given text result asked e a =
     let here : IsAnswer Its given result = subst (λ (fs : List (List ℕ)). IsAnswer Its fs result) (sym e) a in
     subst (λ (r : Request). IsAnswer r given result) (sym asked) here
 
-pub ended_at : (given : List (List ℕ)) (first text : List ℕ) (result : Result Verdict Refused) → given ≡ first ∷ []
-    → given ≡ text ∷ [] → IfOk result (λ verdict. Says its.yes_line verdict → IsEnding first)
-    → IfOk result (λ verdict. Says its.yes_line verdict → IsEnding text)
-ended_at given first text result e f h =
-    let same : (first ∷ []) ≡ (text ∷ []) = sym e ∙ f in
-    let one : first ≡ text = cc in
-    subst (λ (x : List ℕ). IfOk result (λ verdict. Says its.yes_line verdict → IsEnding x)) one h
+pub its_claim : (request : Request) (given : List (List ℕ)) (text : List ℕ) (result : Result Verdict Refused) → request ≡ Its
+    → given ≡ text ∷ [] → IfOk result (λ verdict. Says its.yes_line verdict → IsEnding text)
+    → IfOk result (λ verdict. HoldsClaim request given verdict)
+its_claim request given text result asked e h = claimed request Its given (text ∷ []) result asked e h

@@ -12,35 +12,41 @@ use Rattle.io_ports.specs.declared.files.FileFault.{FileFault}
 use Rattle.io_ports.specs.declared.files.FileFault.TheVariants.{Failed, TooLong, Missing, Memory}
 use Rattle.jterm.specs.declared.inputs.Failure.{Failure}
 use Rattle.jterm.specs.declared.inputs.Failure.TheVariants.{Unread, Broken, NoMemory}
-use Rattle.jterm.specs.declared.verdict.Request.{Request}
-use Rattle.jterm.specs.declared.verdict.Request.TheVariants.{Prove, Check, Run, Asm, Its}
+use Rattle.command_rows.specs.declared.table.Request.{Request}
+use Rattle.command_rows.specs.declared.table.Request.TheVariants.{Prove, Check, Run, Asm, Generate, Its}
 use Rattle.jterm.specs.declared.verdict.Verdict.{Verdict}
 use Rattle.input_steps.specs.declared.refused.Place.{Place}
 use Rattle.input_steps.specs.declared.refused.Fault.{Fault}
 use Rattle.input_steps.specs.declared.refused.Refused.{Refused}
 use Rattle.input_steps.specs.declared.refused.Refused.TheVariants as answers
 use Rattle.input_steps.specs.declared.refused.Refused.TheVariants.{At}
-use Rattle.jterm.specs.Words.{IsProve, IsCheck, IsIts, IsCommand}
+use Rattle.command_rows.specs.Words.{IsCommand}
+use Rattle.jterm.specs.Words.{IsProve, IsCheck, IsIts}
 use Rattle.input_steps.specs.Lines.{refusal_line}
 use Rattle.jterm.specs.Lines.{memory_line, read_line}
 use Rattle.abs_cells.specs.declared.packed.PackedPairs.{PackedPairs}
 use Rattle.prove_core.specs.declared.found.Reason.{Reason}
 use Rattle.prove_call.specs.Lines.{yes_line, yes_text}
 use Rattle.check_call.specs.Lines.{accepted_line, refused_line}
-use Rattle.jterm.specs.Decision.{Says, not_proved_for, left_for, accepted, refused_at, IsAnswer, IsUnrefused}
-use Rattle.jterm.specs.Laws.{AreAlike, HasReason}
+use Rattle.jterm.specs.Decision.{Says, not_proved_for, left_for, accepted, refused_at, IsAnswer, HoldsClaim, HasReason, IsUnproved}
+use Rattle.jterm.specs.Decision.{IsUnrefused}
+use Rattle.jterm.specs.Laws.{AreAlike}
 use Rattle.desc_steps.specs.Headline.{AllEnd}
+use Rattle.generate_text.specs.Descriptions.{description}
+use Rattle.generate_call.specs.Answers.{IsClass}
+use Rattle.generate_call.specs.Lines.{yes_begin}
 use Rattle.its_call.specs.Answers.{IsEnding}
 use Rattle.its_call.specs.Lines as its
 use Rattle.its_search.specs.declared.searching.ItsFound.{ItsFound}
-use Rattle.jterm.specs.Outside.{AreTold, AreContents, AreWithin, AreHanded, IsUnread, ReadFails, Decided, Claims, IsWritten}
+use Rattle.jterm.specs.Outside.{AreTold, AreContents, AreWithin, AreHanded, IsUnread, ReadFails, Decided, Begins, Claims, IsWritten}
 use Rattle.jterm.specs.Outside.{file_limits, behind}
 use Rattle.jterm.specs.Failure.{IsAnswered, HasCause, HasLine, status_of, line_of}
 use Rattle.jterm.proofs.OneAnswer.{answers_one}
 use Rattle.jterm.proofs.Checking.{judged_refused, judged_not_one}
+use Rattle.jterm.proofs.Making.{made_reason}
 use Rattle.jterm.proofs.Ruling.{ruled_low, ruled_left, ruled_reason}
 use Rattle.jterm.proofs.Proving.{proved_low, unproved, reason_kept, certifies}
-use Rattle.jterm.proofs.WordsLemmas.{commands_one}
+use Rattle.command_rows.proofs.OneCommand.{commands_one}
 
 -- nothing is claimed where nothing is put
 pub unclaimed : {S : Type 0} (line : List ℕ) (taken : S → Option (List ℕ)) (sink : S) (status : ℕ) → 1 ≤ length line
@@ -50,6 +56,11 @@ unclaimed line taken sink status some more claims = elim claims [
   | inr put ↦ let e : put.0 ≡ put.0 ++ line ++ put.1 = cc in
       omega (arith, some, ap length e, length-append (put.0 ++ line) put.1, length-append put.0 line)
 ]
+
+pub unbegun : {S : Type 0} (line : List ℕ) (taken : S → Option (List ℕ)) (sink : S) → 1 ≤ length line → Begins line taken sink sink → ⊥
+unbegun line taken sink some put =
+    let e : put.0 ≡ put.0 ++ line ++ put.1 = cc in
+    omega (arith, some, ap length e, length-append (put.0 ++ line) put.1, length-append put.0 line)
 
 -- what `report` says of a failure
 abbrev pub Reports : (List ℕ → Type 0) → Failure → ℕ → Type 0
@@ -167,13 +178,14 @@ told_answer words held r s m n contents told result here there are tells answer 
     let same : contents ≡ told = told_same words held r s m n contents told here there are tells in
     subst (λ (q : Request). IsAnswer q told result) one.0 (subst (λ (fs : List (List ℕ)). IsAnswer r fs result) same answer)
 
--- the words of a `prove` and of a `check` are a command
-pub prove_is_command : (words : List (List ℕ)) (d : List ℕ) (cs : List (List ℕ)) (prove : IsProve words d cs)
-    → IsCommand words (Prove prove.nodes) (d ∷ cs)
-prove_is_command words d cs prove = inl (record { desc = d; classes = cs; is_prove = prove; asked = refl; named = refl })
-
-check_is_command : (words : List (List ℕ)) (c d : List ℕ) (cs : List (List ℕ)) → IsCheck words c d cs → IsCommand words Check (c ∷ d ∷ cs)
-check_is_command words c d cs check = inr (inl (record { cert = c; desc = d; classes = cs; is_check = check; asked = refl; named = refl }))
+-- and what is claimed for it is claimed for that
+told_claim : (words : List (List ℕ)) (held : List ℕ → Told) (r s : Request) (m n contents told : List (List ℕ)) (verdict : Verdict)
+    → IsCommand words r m → IsCommand words s n → AreContents (file_limits r) held m contents → AreTold held n told
+    → HoldsClaim r contents verdict → HoldsClaim s told verdict
+told_claim words held r s m n contents told verdict here there are tells claim =
+    let one = commands_one words r s m n here there in
+    let same : contents ≡ told = told_same words held r s m n contents told here there are tells in
+    subst (λ (q : Request). HoldsClaim q told verdict) one.0 (subst (λ (fs : List (List ℕ)). HoldsClaim r fs verdict) same claim)
 
 -- what was put began with a line: so does what was to be put
 begins : (old new : Option (List ℕ)) (before line rest out : List ℕ) (count : ℕ) → Appends old new (take count out)
@@ -191,17 +203,23 @@ begins (Some old) (Some new) before line rest out count put was is =
           ∙ append_assoc line rest (drop count out),
     )
 
+-- what a written output begins with, that of its verdict does
+begun_says : {S : Type 0} (line : List ℕ) (faults : S → ℕ) (taken : S → Option (List ℕ)) (old new : S) (verdict : Verdict)
+    (status : ℕ) → IsWritten faults taken old new verdict status → Begins line taken old new
+    → (rest : List ℕ) × (verdict.out ≡ line ++ rest)
+begun_says line faults taken old new verdict status (inl put) c =
+    begins (taken old) (taken new) c.0 line c.1 verdict.out (length verdict.out)
+    (subst (λ (l : List ℕ). Appends (taken old) (taken new) l) (sym (take_all (length verdict.out) verdict.out (omega arith)))
+    put.1) c.2 c.3
+begun_says line faults taken old new verdict status (inr failed) c = begins (taken old) (taken new) c.0 line c.1 verdict.out
+    failed.2.0 failed.2.2 c.2 c.3
+
 -- what is claimed of a verdict that was written, it says
 pub claimed_says : {S : Type 0} (line : List ℕ) (faults : S → ℕ) (taken : S → Option (List ℕ)) (old new : S) (verdict : Verdict)
     (status : ℕ) → IsWritten faults taken old new verdict status → Claims line taken old new status → Says line verdict
 claimed_says line faults taken old new verdict status (inl put) (inl none) = inl (sym put.0 ∙ none)
 claimed_says line faults taken old new verdict status (inr failed) (inl none) = absurd (omega (arith, failed.0, none))
-claimed_says line faults taken old new verdict status (inl put) (inr c) =
-    inr (begins (taken old) (taken new) c.0 line c.1 verdict.out (length verdict.out)
-    (subst (λ (l : List ℕ). Appends (taken old) (taken new) l) (sym (take_all (length verdict.out) verdict.out (omega arith)))
-    put.1) c.2 c.3)
-claimed_says line faults taken old new verdict status (inr failed) (inr c) =
-    inr (begins (taken old) (taken new) c.0 line c.1 verdict.out failed.2.0 failed.2.2 c.2 c.3)
+claimed_says line faults taken old new verdict status written (inr c) = inr (begun_says line faults taken old new verdict status written c)
 
 -- what YES says of the contents of a `prove`
 pub headline : {S : Type 0} (faults : S → ℕ) (taken : S → Option (List ℕ)) (old new : S) (words : List (List ℕ)) (request : Request)
@@ -211,11 +229,9 @@ pub headline : {S : Type 0} (faults : S → ℕ) (taken : S → Option (List ℕ
     → IsWritten faults taken old new verdict status → IsProve words d cs → AreTold held (d ∷ cs) (desc ∷ classes)
     → Claims yes_line taken old new status → AllEnd classes desc
 headline faults taken old new words request names held verdict status d cs desc classes command answered written prove tells claims =
-    let there = prove_is_command words d cs prove in
-    let one = commands_one words request (Prove prove.nodes) names (d ∷ cs) command there in
-    let same = told_same words held request (Prove prove.nodes) names (d ∷ cs) answered.contents (desc ∷ classes) command there
-    answered.read tells in
-    answered.true_proof prove.nodes desc classes one.0 same (claimed_says yes_line faults taken old new verdict status written claims)
+    let claim : HoldsClaim (Prove prove.0) (desc ∷ classes) verdict = told_claim words held request (Prove prove.0) names (d ∷ cs)
+    answered.contents (desc ∷ classes) verdict command prove.1 answered.read tells answered.claim in
+    claim (claimed_says yes_line faults taken old new verdict status written claims)
 
 -- and what stands behind it
 pub certificate : {S : Type 0} (faults : S → ℕ) (taken : S → Option (List ℕ)) (old new : S) (words : List (List ℕ))
@@ -226,11 +242,11 @@ pub certificate : {S : Type 0} (faults : S → ℕ) (taken : S → Option (List 
     → status ≡ 0 → (cert : List ℕ) × (length cert ≤ 16777216) × IsAnswer Check (cert ∷ desc ∷ classes) (Ok accepted)
     × Appends (taken old) (taken new) (yes_text cert)
 certificate faults taken old new words request names held verdict status d cs desc classes command answered (inl put) prove tells none =
-    let there = prove_is_command words d cs prove in
-    let answer : IsAnswer (Prove prove.nodes) (desc ∷ classes) (Ok verdict) =
-    told_answer words held request (Prove prove.nodes) names (d ∷ cs) answered.contents (desc ∷ classes) (Ok verdict) command there
+    let there = prove.1 in
+    let answer : IsAnswer (Prove prove.0) (desc ∷ classes) (Ok verdict) =
+    told_answer words held request (Prove prove.0) names (d ∷ cs) answered.contents (desc ∷ classes) (Ok verdict) command there
     answered.read tells answered.answer in
-    let is = certifies prove.nodes desc classes verdict answer (sym put.0 ∙ none) in
+    let is = certifies prove.0 desc classes verdict answer (sym put.0 ∙ none) in
     (is.cert, is.short, (refl, refl, is.accepted), subst (λ (out : List ℕ). Appends (taken old) (taken new) out) is.out_is put.1)
 certificate faults taken old new words request names held verdict status d cs desc classes command answered (inr failed) prove tells
     none = absurd (omega (arith, failed.0, none))
@@ -244,14 +260,20 @@ pub headline_of_check : {S : Type 0} (faults : S → ℕ) (taken : S → Option 
     → Claims accepted_line taken old new status → AllEnd classes desc
 headline_of_check faults taken old new words request names held verdict status c d cs cert desc classes command answered written
     check tells claims =
-    let there = check_is_command words c d cs check in
-    let one = commands_one words request Check names (c ∷ d ∷ cs) command there in
-    let same = told_same words held request Check names (c ∷ d ∷ cs) answered.contents (cert ∷ desc ∷ classes) command there
-    answered.read tells in
-    answered.true_check cert desc classes one.0 same (claimed_says accepted_line faults taken old new verdict status written claims)
+    let claim : HoldsClaim Check (cert ∷ desc ∷ classes) verdict = told_claim words held request Check names (c ∷ d ∷ cs)
+    answered.contents (cert ∷ desc ∷ classes) verdict command check answered.read tells answered.claim in
+    claim (claimed_says accepted_line faults taken old new verdict status written claims)
 
-its_is_command : (words : List (List ℕ)) (r : List ℕ) → IsIts words r → IsCommand words Its (r ∷ [])
-its_is_command words r is = inr (inr (inr (inr (record { rules = r; is_its = is; asked = refl; named = refl }))))
+-- what YES says of a class that was made
+pub headline_of_generate : {S : Type 0} (faults : S → ℕ) (taken : S → Option (List ℕ)) (old new : S) (words : List (List ℕ))
+    (request : Request) (names : List (List ℕ)) (held : List ℕ → Told) (verdict : Verdict) (status n : ℕ) (class : List ℕ)
+    → IsCommand words request names → IsAnswered (file_limits request) request names held verdict
+    → IsWritten faults taken old new verdict status → IsCommand words (Generate n) [] → IsClass n class
+    → Begins (yes_begin n) taken old new → AllEnd (class ∷ []) description
+headline_of_generate faults taken old new words request names held verdict status n class command answered written generate is put =
+    let claim : HoldsClaim (Generate n) [] verdict = told_claim words held request (Generate n) names [] answered.contents [] verdict
+    command generate answered.read refl answered.claim in
+    claim class is (begun_says (yes_begin n) faults taken old new verdict status written put)
 
 -- what YES says of a text of rules
 pub headline_of_its : {S : Type 0} (faults : S → ℕ) (taken : S → Option (List ℕ)) (old new : S) (words : List (List ℕ))
@@ -260,10 +282,9 @@ pub headline_of_its : {S : Type 0} (faults : S → ℕ) (taken : S → Option (L
     → IsWritten faults taken old new verdict status → IsIts words r → AreTold held (r ∷ []) (text ∷ [])
     → Claims its.yes_line taken old new status → IsEnding text
 headline_of_its faults taken old new words request names held verdict status r text command answered written is tells claims =
-    let there = its_is_command words r is in
-    let one = commands_one words request Its names (r ∷ []) command there in
-    let same = told_same words held request Its names (r ∷ []) answered.contents (text ∷ []) command there answered.read tells in
-    answered.true_its text one.0 same (claimed_says its.yes_line faults taken old new verdict status written claims)
+    let claim : HoldsClaim Its (text ∷ []) verdict = told_claim words held request Its names (r ∷ []) answered.contents (text ∷ [])
+    verdict command is answered.read tells answered.claim in
+    claim (claimed_says its.yes_line faults taken old new verdict status written claims)
 
 -- ---- completeness
 
@@ -458,6 +479,8 @@ refused_verdict (Run fuel) (state ∷ classes) verdict answer two = let none = a
 refused_verdict Asm [] verdict answer two = absurd answer
 refused_verdict Asm (listing ∷ []) verdict answer two = let none = answer.0 in absurd (omega (arith, none, two))
 refused_verdict Asm (listing ∷ more ∷ files) verdict answer two = absurd answer
+refused_verdict (Generate n) [] verdict answer two = let none = answer.0 in absurd (omega (arith, none, two))
+refused_verdict (Generate n) (file ∷ files) verdict answer two = absurd answer
 refused_verdict Its [] verdict answer two = absurd answer
 refused_verdict Its (text ∷ []) verdict answer two = let low = ruled_low text verdict answer in absurd (omega (arith, low, two))
 refused_verdict Its (text ∷ more ∷ files) verdict answer two = absurd answer
@@ -506,6 +529,8 @@ unproved_verdict (Run fuel) (state ∷ classes) verdict answer one = let none = 
 unproved_verdict Asm [] verdict answer one = absurd answer
 unproved_verdict Asm (listing ∷ []) verdict answer one = let none = answer.0 in absurd (omega (arith, none, one))
 unproved_verdict Asm (listing ∷ more ∷ files) verdict answer one = absurd answer
+unproved_verdict (Generate n) [] verdict answer one = let none = answer.0 in absurd (omega (arith, none, one))
+unproved_verdict (Generate n) (file ∷ files) verdict answer one = absurd answer
 unproved_verdict Its [] verdict answer one = absurd answer
 unproved_verdict Its (text ∷ []) verdict answer one = inr (ruled_left text verdict answer one)
 unproved_verdict Its (text ∷ more ∷ files) verdict answer one = absurd answer
@@ -582,7 +607,7 @@ of_prove verdict without kept = (λ one. inl (kept.0 one), by)
     by (inr h) = absurd (let e : (let o : Option ItsFound = None in o) ≡ Some h.0 = sym without ∙ h.1 in cc)
 
 pub reasons_kept : (request : Request) (contents : List (List ℕ)) (verdict : Verdict) → IsAnswer request contents (Ok verdict)
-    → (verdict.status ≡ 1) ↔ HasReason verdict
+    → IsUnproved request verdict ↔ HasReason verdict
 reasons_kept (Prove nodes) [] verdict answer = absurd answer
 reasons_kept (Prove nodes) (desc ∷ classes) verdict answer = of_prove verdict answer.0 (reason_kept nodes desc classes verdict answer)
 reasons_kept Check [] verdict answer = absurd answer
@@ -596,6 +621,8 @@ reasons_kept Asm [] verdict answer = absurd answer
 reasons_kept Asm (listing ∷ []) verdict answer = no_reason verdict (λ one. let none = answer.0 in omega (arith, none, one)) answer.1
     answer.2
 reasons_kept Asm (listing ∷ more ∷ files) verdict answer = absurd answer
+reasons_kept (Generate n) [] verdict answer = made_reason n verdict answer
+reasons_kept (Generate n) (file ∷ files) verdict answer = absurd answer
 reasons_kept Its [] verdict answer = absurd answer
 reasons_kept Its (text ∷ []) verdict answer = ruled_reason text verdict answer
 reasons_kept Its (text ∷ more ∷ files) verdict answer = absurd answer

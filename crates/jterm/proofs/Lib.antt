@@ -1,5 +1,3 @@
-pub mod WordsLemmas
-pub mod Numbers
 pub mod ReadingOrder
 pub mod Proving
 pub mod Ruling
@@ -7,5 +5,6 @@ pub mod Checking
 pub mod Answering
 pub mod OneAnswer
 pub mod Deciding
+pub mod Making
 pub mod Endings
 pub mod WaysOut

@@ -1,8 +1,11 @@
 -- A request has one answer for the contents of its files.
 use Rattle.std.proofs.Common.{◌≡◌, ℕ, List, [], ◌∷◌, Option, Some, None, Result, Ok, Err, refl, sym, ap, ◌∙◌}
 use Rattle.std.specs.Prelude.{◌≢◌}
-use Rattle.asm_lines.specs.declared.fault.AsmFault.{AsmFault}
-use Rattle.class_asm.specs.Classes.{assembled}
+use Rattle.asm_call.specs.Answers as asm
+use Rattle.asm_call.proofs.OneAnswer as assembling
+use Rattle.generate_call.specs.declared.call.Generated.{Generated}
+use Rattle.generate_call.specs.Answers as generate
+use Rattle.generate_call.proofs.OneAnswer as generating
 use Rattle.its_front.specs.declared.fault.ItsFault.{ItsFault}
 use Rattle.its_front.specs.declared.reading.Its as systems
 use Rattle.its_front.specs.Reading.{rules_of}
@@ -20,10 +23,10 @@ use Rattle.check_call.specs.Answers as check
 use Rattle.check_call.proofs.OneAnswer as checking
 use Rattle.run_call.specs.Answers as run
 use Rattle.run_call.proofs.OneAnswer as running
-use Rattle.jterm.specs.declared.verdict.Request.{Request}
-use Rattle.jterm.specs.declared.verdict.Request.TheVariants.{Prove, Check, Run, Asm, Its}
+use Rattle.command_rows.specs.declared.table.Request.{Request}
+use Rattle.command_rows.specs.declared.table.Request.TheVariants.{Prove, Check, Run, Asm, Generate, Its}
 use Rattle.jterm.specs.declared.verdict.Verdict.{Verdict}
-use Rattle.jterm.specs.Decision.{Assembles, Ruled, Proved, DoneWith, Judged, IsAnswer}
+use Rattle.jterm.specs.Decision.{Ruled, Proved, DoneWith, Judged, Made, IsAnswer}
 use Rattle.jterm.specs.Laws.{AreAlike, AreOne}
 
 -- ---- verdicts
@@ -72,31 +75,6 @@ judged_one P = verdict_one (λ (outcome : Outcome). record { status = outcome.st
       (h.2, λ i. record { status = v.status; out = v.out; reason = h.0 i; its = h.1 i }),
     )) (λ r h. h)
 
--- ---- listings
-
-abbrev Assembled : Type 0
-Assembled = Result (List ℕ) AsmFault
-
-listing_fault_one : (listing : List ℕ) (f g : AsmFault) → assembled listing ≡ Err f → assembled listing ≡ Err g → f ≡ g
-listing_fault_one listing f g h k = let e : (let r : Assembled = Err f in r) ≡ Err g = sym h ∙ k in cc
-
-assembles_one : (listing : List ℕ) → IsOne (Assembles listing)
-assembles_one listing (Ok x) (Ok y) h k nr ns =
-    let e : (let r : Assembled = Ok x in r) ≡ Ok y = sym h ∙ k in
-    let same : x ≡ y = cc in
-    λ i. Ok (same i)
-assembles_one listing (Ok x) (Err (At place fault)) h k nr ns = let e : (let r : Assembled = Ok x in r) ≡ Err k.cause = sym h
-    ∙ k.holds in absurd (cc)
-assembles_one listing (Ok x) (Err Memory) h k nr ns = absurd (ns refl)
-assembles_one listing (Err (At place fault)) (Ok y) h k nr ns = let e : (let r : Assembled = Ok y in r) ≡ Err h.cause = sym k
-    ∙ h.holds in absurd (cc)
-assembles_one listing (Err (At p f)) (Err (At q g)) h k nr ns =
-    let e = at_one {C = AsmFault} (λ fault. places.Listing) faults.Listing (λ fault. assembled listing ≡ Err fault)
-    (listing_fault_one listing) p q f g h k in
-    λ i. Err (At (e.0 i) (e.1 i))
-assembles_one listing (Err (At place fault)) (Err Memory) h k nr ns = absurd (ns refl)
-assembles_one listing (Err Memory) s h k nr ns = absurd (nr refl)
-
 -- ---- requests
 
 -- one answer is one answer of any request
@@ -121,6 +99,22 @@ proved_one nodes P one (Ok x) (Err s) h k nr ns = let e : (let n : Option Refuse
 proved_one nodes P one (Err r) (Ok y) h k nr ns = let e : Some r ≡ None = one _ _ h k.1 (known r nr) (some_said _) in absurd (cc)
 proved_one nodes P one (Err r) (Err s) h k nr ns = let e : Some r ≡ Some s = one _ _ h k (known r nr) (known s ns) in let same : r
     ≡ s = cc in same
+
+known_made : (refused : Refused) → (let r : Result Verdict Refused = Err refused in r) ≢ Err Memory
+    → (let r : Result Generated Refused = Err refused in r) ≢ Err Memory
+known_made (At place fault) some e = cc
+known_made Memory some e = some refl
+
+-- where a `generate` is refused it is so for one place and fault
+made_one : (n : ℕ) (P : Result Generated Refused → Type 0)
+    → ((a b : Result Generated Refused) → P a → P b → a ≢ Err Memory → b ≢ Err Memory → refusal_of a ≡ refusal_of b)
+    → (a b : Result Verdict Refused) → Made P a → Made P b → a ≢ Err Memory → b ≢ Err Memory → AreOne (Generate n) a b
+made_one n P one (Ok x) (Ok y) h k nr ns = tt
+made_one n P one (Ok x) (Err s) h k nr ns = let e : (let n : Option Refused = None in n) ≡ Some s = one _ _ h.2 k (some_said _)
+    (known_made s ns) in absurd (cc)
+made_one n P one (Err r) (Ok y) h k nr ns = let e : Some r ≡ None = one _ _ h k.2 (known_made r nr) (some_said _) in absurd (cc)
+made_one n P one (Err r) (Err s) h k nr ns = let e : Some r ≡ Some s = one _ _ h k (known_made r nr) (known_made s ns) in let same :
+    r ≡ s = cc in same
 
 -- where an `its` is refused it is so for one place and fault
 abbrev Read : Type 0
@@ -157,8 +151,10 @@ answers_one (Run fuel) (state ∷ files) a b x y some more = one_is (Run fuel) a
     (done_one (run.Answers fuel state files) (running.answers_one fuel state files) a b x y some more)
 answers_one Asm [] a b x y some more = absurd x
 answers_one Asm (listing ∷ []) a b x y some more = one_is Asm a b (λ v w e. e)
-    (done_one (Assembles listing) (assembles_one listing) a b x y some more)
+    (done_one (asm.Answers listing) (assembling.answers_one listing) a b x y some more)
 answers_one Asm (listing ∷ other ∷ files) a b x y some more = absurd x
+answers_one (Generate n) [] a b x y some more = made_one n (generate.Answers n) (generating.refusals_one n) a b x y some more
+answers_one (Generate n) (file ∷ files) a b x y some more = absurd x
 answers_one Its [] a b x y some more = absurd x
 answers_one Its (text ∷ []) a b x y some more = ruled_one text a b x y some more
 answers_one Its (text ∷ other ∷ files) a b x y some more = absurd x

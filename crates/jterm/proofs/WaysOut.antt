@@ -5,14 +5,15 @@ use Rattle.io_ports.specs.Told.{Told}
 use Rattle.jterm.specs.declared.top.Done.{Done}
 use Rattle.jterm.specs.declared.inputs.Failure.{Failure}
 use Rattle.jterm.specs.declared.inputs.Failure.TheVariants.{Unread, Broken, NoMemory}
-use Rattle.jterm.specs.declared.verdict.Request.{Request}
+use Rattle.command_rows.specs.declared.table.Request.{Request}
 use Rattle.jterm.specs.declared.verdict.Verdict.{Verdict}
-use Rattle.jterm.specs.Words.{IsCommand}
-use Rattle.jterm.specs.Lines.{usage_lines, write_line}
+use Rattle.command_rows.specs.Words.{IsCommand}
+use Rattle.command_rows.specs.Usage.{usage_lines}
+use Rattle.jterm.specs.Lines.{write_line}
 use Rattle.jterm.specs.Outside.{FirstAreRead, Puts, IsWithoutVerdict, IsWritten, file_limits}
 use Rattle.jterm.specs.CallEnds.{Change, CallEnds}
 use Rattle.jterm.specs.Failure.{IsAnswered, HasCause}
-use Rattle.jterm.proofs.WordsLemmas.{commands_one}
+use Rattle.command_rows.proofs.OneCommand.{commands_one}
 use Rattle.jterm.proofs.Endings as endings
 use Rattle.jterm.proofs.Endings.{Reports, not_low, not_four, done_is_no_usage}
 

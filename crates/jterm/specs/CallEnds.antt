@@ -6,8 +6,8 @@ use Rattle.io_ports.specs.Told.{Told}
 use Rattle.io_ports.specs.declared.files.FileFault.{FileFault}
 use Rattle.cert_form.specs.Limits.{most_certificate_bytes}
 use Rattle.jterm.specs.declared.top.Done.{Done}
-use Rattle.jterm.specs.declared.verdict.Request.{Request}
-use Rattle.jterm.specs.declared.verdict.Request.TheVariants.{Check}
+use Rattle.command_rows.specs.declared.table.Request.{Request}
+use Rattle.command_rows.specs.declared.table.Request.TheVariants.{Check}
 use Rattle.jterm.specs.declared.verdict.Verdict.{Verdict}
 use Rattle.input_steps.specs.declared.refused.Place.{Place}
 use Rattle.input_steps.specs.declared.refused.Fault.{Fault}
@@ -18,10 +18,12 @@ use Rattle.prove_core.specs.declared.found.Reason.{Reason}
 use Rattle.its_search.specs.declared.searching.ItsFound.{ItsFound}
 use Rattle.prove_call.specs.Lines.{yes_text}
 use Rattle.check_call.specs.Lines.{refused_line}
-use Rattle.jterm.specs.Words.{IsProve, IsCommand}
+use Rattle.command_rows.specs.Usage.{usage_lines}
+use Rattle.command_rows.specs.Words.{IsCommand}
+use Rattle.jterm.specs.Words.{IsProve}
 use Rattle.jterm.specs.Decision.{IsAnswer, IsUnrefused, not_proved_for, left_for, accepted, refused_at}
 use Rattle.jterm.specs.Laws.{AreAlike}
-use Rattle.jterm.specs.Lines.{usage_lines, memory_line, write_line, read_line}
+use Rattle.jterm.specs.Lines.{memory_line, write_line, read_line}
 use Rattle.jterm.specs.Outside.{AreTold, AreHanded, IsUnread, FirstAreRead, Decided, Puts, IsWithoutVerdict, IsWritten, file_limits}
 
 -- what a port was before a call, and what it is after it

@@ -1,14 +1,17 @@
 -- What `decide` answers, and why.
-use Rattle.std.specs.Prelude.{◌≡◌, ◌⊎◌, ℕ, ◌+◌, ◌≤◌, List, [], ◌∷◌, ◌++◌, length, Option, Some, None, Result, Ok, Err}
+use Rattle.std.specs.Prelude.{◌≡◌, ◌⊎◌, ℕ, List, [], ◌∷◌, ◌++◌, Option, Some, None, Result, Ok, Err, ⊤}
 use Rattle.abs_cells.specs.declared.packed.PackedPairs.{PackedPairs}
-use Rattle.asm_lines.specs.declared.fault.AsmFault.{AsmFault}
-use Rattle.asm_lines.specs.declared.fault.AsmFault.TheVariants as listings
-use Rattle.class_asm.specs.Classes.{assembled}
+use Rattle.asm_call.specs.Answers as asm
+use Rattle.generate_call.specs.declared.call.Generated.{Generated}
+use Rattle.generate_call.specs.Answers as generate
+use Rattle.generate_call.specs.Headline.{SaysYes}
+use Rattle.generate_text.specs.Descriptions.{description}
 use Rattle.its_front.specs.declared.fault.ItsFault.{ItsFault}
 use Rattle.its_front.specs.declared.fault.ItsFault.TheVariants as ruled
 use Rattle.its_front.specs.Reading.{rules_of}
 use Rattle.its_search.specs.declared.searching.ItsFound.{ItsFound}
-use Rattle.its_call.specs.Answers.{IsSaid}
+use Rattle.its_call.specs.Answers.{IsSaid, IsEnding}
+use Rattle.its_call.specs.Lines as its
 use Rattle.input_steps.specs.declared.refused.Refused.{Refused}
 use Rattle.input_steps.specs.declared.refused.Refused.TheVariants.{At, Memory}
 use Rattle.input_steps.specs.declared.refused.Place.{Place}
@@ -22,41 +25,16 @@ use Rattle.check_call.specs.Lines.{accepted_line, refused_line}
 use Rattle.prove_core.specs.declared.found.Reason.{Reason}
 use Rattle.prove_call.specs.declared.answer.Answer.{Answer}
 use Rattle.prove_call.specs.Answers as prove
+use Rattle.prove_call.specs.Lines.{yes_line}
+use Rattle.desc_steps.specs.Headline.{AllEnd}
 use Rattle.run_call.specs.Answers as run
-use Rattle.term_graph.specs.Limits.{most_nodes}
-use Rattle.class_base.specs.Limits.{most_classes}
-use Rattle.jterm.specs.declared.verdict.Request.{Request}
-use Rattle.jterm.specs.declared.verdict.Request.TheVariants.{Prove, Check, Run, Asm, Its}
+use Rattle.command_rows.specs.declared.table.Request.{Request}
+use Rattle.command_rows.specs.declared.table.Request.TheVariants.{Prove, Check, Run, Asm, Generate, Its}
 use Rattle.jterm.specs.declared.verdict.Verdict.{Verdict}
-
--- the request's number is in its range, and there are as many files as its command has file words
-abbrev pub Takes : Request → List (List ℕ) → Type 0
-Takes (Prove nodes) files = (1 ≤ nodes) × (nodes ≤ most_nodes) × (2 ≤ length files) × (length files ≤ most_classes + 1)
-Takes Check files = (3 ≤ length files) × (length files ≤ most_classes + 2)
-Takes (Run fuel) files = (fuel ≤ 1000000000) × (2 ≤ length files) × (length files ≤ most_classes + 1)
-Takes Asm files = length files ≡ 1
-Takes Its files = length files ≡ 1
 
 -- a line is said: the status is 0, or the output begins with it
 abbrev pub Says : List ℕ → Verdict → Type 0
 Says line verdict = (verdict.status ≡ 0) ⊎ ((rest : List ℕ) × (verdict.out ≡ line ++ rest))
-
--- ---- listings
-
--- a listing is refused for its first fault
-abbrev pub RefusesListing : List ℕ → Place → Fault → Type 0
-RefusesListing listing = IsAt {C = AsmFault} (λ fault. places.Listing) faults.Listing (λ fault. assembled listing ≡ Err fault)
-
--- The class file's bytes where the listing says a class, and else its first fault. Want of memory has no cause.
-abbrev pub Assembles : List ℕ → Result (List ℕ) Refused → Type 0
-Assembles listing (Ok out) = assembled listing ≡ Ok out
-Assembles listing (Err (At place fault)) = RefusesListing listing place fault
-Assembles listing (Err Memory) = Unit {0}
-
--- what is said of a listing that has this fault
-abbrev pub listing_refusal : AsmFault → Refused
-listing_refusal listings.Memory = Memory
-listing_refusal fault = At places.Listing (faults.Listing fault)
 
 -- ---- rules
 
@@ -120,14 +98,50 @@ Judged Answers (Ok verdict) = (verdict.reason ≡ None) × (verdict.its ≡ None
     × Answers (Ok (record { status = verdict.status; out = verdict.out }))
 Judged Answers (Err refused) = Answers (Err refused)
 
--- the answer to a request for the contents of its files: a certificate, a description or a state, and classes; or a listing; or a text of rules
+-- what is said of a class that was made, as a verdict; or its refusal
+abbrev pub verdict_of_made : Result Generated Refused → Result Verdict Refused
+verdict_of_made (Ok generated) = Ok (record { status = 0; out = generated.out; reason = generated.reason; its = None })
+verdict_of_made (Err refused) = Err refused
+
+-- a verdict of status 0 with the output and the reason of a class that was made of which this holds; or a refusal of which it does
+abbrev pub Made : (Result Generated Refused → Type 0) → Result Verdict Refused → Type 0
+Made Answers (Ok verdict) = (verdict.status ≡ 0) × (verdict.its ≡ None)
+    × Answers (Ok (record { out = verdict.out; reason = verdict.reason }))
+Made Answers (Err refused) = Answers (Err refused)
+
+-- the answer to a request for the contents of its files: a certificate, a description or a state, and classes; a listing; none; or a text of rules
 abbrev pub IsAnswer : Request → List (List ℕ) → Result Verdict Refused → Type 0
 IsAnswer (Prove nodes) (desc ∷ classes) result = Proved (prove.Answers nodes desc classes) result
 IsAnswer Check (cert ∷ desc ∷ classes) result = Judged (check.Answers cert desc classes) result
 IsAnswer (Run fuel) (state ∷ classes) result = DoneWith (run.Answers fuel state classes) result
-IsAnswer Asm (listing ∷ []) result = DoneWith (Assembles listing) result
+IsAnswer Asm (listing ∷ []) result = DoneWith (asm.Answers listing) result
+IsAnswer (Generate n) [] result = Made (generate.Answers n) result
 IsAnswer Its (text ∷ []) result = Ruled text result
 IsAnswer request files result = ⊥
+
+-- ---- what an answer claims
+
+-- Where the answer is yes this is true, of the contents of the files: every state ends that the description fits (`prove` and `check`), also of the class
+-- that was made (`generate`); the system of the rules ends (`its`).
+abbrev pub HoldsClaim : Request → List (List ℕ) → Verdict → Type 0
+HoldsClaim (Prove nodes) (desc ∷ classes) verdict = Says yes_line verdict → AllEnd classes desc
+HoldsClaim Check (cert ∷ desc ∷ classes) verdict = Says accepted_line verdict → AllEnd classes desc
+HoldsClaim (Generate n) [] verdict = (class : List ℕ) → generate.IsClass n class → SaysYes n verdict.out → AllEnd (class ∷ []) description
+HoldsClaim Its (text ∷ []) verdict = Says its.yes_line verdict → IsEnding text
+HoldsClaim request files verdict = ⊤
+
+-- ---- where nothing is proved
+
+-- it keeps why no certificate is given, or what is left of rules
+abbrev pub HasReason : Verdict → Type 0
+HasReason verdict = ((reason : Reason PackedPairs) × (verdict.reason ≡ Some reason)) ⊎ ((left : ItsFound) × (verdict.its ≡ Some left))
+
+-- no certificate or no proof is given: the status is 1, or the line of `generate` says no YES
+abbrev pub IsUnproved : Request → Verdict → Type 0
+IsUnproved (Generate n) verdict = SaysYes n verdict.out → ⊥
+IsUnproved request verdict = verdict.status ≡ 1
+
+-- ---- refusals
 
 -- the contents have no cause of refusal
 abbrev pub IsUnrefused : Request → List (List ℕ) → Type 0

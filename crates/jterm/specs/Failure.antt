@@ -1,21 +1,15 @@
--- Why a call ends without a verdict, and words of numbers.
+-- Why a call ends without a verdict.
 use Rattle.std.specs.Prelude.{◌≡◌, ℕ, ◌≤◌, ◌==◌, Bool, true, false, if◌then◌else◌, List, [], ◌∷◌, length, codes, Ok, Err, ⊤}
 use Rattle.io_ports.specs.Told.{Told}
 use Rattle.io_ports.specs.declared.files.FileFault.{FileFault}
 use Rattle.io_ports.specs.declared.files.FileFault.TheVariants.{Failed, TooLong, Missing, Memory}
 use Rattle.jterm.specs.declared.inputs.Failure.{Failure}
 use Rattle.jterm.specs.declared.inputs.Failure.TheVariants.{Unread, Broken, NoMemory}
-use Rattle.jterm.specs.declared.verdict.Request.{Request}
-use Rattle.jterm.specs.declared.verdict.Request.TheVariants.{Prove, Check, Its}
+use Rattle.command_rows.specs.declared.table.Request.{Request}
 use Rattle.input_steps.specs.declared.refused.Refused.TheVariants.{At}
 use Rattle.jterm.specs.declared.verdict.Verdict.{Verdict}
-use Rattle.jterm.specs.Decision.{IsAnswer, Says}
-use Rattle.check_call.specs.Lines.{accepted_line}
-use Rattle.prove_call.specs.Lines.{yes_line}
-use Rattle.desc_steps.specs.Headline.{AllEnd}
-use Rattle.its_call.specs.Answers.{IsEnding}
-use Rattle.its_call.specs.Lines as its
-use Rattle.jterm.specs.Words.{IsCommand}
+use Rattle.jterm.specs.Decision.{IsAnswer, HoldsClaim}
+use Rattle.command_rows.specs.Words.{IsCommand}
 use Rattle.input_steps.specs.Lines.{refusal_line}
 use Rattle.jterm.specs.Lines.{read_line, memory_line}
 use Rattle.jterm.specs.Outside.{AreContents, IsUnread}
@@ -51,23 +45,6 @@ failure_at name Memory = NoMemory
 abbrev pub AreOfCommand : Request → List (List ℕ) → Type 0
 AreOfCommand request names = (words : List (List ℕ)) × IsCommand words request names
 
--- a `prove` that says `YES` says the truth
-abbrev pub IsTrueProof : Request → List (List ℕ) → Verdict → Type 0
-IsTrueProof request contents verdict =
-    (nodes : ℕ) (desc : List ℕ) (classes : List (List ℕ)) → request ≡ Prove nodes → contents ≡ desc ∷ classes
-    → Says yes_line verdict → AllEnd classes desc
-
--- so does a check that says `ACCEPTED`
-abbrev pub IsTrueCheck : Request → List (List ℕ) → Verdict → Type 0
-IsTrueCheck request contents verdict =
-    (cert desc : List ℕ) (classes : List (List ℕ)) → request ≡ Check → contents ≡ cert ∷ desc ∷ classes → Says accepted_line verdict
-    → AllEnd classes desc
-
--- so does an `its` that says `YES`
-abbrev pub IsTrueSystem : Request → List (List ℕ) → Verdict → Type 0
-IsTrueSystem request contents verdict =
-    (text : List ℕ) → request ≡ Its → contents ≡ text ∷ [] → Says its.yes_line verdict → IsEnding text
-
 -- the verdict is the answer for the contents of the files, its status is at most 2, and what it says is true
 pub record IsAnswered (limits : ℕ → ℕ) (request : Request) (names : List (List ℕ)) (held : List ℕ → Told) (verdict : Verdict) : Type
     0 where
@@ -75,19 +52,7 @@ pub record IsAnswered (limits : ℕ → ℕ) (request : Request) (names : List (
   pub read : AreContents limits held names contents
   pub answer : IsAnswer request contents (Ok verdict)
   pub low : verdict.status ≤ 2
-  pub true_proof : IsTrueProof request contents verdict
-  pub true_check : IsTrueCheck request contents verdict
-  pub true_its : IsTrueSystem request contents verdict
-
--- the words behind `prove` begin with that of a limit on nodes
-abbrev pub NamesLimit : List (List ℕ) → Type 0
-NamesLimit [] = ⊥
-NamesLimit (word ∷ words) = word ≡ codes "--nodes"
-
--- neither a plus nor a zero stands first, but in `0`
-abbrev pub is_plain : List ℕ → Bool
-is_plain [] = true
-is_plain (first ∷ rest) = if first == 43 then false else (if first == 48 then length (first ∷ rest) == 1 else true)
+  pub claim : HoldsClaim request contents verdict
 
 -- want of memory has no line of its own
 abbrev pub HasLine : Failure → Type 0

@@ -4,10 +4,6 @@ use Rattle.list_views.specs.FaultWords.{joined}
 use Rattle.io_ports.specs.declared.files.FileFault.{FileFault}
 use Rattle.io_ports.specs.FileFault.{fault_name}
 
--- the words are no command; each command that is built follows, with its words
-abbrev pub usage_lines : List ℕ
-usage_lines = codes "jterm: usage\nprove DESC CLASS..\ncheck CERT DESC CLASS..\nrun FUEL STATE CLASS..\nasm LISTING\nits RULES\n"
-
 -- want of memory
 abbrev pub memory_line : List ℕ
 memory_line = codes "jterm: memory\n"

@@ -9,11 +9,13 @@ use Rattle.io_ports.specs.declared.files.FileFault.{FileFault}
 use Rattle.io_ports.specs.declared.files.FileFault.TheVariants.{Failed, TooLong, Missing, Memory}
 use Rattle.cert_form.specs.Limits.{most_certificate_bytes}
 use Rattle.class_base.specs.Limits.{most_file_bytes}
-use Rattle.jterm.specs.declared.verdict.Request.{Request}
-use Rattle.jterm.specs.declared.verdict.Request.TheVariants.{Check}
+use Rattle.command_rows.specs.declared.table.Request.{Request}
+use Rattle.command_rows.specs.declared.row.FileWord.{FileWord}
+use Rattle.command_rows.specs.declared.row.FileWord.TheVariants.{Cert}
+use Rattle.command_rows.specs.Rows.{row_at, file_at}
 use Rattle.jterm.specs.declared.verdict.Verdict.{Verdict}
 use Rattle.input_steps.specs.declared.refused.Refused.{Refused}
-use Rattle.jterm.specs.Words.{IsCommand}
+use Rattle.command_rows.specs.Words.{IsCommand}
 use Rattle.jterm.specs.Decision.{IsAnswer}
 
 -- ---- files
@@ -22,10 +24,14 @@ use Rattle.jterm.specs.Decision.{IsAnswer}
 abbrev pub AreTold : (List ℕ → Told) → List (List ℕ) → List (List ℕ) → Type 0
 AreTold held names contents = map held names ≡ map Content contents
 
--- how many bytes the file at a place among those of a request may have: so many a certificate, so many each other one
+-- how many bytes a file may have: so many a certificate, so many each other one
+abbrev pub limit_of : ℕ → ℕ → FileWord → ℕ
+limit_of certificate other Cert = certificate
+limit_of certificate other word = other
+
+-- the file at a place among those of a request
 abbrev pub limit_at : ℕ → ℕ → Request → ℕ → ℕ
-limit_at certificate other Check zero = certificate
-limit_at certificate other request place = other
+limit_at certificate other request place = limit_of certificate other (file_at (row_at request) place)
 
 -- a certificate may have 16 MiB, each other file 1 MiB
 abbrev pub file_limits : Request → ℕ → ℕ
@@ -103,10 +109,13 @@ pub record Decided (words : List (List ℕ)) (held : List ℕ → Told) (result 
 abbrev pub Puts : {S : Type 0} → (S → ℕ) → (S → Option (List ℕ)) → S → S → List ℕ → Type 0
 Puts faults taken old new line = (Rose (faults old) (faults new) → ⊥) → Appends (taken old) (taken new) line
 
+-- what the call put on the output begins with a line
+abbrev pub Begins : {S : Type 0} → List ℕ → (S → Option (List ℕ)) → S → S → Type 0
+Begins line taken old new = (before rest : List ℕ) × (taken old ≡ Some before) × (taken new ≡ Some (before ++ line ++ rest))
+
 -- a line is claimed: the status is 0, or what the call put on the output begins with it
 abbrev pub Claims : {S : Type 0} → List ℕ → (S → Option (List ℕ)) → S → S → ℕ → Type 0
-Claims line taken old new status =
-    (status ≡ 0) ⊎ ((before rest : List ℕ) × (taken old ≡ Some before) × (taken new ≡ Some (before ++ line ++ rest)))
+Claims line taken old new status = (status ≡ 0) ⊎ Begins line taken old new
 
 -- the statuses of a call without a verdict: refused input, no command, an unread file, want of memory
 abbrev pub IsWithoutVerdict : ℕ → Type 0

@@ -1,16 +1,14 @@
 //! The decision over the bytes of the input files.
-ghost use Rattle.std.specs.Prelude.{◌≡◌, List, ℕ, ◌∷◌, [], map, IfOk};
-ghost use Rattle.desc_steps.specs.Headline.{AllEnd};
-ghost use Rattle.check_call.specs.Lines.{accepted_line};
-ghost use Rattle.prove_call.specs.Lines.{yes_line};
-ghost use Rattle.its_call.specs.Answers.{IsEnding};
-ghost use Rattle.its_call.specs.Lines as its;
-ghost use Rattle.jterm.specs.Decision.{Takes, Says, IsAnswer, done_of, verdict_of};
+ghost use Rattle.std.specs.Prelude.{◌≡◌, length, map, IfOk};
+ghost use Rattle.command_rows.specs.Rows.{Takes};
+ghost use Rattle.jterm.specs.Decision.{HoldsClaim, IsAnswer, done_of, verdict_of, verdict_of_made};
 
-use crate::listing::assemble_listing;
 use crate::rules::rules_verdict;
-use crate::verdict::{Request, Verdict};
+use crate::verdict::Verdict;
+use asm_call::class_file;
 use check_call::{Outcome, check_line};
+use command_rows::Request;
+use generate_call::{Generated, generate_line};
 use input_steps::Refused;
 use list_views::Seq;
 use prove_call::prove_line;
@@ -47,27 +45,32 @@ fn judged(outcome: Result<Outcome, Refused>) -> Result<Verdict, Refused>
     }
 }
 
+/// What is said of a class that was made, as a verdict.
+fn made(generated: Result<Generated, Refused>) -> Result<Verdict, Refused>
+    ensures { result ≡ verdict_of_made generated }
+{
+    match generated {
+        Ok(generated) => Ok(Verdict {
+            status: 0,
+            out: generated.out,
+            reason: generated.reason,
+            its: None,
+        }),
+        Err(refused) => Err(refused),
+    }
+}
+
 /// Does what the request asks for with the bytes of the files that its command names, in the order of the words:
-/// the certificate of a check, the description or the state, and then the classes; or the listing; or the rules.
+/// the certificate of a check, the description or the state, and then the classes; or the listing; or none; or the rules.
 ///
 /// # Errors
 ///
 /// The first fault of the input with its place, or want of memory.
 pub fn decide(alloc: Global, request: &Request, inputs: &[Vec<u8>]) -> Result<Verdict, Refused>
-    requires { Takes request.now (map (λ file. file.items) inputs.now) }
+    requires { Takes request.now (length inputs.now) }
 
-    // Where YES is answered, every state that the description fits ends.
-    ensures headline { (nodes : ℕ) (desc : List ℕ) (classes : List (List ℕ)) → request.now ≡ Request.Prove nodes
-        → map (λ file. file.items) inputs.now ≡ desc ∷ classes → IfOk result (λ verdict. Says yes_line verdict → AllEnd classes desc) }
-
-    // So it does where ACCEPTED is answered.
-    ensures headline_of_check { (cert desc : List ℕ) (classes : List (List ℕ)) → request.now ≡ Request.Check
-        → map (λ file. file.items) inputs.now ≡ cert ∷ desc ∷ classes → IfOk result (λ verdict. Says accepted_line verdict → AllEnd classes desc) }
-
-    // Where YES is answered to a text of rules, there is no infinite sequence of locations with whole numbers for the variables in which each
-    // neighbours meet all rows of one rule between them.
-    ensures headline_of_its { (text : List ℕ) → request.now ≡ Request.Its
-        → map (λ file. file.items) inputs.now ≡ text ∷ [] → IfOk result (λ verdict. Says its.yes_line verdict → IsEnding text) }
+    // What a yes claims is true: of `prove` that every state that the description fits ends; of each other command what stands there.
+    ensures headline { IfOk result (λ verdict. HoldsClaim request.now (map (λ file. file.items) inputs.now) verdict) }
 
     // The cause of each answer.
     ensures answer { IsAnswer request.now (map (λ file. file.items) inputs.now) result }
@@ -94,7 +97,8 @@ pub fn decide(alloc: Global, request: &Request, inputs: &[Vec<u8>]) -> Result<Ve
             &inputs[2..],
         )),
         Request::Run { fuel } => done(run_line(alloc, *fuel, inputs[0].as_slice(), &inputs[1..])),
-        Request::Asm => done(assemble_listing(alloc, inputs[0].as_slice())),
+        Request::Asm => done(class_file(alloc, inputs[0].as_slice())),
+        Request::Generate { n } => made(generate_line(alloc, *n)),
         Request::Its => rules_verdict(alloc, inputs[0].as_slice()),
     }
 }

@@ -4,8 +4,7 @@ ghost use Rattle.jterm.specs.Outside.{AreContents, FirstAreRead, limit_at};
 ghost use Rattle.jterm.specs.Failure.{HasCause, failure_at};
 ghost use Rattle.jterm.specs.declared.inputs.Failure.TheVariants.{NoMemory};
 
-use crate::Request;
-use crate::commands::Command;
+use command_rows::{Asked, FileWord, Request};
 use input_steps::{Fault, Place};
 use io_ports::{FileFault, Files};
 use list_views::Bytes;
@@ -68,8 +67,8 @@ fn limit_at(request: &Request, place: usize, certificate: usize, other: usize) -
     ensures limit { result ≡ limit_at certificate other request.now place }
     ensures small { result ≤ 2 ^ 31 }
 {
-    match request {
-        Request::Check if place == 0 => certificate,
+    match request.command().row().file(place) {
+        FileWord::Cert => certificate,
         _ => other,
     }
 }
@@ -78,7 +77,7 @@ fn limit_at(request: &Request, place: usize, certificate: usize, other: usize) -
 /// file at most `other`.
 pub(crate) fn read_inputs<'a, F: Files>(
     alloc: Global,
-    command: &Command<'a>,
+    command: &Asked<'a>,
     files: &mut F,
     certificate: usize,
     other: usize,

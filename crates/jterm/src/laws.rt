@@ -2,12 +2,12 @@
 ghost use Rattle.jterm.specs.Laws.{AnswersAreOne, CertificatesAreAccepted, ReasonsAreKept};
 
 /// For given contents it is determined, up to want of memory, whether a request is refused, with which place and fault,
-/// and for each command but `prove` and `its` else what its verdict is.
+/// and, but for the commands that search for a proof, else what its verdict is.
 pub fn answers_are_one()
     ensures { AnswersAreOne }
 {}
 
-/// A verdict keeps a reason, or what is left of rules, exactly where its status is 1.
+/// A verdict keeps a reason, or what is left of rules, exactly where no certificate or no proof is given.
 pub fn reasons_are_kept()
     ensures { ReasonsAreKept }
 {}

@@ -1,18 +1,17 @@
 //! A prover of termination for Java bytecode: the public calls over the bytes of its input files and over the words of the command line.
 #![tactic(auto)]
 
-mod commands;
 mod decision;
 mod inputs;
 mod laws;
 mod lines;
-mod listing;
 mod rules;
 mod top;
 mod verdict;
 
+pub use command_rows::Request;
 pub use decision::decide;
 pub use input_steps::{Fault, Place, Refused};
 pub use laws::{answers_are_one, certificates_are_accepted, reasons_are_kept};
 pub use top::{Done, jterm};
-pub use verdict::{Request, Verdict};
+pub use verdict::Verdict;

@@ -1,18 +1,11 @@
 //! The lines that say why a call has no output.
 ghost use Rattle.std.specs.Prelude.{◌≡◌, IfOk};
-ghost use Rattle.jterm.specs.Lines.{usage_lines, memory_line, write_line, file_line, read_line};
+ghost use Rattle.jterm.specs.Lines.{memory_line, write_line, file_line, read_line};
 
 use io_ports::FileFault;
 use list_views::Seq;
 use list_views::fault_words::joined;
 use std::alloc::{AllocError, Global};
-
-/// The words are no command. A line for each command that is built follows, with its words.
-pub(crate) fn usage_text() -> &'static [u8]
-    ensures { result.now ≡ usage_lines }
-{
-    b"jterm: usage\nprove DESC CLASS..\ncheck CERT DESC CLASS..\nrun FUEL STATE CLASS..\nasm LISTING\nits RULES\n"
-}
 
 /// Memory ran out.
 pub(crate) fn memory_text() -> &'static [u8]

@@ -2,21 +2,26 @@
 ghost use Rattle.std.specs.Prelude.{◌≡◌, ◌⊎◌, ◌≤◌, ◌^◌, ℕ, List, ◌∷◌, [], map, string_bytes, Some, IfOk, IfErr};
 ghost use Rattle.its_call.specs.Answers.{IsEnding};
 ghost use Rattle.its_call.specs.Lines as its;
+ghost use Rattle.command_rows.specs.declared.table.Request.TheVariants.{Generate};
+ghost use Rattle.command_rows.specs.Words.{IsCommand};
 ghost use Rattle.jterm.specs.Words.{IsProve, IsCheck, IsIts};
 ghost use Rattle.check_call.specs.Lines.{accepted_line};
 ghost use Rattle.prove_call.specs.Lines.{yes_line};
 ghost use Rattle.desc_steps.specs.Headline.{AllEnd};
+ghost use Rattle.generate_text.specs.Descriptions.{description};
+ghost use Rattle.generate_call.specs.Answers.{IsClass};
+ghost use Rattle.generate_call.specs.Lines.{yes_begin};
 ghost use Rattle.jterm.specs.Lines.{memory_line, write_line};
-ghost use Rattle.jterm.specs.Outside.{AreTold, FirstAreRead, Puts, Claims, IsWritten, limit_at};
+ghost use Rattle.jterm.specs.Outside.{AreTold, FirstAreRead, Puts, Begins, Claims, IsWritten, limit_at};
 ghost use Rattle.jterm.specs.CallEnds.{CallEnds};
 ghost use Rattle.jterm.specs.Failure.{HasCause, AreOfCommand, IsAnswered, HasLine, status_of, line_of};
 
-use crate::commands::Command;
 use crate::inputs::{Failure, read_inputs};
-use crate::lines::{memory_text, read_text, usage_text, write_text};
+use crate::lines::{memory_text, read_text, write_text};
 use crate::{Verdict, decide};
 use cert_form::MOST_CERTIFICATE_BYTES;
 use class_base::MOST_FILE_BYTES;
+use command_rows::{Asked, usage_text};
 use input_steps::{Refused, refusal_text};
 use io_ports::{Files, Sink};
 use list_views::Seq;
@@ -35,7 +40,7 @@ pub struct Done {
 // decides over their contents.
 fn answer<'a, F: Files>(
     alloc: Global,
-    command: &Command<'a>,
+    command: &Asked<'a>,
     files: &mut F,
     certificate: usize,
     other: usize,
@@ -127,7 +132,7 @@ fn write_out<O: Sink, E: Sink>(verdict: Verdict, out: &mut O, err: &mut E) -> Do
 /// Reads the words of the command line and the files that they name, decides over their contents, writes the output
 /// to `out` and a line for a call without one to `err`, and gives the exit status:
 ///
-/// - 0: YES and a certificate, ACCEPTED, how a run ended, the class file's bytes, or YES to rules;
+/// - 0: YES and a certificate, ACCEPTED, how a run ended, the class file's bytes, the line of a class that is made, or YES to rules;
 /// - 1: MAYBE, and why no certificate is given, or the rules that are left;
 /// - 2: the certificate is refused;
 /// - 3: the input is refused;
@@ -154,6 +159,10 @@ pub fn jterm<F: Files, O: Sink, E: Sink>(
         → IsCheck (map string_bytes words.now) c d cs → AreTold (F.held files.old) (c ∷ d ∷ cs) (cert ∷ desc ∷ classes)
         → Claims accepted_line O.taken out.old out.new result.status → AllEnd classes desc }
 
+    // So it does of the class that is made where `blocks N answer YES` is put.
+    ensures headline_of_generate { (n : ℕ) (class : List ℕ) → IsCommand (map string_bytes words.now) (Generate n) [] → IsClass n class
+        → Begins (yes_begin n) O.taken out.old out.new → AllEnd (class ∷ []) description }
+
     // Where YES is claimed for a text of rules, there is no infinite sequence of locations with whole numbers for the variables in which each
     // neighbours meet all rows of one rule between them.
     ensures headline_of_its { (r text : List ℕ)
@@ -164,7 +173,7 @@ pub fn jterm<F: Files, O: Sink, E: Sink>(
     ensures ends { CallEnds F.held F.faults F.leaves O.faults O.taken E.faults E.taken (map string_bytes words.now)
         (record { old = files.old; new = files.new }) (record { old = out.old; new = out.new }) (record { old = err.old; new = err.new }) result }
 {
-    let Some(command) = Command::from_words(words) else {
+    let Some(command) = Asked::from_words(words) else {
         put_line(err, usage_text());
         return Done {
             status: 4,

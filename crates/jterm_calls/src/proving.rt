@@ -74,7 +74,7 @@ fn a_limit_of_no_nodes_is_no_command(rt: HostRuntime) -> Result<(), Fail> {
         errs(
             outcome,
             4,
-            b"jterm: usage\nprove DESC CLASS..\ncheck CERT DESC CLASS..\nrun FUEL STATE CLASS..\nasm LISTING\nits RULES\n"
+            b"jterm: usage\nprove DESC CLASS..\ncheck CERT DESC CLASS..\nrun FUEL STATE CLASS..\nasm LISTING\ngenerate N\nits RULES\n"
         )?
     );
     Ok(())

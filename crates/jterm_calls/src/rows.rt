@@ -1,5 +1,5 @@
 //! Words, files, listings and runs.
-use crate::calls::{are_no_commands, assembled, comes_to, errs, ran};
+use crate::calls::{are_no_commands, assembled, call, comes_to, errs, ran};
 use std::test::Fail;
 
 #[test]
@@ -26,12 +26,29 @@ fn a_run_returns_an_int(rt: HostRuntime) -> Result<(), Fail> {
 
 #[test]
 fn words_that_break_a_rule_are_no_command(rt: HostRuntime) -> Result<(), Fail> {
-    let rows: [&[&str]; 3] = [
+    let rows: [&[&str]; 6] = [
         &["run", "01", "s", "a"],
         &["run", "1000000001", "s", "a"],
         &["check", "c", "d"],
+        &["generate", "0"],
+        &["generate", "101"],
+        &["generate", "4", "a"],
     ];
     assert!(rt; are_no_commands(rt.alloc(), &rows)?);
+    Ok(())
+}
+
+// The class is made, proved and checked.
+#[test]
+fn a_class_that_is_made_is_proved(rt: HostRuntime) -> Result<(), Fail> {
+    let made = call(
+        rt.alloc(),
+        &["generate", "4"],
+        Vec::new(rt.alloc()),
+        &[],
+        100,
+    );
+    assert!(rt; comes_to(made, 0, b"blocks 4 answer YES check ACCEPTED\n", b"")?);
     Ok(())
 }
 

@@ -2,5 +2,4 @@ pub mod Lines
 pub mod Answers
 pub mod Headline
 pub mod Laws
-pub mod Limits
 pub mod Said

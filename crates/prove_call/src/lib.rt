@@ -6,10 +6,8 @@
 mod answer;
 mod call;
 mod laws;
-mod limits;
 mod lines;
 
 pub use answer::Answer;
 pub use call::prove_line;
 pub use laws::refusals_are_one;
-pub use limits::DEFAULT_NODES;

@@ -5,8 +5,7 @@ use Rattle.jterm.proofs.top.answer.Goals as goal
 pub returns-in-Ok-clause-answered : goal.returns-in-Ok-clause-answered
 returns-in-Ok-clause-answered g c =
     is_answered _ _ _ _ _ _ _ (ap (map (λ file. file.items)) c.deref.ensures.value) c.in_ok-inputs.ensures.contents
-    c.in-Ok.ensures.answer (λ nodes desc classes. c.in-Ok.ensures.headline nodes desc classes) c.in-Ok.ensures.headline_of_check
-    c.in-Ok.ensures.headline_of_its
+    c.in-Ok.ensures.answer c.in-Ok.ensures.headline
 
 pub returns-in-Err-At-clause-cause : goal.returns-in-Err-At-clause-cause
 returns-in-Err-At-clause-cause g c =
@@ -16,4 +15,5 @@ returns-in-Err-At-clause-cause g c =
 
 pub decide-requires : goal.decide-requires
 decide-requires g c =
-    takes_read _ _ _ _ _ _ (ap (map (λ file. file.items)) c.deref.ensures.value) c.requires.command c.in_ok-inputs.ensures.contents
+    takes_read (λ file. file.items) _ _ _ _ _ _ (ap (map (λ file. file.items)) c.deref.ensures.value) c.requires.command
+    c.in_ok-inputs.ensures.contents

@@ -2,7 +2,8 @@ use Rattle.std.proofs.Common.{arith}
 use Rattle.prove_call.specs.Lines.{yes_line}
 use Rattle.check_call.specs.Lines.{accepted_line}
 use Rattle.its_call.specs.Lines as its
-use Rattle.jterm.proofs.Endings.{unclaimed, not_low, headline, headline_of_check, headline_of_its}
+use Rattle.generate_call.specs.Lines.{yes_begin}
+use Rattle.jterm.proofs.Endings.{unclaimed, unbegun, not_low, headline, headline_of_check, headline_of_generate, headline_of_its}
 use Rattle.jterm.proofs.WaysOut.{no_command, with_verdict, stopped}
 use Rattle.jterm.proofs.top.jterm.Goals as goal
 
@@ -33,6 +34,19 @@ pub returns-in-Err-clause-headline_of_check : goal.returns-in-Err-clause-headlin
 returns-in-Err-clause-headline_of_check g c cert d cs content desc classes check told claims = absurd
     (unclaimed accepted_line g.O.Sink.taken c.args.out.now c.report.result (omega arith)
     (λ e. not_low c.in-Err.failure c.report.result _ _ _ c.report.ensures (omega (arith, e))) claims)
+
+pub returns-in_default-clause-headline_of_generate : goal.returns-in_default-clause-headline_of_generate
+returns-in_default-clause-headline_of_generate g c n class generate is put = absurd
+    (unbegun (yes_begin n) g.O.Sink.taken c.args.out.now (omega arith) put)
+
+pub returns-in-Ok-clause-headline_of_generate : goal.returns-in-Ok-clause-headline_of_generate
+returns-in-Ok-clause-headline_of_generate g c n class generate is put =
+    headline_of_generate g.O.Sink.faults g.O.Sink.taken c.args.out.now _ _ _ _ _ _ _ n class c.in-Some.ensures
+    c.in-Ok.ensures.answered c.write_out.ensures.written generate is put
+
+pub returns-in-Err-clause-headline_of_generate : goal.returns-in-Err-clause-headline_of_generate
+returns-in-Err-clause-headline_of_generate g c n class generate is put = absurd
+    (unbegun (yes_begin n) g.O.Sink.taken c.args.out.now (omega arith) put)
 
 pub returns-in_default-clause-headline_of_its : goal.returns-in_default-clause-headline_of_its
 returns-in_default-clause-headline_of_its g c r text is told claims = absurd

@@ -1,0 +1,15 @@
+-- What the rows of the table have in common.
+use Rattle.std.specs.Prelude.{◌≡◌, ℕ, List, length}
+use Rattle.command_rows.specs.declared.table.Request.{Request}
+use Rattle.command_rows.specs.Rows.{Takes}
+use Rattle.command_rows.specs.Words.{IsCommand}
+
+-- words ask for one thing, and name the same files
+abbrev pub CommandsAreOne : Type 0
+CommandsAreOne = (words : List (List ℕ)) (r s : Request) (m n : List (List ℕ)) → IsCommand words r m → IsCommand words s n → (r ≡ s)
+    × (m ≡ n)
+
+-- what they ask for takes as many files as they name
+abbrev pub CommandsAreTaken : Type 0
+CommandsAreTaken = (words : List (List ℕ)) (request : Request) (names : List (List ℕ)) → IsCommand words request names
+    → Takes request (length names)

@@ -1,0 +1,5 @@
+pub mod Rows
+pub mod Words
+pub mod Usage
+pub mod Laws
+pub mod Reading

@@ -1,0 +1,103 @@
+-- The table of commands: a row for each.
+use Rattle.std.specs.Prelude.{◌≡◌, ℕ, ◌+◌, ◌≤◌, Bool, true, false, List, [], ◌∷◌, length, codes, get_or, if◌then◌else◌}
+use Rattle.class_base.specs.Limits.{most_classes}
+use Rattle.term_graph.specs.Limits.{most_nodes}
+use Rattle.command_rows.specs.declared.table.Request.{Request}
+use Rattle.command_rows.specs.declared.table.Request.TheVariants as requests
+use Rattle.command_rows.specs.declared.table.Command.{Command}
+use Rattle.command_rows.specs.declared.table.Command.TheVariants.{Prove, Check, Run, Asm, Generate, Its}
+use Rattle.command_rows.specs.declared.row.FileWord.{FileWord}
+use Rattle.command_rows.specs.declared.row.FileWord.TheVariants.{Cert, Desc, State, Listing, Rules, Class}
+use Rattle.command_rows.specs.declared.row.NumberRange.{NumberRange}
+use Rattle.command_rows.specs.declared.row.NumberWord.{NumberWord}
+use Rattle.command_rows.specs.declared.row.NumberWord.TheVariants.{Absent, Needed, Optional}
+use Rattle.command_rows.specs.declared.row.Row.{Row}
+
+-- ---- how much a command is asked for
+
+-- the limit on the nodes of a graph where none is asked for
+abbrev pub default_nodes : ℕ
+default_nodes = 4000
+
+-- the steps of a run
+abbrev pub most_fuel : ℕ
+most_fuel = 1000000000
+
+-- the blocks of a class that is made
+abbrev pub most_blocks : ℕ
+most_blocks = 100
+
+-- ---- the rows
+
+-- the commands, in the order in which usage lines name them
+abbrev pub commands : List Command
+commands = Prove ∷ Check ∷ Run ∷ Asm ∷ Generate ∷ Its ∷ []
+
+abbrev pub make_row : List ℕ → NumberWord → List FileWord → Bool → Row
+make_row word number files classes = record { word = word; number = number; files = files; classes = classes }
+
+abbrev pub from_to : ℕ → ℕ → NumberRange
+from_to least most = record { least = least; most = most }
+
+-- the row of a command: its word, the number behind it, the files, and whether class files follow them
+abbrev pub row_of : Command → Row
+row_of Prove = make_row (codes "prove") (Optional (codes "--nodes") (from_to 1 most_nodes) default_nodes) (Desc ∷ []) true
+row_of Check = make_row (codes "check") Absent (Cert ∷ Desc ∷ []) true
+row_of Run = make_row (codes "run") (Needed (codes "FUEL") (from_to 0 most_fuel)) (State ∷ []) true
+row_of Asm = make_row (codes "asm") Absent (Listing ∷ []) false
+row_of Generate = make_row (codes "generate") (Needed (codes "N") (from_to 1 most_blocks)) [] false
+row_of Its = make_row (codes "its") Absent (Rules ∷ []) false
+
+-- ---- what a row asks for
+
+-- with this number
+abbrev pub request_of : Command → ℕ → Request
+request_of Prove nodes = requests.Prove nodes
+request_of Check number = requests.Check
+request_of Run fuel = requests.Run fuel
+request_of Asm number = requests.Asm
+request_of Generate blocks = requests.Generate blocks
+request_of Its number = requests.Its
+
+-- the command that asks for it
+abbrev pub command_of : Request → Command
+command_of (requests.Prove nodes) = Prove
+command_of requests.Check = Check
+command_of (requests.Run fuel) = Run
+command_of requests.Asm = Asm
+command_of (requests.Generate blocks) = Generate
+command_of requests.Its = Its
+
+-- and its number; 0 where it has none
+abbrev pub number_of : Request → ℕ
+number_of (requests.Prove nodes) = nodes
+number_of (requests.Run fuel) = fuel
+number_of (requests.Generate blocks) = blocks
+number_of request = 0
+
+abbrev pub row_at : Request → Row
+row_at request = row_of (command_of request)
+
+-- ---- the files of a row
+
+-- what the file word at a place names: behind the row's own, class files
+abbrev pub file_at : Row → ℕ → FileWord
+file_at row place = get_or row.files place Class
+
+-- how many files there are: of class files 1 to 256
+abbrev pub least_files : Row → ℕ
+least_files row = length row.files + (if row.classes then 1 else 0)
+
+abbrev pub most_files : Row → ℕ
+most_files row = length row.files + (if row.classes then most_classes else 0)
+
+-- the number is in the row's range
+abbrev pub IsInRange : NumberWord → ℕ → Type 0
+IsInRange Absent number = number ≡ 0
+IsInRange (Needed name range) number = (range.least ≤ number) × (number ≤ range.most)
+IsInRange (Optional option range otherwise) number = (range.least ≤ number) × (number ≤ range.most)
+
+-- the request's number is in the range of its row, and there are as many files as the row has
+abbrev pub Takes : Request → ℕ → Type 0
+Takes request count = IsInRange (row_at request).number (number_of request) × (least_files (row_at request) ≤ count)
+    × (count ≤ most_files (row_at request))
