@@ -5,8 +5,8 @@ mod Places
 pub mod Plainly
 mod Turning
 mod Closing
-mod Renumbered
-mod Spending
+pub mod Renumbered
+pub mod Spending
 mod Starting
-mod Charging
+pub mod Charging
 mod Parting

@@ -1,8 +1,13 @@
 //! Which forms are looked for.
 ghost use Rattle.std.specs.Prelude.{◌≤◌, List, IfOk, length};
 ghost use Rattle.descent.specs.declared.rules.PathRule.{PathRule};
+ghost use Rattle.descent.specs.Conditions.{AreRules};
+ghost use Rattle.rank_forms.specs.Graphs.{ArePathRules};
+ghost use Rattle.rank_search.specs.Plain.{NoPlainForm};
+ghost use Rattle.chain_proofs.specs.Stuck.{HasNoForm};
 ghost use Rattle.chain_proofs.specs.Sets.{RanksOwn};
 
+use cut_search::by_rows;
 use descent::{PathRule, RankStep};
 use rank_search::{linear, plain};
 use std::alloc::{AllocError, Global};
@@ -29,7 +34,29 @@ pub trait Forms {
         ensures { IfOk result (RanksOwn none rules.now) };
 }
 
-/// Plain forms, and where none ranks the rules, linear ones.
+/// A step of a form that may differ from cut to cut, where no plain form and no stepwise one ranks the rules.
+fn other_step(alloc: Global, rules: &[PathRule]) -> Result<Option<RankStep>, AllocError>
+    requires rules { AreRules rules.now }
+    requires none { HasNoForm rules.now }
+    ensures { IfOk result (RanksOwn HasNoForm rules.now) }
+{
+    by_rows(alloc, rules)
+}
+
+/// A step of a linear form, where no plain form ranks the rules: of one that is the same at every cut, else of one that may differ.
+fn linear_step(alloc: Global, rules: &[PathRule]) -> Result<Option<RankStep>, AllocError>
+    requires rules { ArePathRules rules.now }
+    requires plain { NoPlainForm rules.now }
+    ensures { IfOk result (RanksOwn HasNoForm rules.now) }
+{
+    match linear(alloc, rules)? {
+        Some(step) => Ok(Some(step)),
+        None => other_step(alloc, rules),
+    }
+}
+
+/// Plain forms, and where none ranks the rules, linear ones: stepwise ones, then sums of what falls that are the same at every cut, then
+/// forms that may differ from cut to cut.
 #[derive(Clone, Copy)]
 pub struct PathForms;
 
@@ -47,7 +74,7 @@ impl Forms for PathForms {
     fn step(&self, alloc: Global, rules: &[PathRule]) -> Result<Option<RankStep>, AllocError> {
         match plain(alloc, rules)? {
             Some(step) => Ok(Some(step)),
-            None => linear(alloc, rules),
+            None => linear_step(alloc, rules),
         }
     }
 }

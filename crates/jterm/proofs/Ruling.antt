@@ -16,7 +16,7 @@ use Rattle.its_call.specs.Lines.{yes_line}
 use Rattle.input_steps.specs.declared.refused.Refused.{Refused}
 use Rattle.jterm.specs.declared.verdict.Verdict.{Verdict}
 use Rattle.jterm.specs.Decision.{Ruled, Says, rules_refusal, left_for}
-use Rattle.jterm.specs.Laws.{HasReason}
+use Rattle.jterm.specs.Decision.{HasReason}
 
 pub ruled : (text : List ℕ) (answer : ItsAnswer) → Answers text (Ok answer)
     → Ruled text (Ok (record { status = answer.status; out = answer.out; reason = None; its = answer.left }))

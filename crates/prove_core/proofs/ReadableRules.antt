@@ -24,7 +24,7 @@ use Rattle.path_rules.proofs.Finding.{ids_in_cells}
 use Rattle.path_rules.proofs.PatternLists.{pattern_first, pattern_later}
 use Rattle.path_rules.proofs.Ready.{stop_is, good_along}
 use Rattle.path_rules.proofs.Walking.{IsGoodStop, good_first, last_good}
-use Rattle.cert_laws.specs.ReadableRules.{IsReadableRule, AreReadableRules}
+use Rattle.prove_core.specs.ReadableRules.{IsReadableRule, AreReadableRules}
 use Rattle.prove_core.proofs.Ends.{high_id, end_stop}
 use Rattle.prove_core.proofs.Plain.{zip_all}
 

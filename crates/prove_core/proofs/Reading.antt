@@ -28,12 +28,12 @@ use Rattle.cert_verdict.specs.declared.verdict.CertVerdict.{CertVerdict}
 use Rattle.cert_verdict.specs.declared.verdict.CertVerdict.TheVariants.{Accepted, Refused, NoText}
 use Rattle.cert_verdict.specs.Verdicts.{SaysFaulty, SaysNone, Judges}
 use Rattle.cert_verdict.proofs.OneText.{same_content, never_none, valid_or_fault}
-use Rattle.cert_laws.specs.Stored.{IsStoredGraph}
-use Rattle.cert_laws.proofs.Names.{names_differ}
-use Rattle.cert_laws.proofs.NodeCounts.{few_ids}
-use Rattle.cert_laws.proofs.Parts.{written_parts}
-use Rattle.cert_laws.proofs.States.{good_graphs_are_readable}
-use Rattle.cert_laws.proofs.Steps.{proofs_are_readable}
+use Rattle.prove_core.specs.Stored.{IsStoredGraph}
+use Rattle.prove_core.proofs.Names.{names_differ}
+use Rattle.prove_core.proofs.NodeCounts.{few_ids}
+use Rattle.prove_core.proofs.Parts.{written_parts}
+use Rattle.prove_core.proofs.States.{good_graphs_are_readable}
+use Rattle.prove_core.proofs.Steps.{proofs_are_readable}
 use Rattle.prove_core.specs.Heads.{is_head}
 use Rattle.prove_core.specs.Words.{aim_of, IsProved}
 use Rattle.prove_core.proofs.ReadableRules.{rules_are_readable}

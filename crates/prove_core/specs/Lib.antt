@@ -6,3 +6,6 @@ pub mod Answers
 pub mod Words
 pub mod ShortLinks
 pub mod PlainRules
+pub mod ReadableRules
+pub mod Stored
+pub mod TextLaws

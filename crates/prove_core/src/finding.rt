@@ -10,9 +10,9 @@ ghost use Rattle.prove_core.specs.Answers.{SearchesOr};
 ghost use Rattle.prove_core.specs.Words.{aim_of, IsProved};
 
 use crate::found::{Cert, Found, Reason, SearchFault};
+use crate::stored::graph_is_stored;
 use abs_cells::{AbsState, Pairs};
 use cert_form::{ClassNames, MOST_CERTIFICATE_BYTES};
-use cert_laws::graph_is_stored;
 use cert_verdict::{CertVerdict, judged};
 use cert_write::encode;
 use class_program::Program;

@@ -10,6 +10,8 @@ mod grower;
 mod heads;
 mod plain_rules;
 mod searching;
+mod stored;
+mod text_laws;
 
 pub use chain_proofs::LeftRule;
 pub use found::{Cert, Found, Reason, SearchFault};
@@ -17,3 +19,6 @@ pub use plain_rules::{
     good_graph_rules_are_plain, links_are_short, path_rules_are_plain, some_rules_are_plain,
 };
 pub use searching::search;
+pub use text_laws::{
+    disciplined_graphs_have_few_ids, good_graphs_are_readable, proofs_are_readable,
+};

@@ -3,13 +3,11 @@
 
 mod asking;
 mod candidates;
-mod fractions;
 mod graph_rules;
 mod plain_steps;
 mod searching;
 mod several;
 mod stepping;
-mod tableau;
 
 pub use asking::{linear, plain};
 pub use graph_rules::are_plain_rules;

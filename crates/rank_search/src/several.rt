@@ -4,12 +4,14 @@ ghost use Rattle.descent.specs.Conditions.{AreRules};
 ghost use Rattle.rank_forms.specs.RankSteps.{IsRankStep};
 
 use crate::asking::shown;
-use crate::fractions::Fraction;
-use crate::tableau::Tableau;
 use descent::{PathRule, Place, RankStep};
 use list_views::Seq;
 use rule_links::{Course, Part, change_table, first_places, negated, size_table, step_table};
+use simplex::{Fraction, Tableau, common_of};
 use std::alloc::{AllocError, Global};
+
+/// The most exchanges that are made.
+const MOST: u32 = 10_000;
 
 /// A part with what it falls by along each rule.
 #[derive(Drop)]
@@ -258,11 +260,6 @@ fn common(columns: &[Column], tableau: &Tableau) -> Option<i128> {
     Some(common)
 }
 
-/// A number that a number divides, and so does the denominator of a fraction.
-fn common_of(number: i128, fraction: &Fraction) -> Option<i128> {
-    number.checked_mul(Fraction::of(number, fraction.below())?.below())
-}
-
 /// The part so many times.
 fn part_times(part: &Part, multiple: &Fraction, common: i128) -> Option<Part> {
     let by = common.checked_div(multiple.below())?;
@@ -304,7 +301,7 @@ fn several_parts(alloc: Global, rules: &[PathRule]) -> Result<Option<Seq<Part>>,
     let Some(mut tableau) = tableau_of(alloc, rules.len(), columns.as_slice())? else {
         return Ok(None);
     };
-    if tableau.raise(alloc)? {
+    if tableau.raise(alloc, MOST)? {
         parts_of(alloc, columns.as_slice(), &tableau)
     } else {
         Ok(None)

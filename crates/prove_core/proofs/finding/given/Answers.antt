@@ -1,11 +1,10 @@
 use Rattle.std.proofs.Common.{ℕ, List, Ok, sym, subst, arith}
-use Rattle.std.specs.Prelude.{IfOk}
 use Rattle.class_program.specs.Views.{program_of}
 use Rattle.code_verify.specs.Typings.{typing_at}
 use Rattle.cert_form.specs.Certificates.{cert_of, SaysOf}
 use Rattle.cert_write.specs.Data.{content_of}
 use Rattle.prove_core.specs.Answers.{SaysValid}
-use Rattle.prove_core.specs.Words.{aim_of}
+use Rattle.prove_core.specs.Words.{aim_of, IsProved}
 use Rattle.prove_core.proofs.Giving.{is_certificate}
 use Rattle.prove_core.proofs.Reading.{readable, only_accepted}
 use Rattle.prove_core.proofs.finding.given.Goals as goal
@@ -28,10 +27,11 @@ unreachable-requires g c =
     let cuts = c.as_slice.result.now in
     let steps = c.args.cert.proof.steps in
     let names = c.args.names.now in
-    let is = readable p typing root graph cuts steps c.requires.proved c.links_fit.ensures c.is_good.ensures.good c.is_good.ensures.closed
+    let proved = subst (λ (cs : List ℕ). IsProved (aim_of p typing root) graph cs steps) (sym c.as_slice.ensures) c.requires.proved in
+    let is = readable p typing root graph cuts steps proved c.links_fit.ensures c.is_good.ensures.good c.is_good.ensures.closed
     c.is_good.ensures.widths c.requires.typing c.requires.few c.requires.root_ids c.graph_is_stored.ensures names c.requires.names
     c.requires.own_names in
     let says = subst (λ (bytes : List ℕ). SaysOf (cert_of names) bytes (Ok (content_of graph cuts steps))) (sym c.as_slice-2.ensures)
     (c.in_ok-bytes.ensures.again is) in
-    c.in_default.not-Accepted (only_accepted p typing root graph cuts steps c.requires.proved names c.as_slice-2.result.now says
+    c.in_default.not-Accepted (only_accepted p typing root graph cuts steps proved names c.as_slice-2.result.now says
     c.in_ok-verdict.verdict c.in_ok-verdict.ensures)

@@ -1,7 +1,0 @@
-use Rattle.std.proofs.Common.{take}
-use Rattle.std.specs.Prelude.{All}
-use Rattle.cert_laws.specs.Stored.{IsStoredFrame}
-use Rattle.cert_laws.proofs.stored.frames_are_stored.Given as goal
-
-abbrev pub invariant-loop-one : goal.invariant-loop-one
-invariant-loop-one l = All IsStoredFrame (take l.one-index l.frames)

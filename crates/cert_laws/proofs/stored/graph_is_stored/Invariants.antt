@@ -1,7 +1,0 @@
-use Rattle.std.proofs.Common.{take}
-use Rattle.std.specs.Prelude.{All}
-use Rattle.cert_laws.specs.Stored.{IsStored, IsStoredGraph}
-use Rattle.cert_laws.proofs.stored.graph_is_stored.Given as goal
-
-abbrev pub invariant-loop-n : goal.invariant-loop-n
-invariant-loop-n g l = IsStoredGraph (take l.n l.graph)

@@ -1,4 +1,0 @@
-pub mod ReadableRules
-pub mod Stored
-pub mod Laws
-pub mod GraphLaws
