@@ -48,13 +48,13 @@ LAYER = {
     crate: layer for layer, crates_of in {
         'base': 'list_views io_ports json_view input_text text_lines number_graphs lin_core',
         'class files': 'class_base class_pool code_forms code_decode class_read class_world class_program input_desc call_graph op_forms '
-                       'asm_lines asm_codes asm_pool class_asm',
+                       'asm_lines asm_codes asm_pool class_asm generate_text generate_laws',
         'machine': 'jvm_values jvm_heaps frame_types jvm_step code_verify jvm_run',
         'abstract states': 'abs_cells abs_reach abs_sound abs_equal abs_heap abs_match abs_widen term_graph abs_ints term_enc '
                            'abs_turns abs_rows abs_plans abs_expand',
         'certificates': 'input_root descent form_steps object_steps step_laws its_front its_search its_call steady_plans one_expansion graph_check graph_fill plan_links cert_check '
                         'cert_form cert_write path_rules graph_build rule_links rank_forms rank_search chain_proofs prove_core',
-        'program': 'input_steps run_call describe desc_steps prove_call check_call jterm',
+        'program': 'input_steps asm_call run_call describe desc_steps prove_call check_call jterm',
     }.items() for crate in crates_of.split()
 }
 # What the thirteen crates of the first measurement have become, each with its share of the tests.

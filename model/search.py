@@ -1,9 +1,11 @@
 """The search for a certificate.
 
 Reads again: crates/graph_build/specs, crates/chain_proofs/specs, and what the search above them gives.
-Linear forms over several ints aren't looked for.
+Linear forms over several ints that are the same at every cut aren't looked for: one that may differ from cut to cut is found where there
+is one of them.
 """
 import certificates
+import cut_forms
 import rank_steps
 import ranking
 from paths import *
@@ -105,7 +107,7 @@ def step_for(rules):
     if form is not None:
         return rank_steps.step_ints(rules, list(zip(form[1::2], form[2::2])))
     form = ranking.stepwise(rules)
-    return None if form is None else rank_steps.step_stepwise(rules, *form)
+    return cut_forms.step(rules) if form is None else rank_steps.step_stepwise(rules, *form)
 
 
 def classes_of(rules, numbers):

@@ -1,4 +1,4 @@
-pub mod Judging
+pub mod Steps
 pub mod OneText
 pub mod Paths
 pub mod Rules

@@ -1,13 +1,9 @@
 -- Bytes say one thing; so a certificate that they say, and that is valid once it is filled, is accepted.
-use Rattle.std.proofs.Common.{◌≡◌, ◌∙◌, ℕ, List, Result, Ok, Err, refl, sym, ap, subst}
+use Rattle.std.proofs.Common.{◌≡◌, ◌∙◌, ℕ, List, Result, Ok, Err, sym, ap}
 use Rattle.list_views.proofs.Options.{one_answer}
 use Rattle.serde_json.specs.Data.{Data}
 use Rattle.json_view.specs.Located.{root_of}
 use Rattle.json_view.specs.declared.fault.JsonFault.TheVariants as json
-use Rattle.abs_cells.specs.AbstractStates.{AbstractState}
-use Rattle.class_program.specs.Programs.{Program}
-use Rattle.frame_types.specs.Tables.{CodeTypes}
-use Rattle.term_graph.specs.Graphs.{GraphNode}
 use Rattle.cert_form.specs.Answers.{Reader}
 use Rattle.cert_form.specs.declared.fault.CertFault.{CertFault}
 use Rattle.cert_form.specs.declared.fault.CertFault.TheVariants as certs
@@ -15,9 +11,8 @@ use Rattle.cert_form.specs.Certificates.{CertContent, cert_of, SaysOf}
 use Rattle.cert_check.specs.declared.refusal.Cause.{Cause}
 use Rattle.cert_check.specs.declared.refusal.Refusal.{Refusal}
 use Rattle.cert_check.specs.declared.refusal.Refusal.TheVariants as refusals
-use Rattle.cert_check.specs.Parts.{case_of}
 use Rattle.cert_check.specs.Valid.{Case, IsValid, IsFirstFault}
-use Rattle.cert_verdict.specs.Verdicts.{SaysFaulty, SaysNone}
+use Rattle.cert_verdict.specs.Verdicts.{SaysNone}
 use Rattle.cert_verdict.proofs.VerdictLaw.{verdicts_one}
 
 said_one : {A : Type 0} (reader : Reader A) (bytes : List ℕ) (a b : Result A CertFault) → SaysOf reader bytes a

@@ -1,5 +1,5 @@
 -- The verdict on the bytes of a certificate.
-use Rattle.std.specs.Prelude.{ℕ, List, Result, Ok, Err}
+use Rattle.std.specs.Prelude.{ℕ, List, Ok, Err}
 use Rattle.abs_cells.specs.AbstractStates.{AbstractState}
 use Rattle.class_program.specs.Programs.{Program}
 use Rattle.frame_types.specs.Tables.{CodeTypes}
@@ -38,9 +38,8 @@ abbrev pub SaysNone : List (List ℕ) → List ℕ → CertFault → Type 0
 SaysNone names bytes certs.Memory = ⊥
 SaysNone names bytes fault = AnswersText (cert_of names) bytes (Err fault)
 
--- the verdict. Want of memory says nothing
-abbrev pub Judges : {E : Type 0} → Program → (ℕ → CodeTypes) → AbstractState → List (List ℕ) → List ℕ → Result CertVerdict E → Type 0
-Judges p typing root names bytes (Ok Accepted) = SaysValid p typing root names bytes
-Judges p typing root names bytes (Ok (Refused item cause)) = SaysFaulty p typing root names bytes item cause
-Judges p typing root names bytes (Ok (NoText fault)) = SaysNone names bytes fault
-Judges p typing root names bytes (Err error) = Unit {0}
+-- the verdict
+abbrev pub Judges : Program → (ℕ → CodeTypes) → AbstractState → List (List ℕ) → List ℕ → CertVerdict → Type 0
+Judges p typing root names bytes Accepted = SaysValid p typing root names bytes
+Judges p typing root names bytes (Refused item cause) = SaysFaulty p typing root names bytes item cause
+Judges p typing root names bytes (NoText fault) = SaysNone names bytes fault

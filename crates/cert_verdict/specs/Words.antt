@@ -1,5 +1,5 @@
 -- Words for the calls that check nodes and what a certificate says.
-use Rattle.std.specs.Prelude.{ℕ, List, Result, Ok, Err}
+use Rattle.std.specs.Prelude.{ℕ, List}
 use Rattle.abs_cells.specs.AbstractStates.{AbstractState}
 use Rattle.class_program.specs.Programs.{Program}
 use Rattle.frame_types.specs.Tables.{CodeTypes}
@@ -14,16 +14,12 @@ use Rattle.cert_verdict.specs.declared.verdict.CertVerdict.{CertVerdict}
 use Rattle.cert_verdict.specs.declared.verdict.CertVerdict.TheVariants.{Accepted, Refused, NoText}
 
 -- the verdict on nodes with cuts and a proof
-abbrev pub IsChecked : {E : Type 0} → Program → (ℕ → CodeTypes) → AbstractState → List GraphNode → List ℕ → List ProofStep → Result CertVerdict E
-    → Type 0
-IsChecked p typing root nodes cuts steps (Ok Accepted) = IsValid (case_of p typing root nodes cuts steps)
-    × IsCertified p typing nodes cuts root
-IsChecked p typing root nodes cuts steps (Ok (Refused item cause)) = IsFirstFault (case_of p typing root nodes cuts steps) item cause
-IsChecked p typing root nodes cuts steps (Ok (NoText fault)) = ⊥
-IsChecked p typing root nodes cuts steps (Err error) = Unit {0}
+abbrev pub IsChecked : Program → (ℕ → CodeTypes) → AbstractState → List GraphNode → List ℕ → List ProofStep → CertVerdict → Type 0
+IsChecked p typing root nodes cuts steps Accepted = IsValid (case_of p typing root nodes cuts steps) × IsCertified p typing nodes cuts root
+IsChecked p typing root nodes cuts steps (Refused item cause) = IsFirstFault (case_of p typing root nodes cuts steps) item cause
+IsChecked p typing root nodes cuts steps (NoText fault) = ⊥
 
 -- the verdict on what a certificate says: its nodes are filled, and then it is checked
-abbrev pub IsOfContent : {E : Type 0} → Program → (ℕ → CodeTypes) → AbstractState → CertContent → Result CertVerdict E → Type 0
-IsOfContent p typing root content (Ok verdict) = (nodes : List GraphNode) × (IsFilledGraph p typing content.parts nodes
-    × IsChecked p typing root nodes content.cuts content.proof (Ok verdict))
-IsOfContent p typing root content (Err error) = Unit {0}
+abbrev pub IsOfContent : Program → (ℕ → CodeTypes) → AbstractState → CertContent → CertVerdict → Type 0
+IsOfContent p typing root content verdict = (nodes : List GraphNode) × (IsFilledGraph p typing content.parts nodes
+    × IsChecked p typing root nodes content.cuts content.proof verdict)

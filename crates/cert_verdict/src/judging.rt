@@ -1,5 +1,5 @@
 //! Reading, filling and checking the bytes of a certificate.
-ghost use Rattle.std.specs.Prelude.{◌≤◌, ◌^◌, ◌-◌, length};
+ghost use Rattle.std.specs.Prelude.{◌≤◌, ◌^◌, ◌-◌, length, IfOk};
 ghost use Rattle.class_program.specs.Views.{program_of};
 ghost use Rattle.code_verify.specs.Typings.{IsTypingOf, typing_at};
 ghost use Rattle.descent.specs.Conditions.{AreSteps};
@@ -32,7 +32,7 @@ fn checked<P: Pairs, N: NodeSource<P>>(
     requires typing { IsTypingOf (program_of program.now) (typing_at typing.now) }
     requires few { length (N.graph nodes.old) ≤ 2 ^ 32 - 16 }
     requires steps { AreSteps proof.now.steps }
-    ensures { IsChecked (program_of program.now) (typing_at typing.now) root.now (N.graph nodes.old) cuts.now proof.now.steps result }
+    ensures { IfOk result (IsChecked (program_of program.now) (typing_at typing.now) root.now (N.graph nodes.old) cuts.now proof.now.steps) }
 {
     match check_cert(alloc, program, typing, nodes, root, cuts, proof) {
         Ok(()) => Ok(CertVerdict::Accepted),
@@ -42,7 +42,7 @@ fn checked<P: Pairs, N: NodeSource<P>>(
 }
 
 /// The verdict on what a certificate says.
-#[tactic(auto, using(graph_fill::proofs::Lacking::few_filled, crate::proofs::Judging::of_content))]
+#[tactic(auto, using(graph_fill::proofs::Lacking::few_filled, crate::proofs::Steps::of_content))]
 fn of_text<P: Pairs>(
     alloc: Global,
     program: &Program<'_>,
@@ -54,7 +54,7 @@ fn of_text<P: Pairs>(
     requires named { LackingAreNamed text.now.parts }
     requires few { length text.now.parts ≤ most_nodes }
     requires steps { AreSteps text.now.proof }
-    ensures { IsOfContent (program_of program.now) (typing_at typing.now) root.now text.now result }
+    ensures { IfOk result (IsOfContent (program_of program.now) (typing_at typing.now) root.now text.now) }
 {
     let mut nodes = filled::<P, _>(alloc, program, typing, text)?;
     nodes.begin(true);
@@ -75,7 +75,7 @@ fn of_text<P: Pairs>(
 /// # Errors
 ///
 /// Want of memory.
-#[tactic(auto, using(crate::proofs::Judging::of_bytes, crate::proofs::Judging::no_text))]
+#[tactic(auto, using(crate::proofs::Steps::of_bytes, crate::proofs::Steps::no_text))]
 pub fn judged<P: Pairs>(
     alloc: Global,
     program: &Program<'_>,
@@ -85,7 +85,7 @@ pub fn judged<P: Pairs>(
     bytes: &[u8],
 ) -> Result<CertVerdict, AllocError>
     requires { IsTypingOf (program_of program.now) (typing_at typing.now) }
-    ensures { Judges (program_of program.now) (typing_at typing.now) root.now names.now bytes.now result }
+    ensures { IfOk result (Judges (program_of program.now) (typing_at typing.now) root.now names.now bytes.now) }
 {
     match CertText::read(alloc, bytes, names) {
         Ok(text) => of_text(alloc, program, typing, root, &text),

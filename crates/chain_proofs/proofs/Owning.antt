@@ -1,15 +1,8 @@
 -- Rules of a set as values of their own; items beside one another, one more.
-use Rattle.std.proofs.Common.{◌≡◌, ◌+◌, ℕ, zero, suc, List, [], ◌∷◌, ◌++◌, take, Option, Some, None, Result, Ok, Err, IfOk, IfSome}
+use Rattle.std.proofs.Common.{◌≡◌, ◌+◌, ℕ, zero, suc, List, [], ◌∷◌, ◌++◌, take, Some}
 use Rattle.std.proofs.Common.{slice_get, refl, sym, subst, arith}
 use Rattle.std.specs.List.{AllZip}
 use Rattle.std.proofs.lemmas.Option.{none-some, same_Some}
-use Rattle.descent.specs.declared.proof.RankStep.{RankStep}
-use Rattle.descent.specs.declared.rules.PathRule.{PathRule}
-use Rattle.rank_search.specs.Plain.{NoPlainForm}
-use Rattle.rank_search.specs.Stepwise.{NoStepwiseForm}
-use Rattle.rank_forms.specs.RankSteps.{IsRankStep}
-use Rattle.chain_proofs.specs.Stuck.{HasNoForm}
-use Rattle.chain_proofs.specs.Sets.{RanksOwn}
 
 zip_next : {A B : Type 0} (R : A → B → Type 0) (xs : List A) (ys : List B) (i : ℕ) (x : A) (y : B) → slice_get xs i ≡ Some x
     → AllZip R (take i xs) ys → R x y → AllZip R (take (suc i) xs) (ys ++ y ∷ [])
@@ -34,12 +27,3 @@ zip_pushed {A} {B} R xs ys more x y e h r = subst (AllZip R (xs ++ x ∷ [])) (s
     go [] (b ∷ bs) k = absurd k
     go (a ∷ rest) [] k = absurd k
     go (a ∷ rest) (b ∷ bs) k = (k.0, go rest bs k.1)
-
--- ---- forms
-
-pub linear_found : {E : Type 0} (own : List PathRule) (result : Result (Option RankStep) E) → NoPlainForm own
-    → IfOk result (λ found. IfSome found (λ step. IsRankStep own step)) → IfOk result (λ found. found ≡ None → NoStepwiseForm own)
-    → IfOk result (RanksOwn HasNoForm own)
-linear_found own (Ok (Some step)) none found missing = found
-linear_found own (Ok None) none found missing = record { plain = none; stepwise = missing refl }
-linear_found own (Err e) none found missing = tt

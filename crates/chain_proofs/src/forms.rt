@@ -40,7 +40,10 @@ fn other_step(alloc: Global, rules: &[PathRule]) -> Result<Option<RankStep>, All
     requires none { HasNoForm rules.now }
     ensures { IfOk result (RanksOwn HasNoForm rules.now) }
 {
-    by_rows(alloc, rules)
+    match by_rows(alloc, rules)? {
+        Some(step) => Ok(Some(step)),
+        None => Ok(None),
+    }
 }
 
 /// A step of a linear form, where no plain form ranks the rules: of one that is the same at every cut, else of one that may differ.

@@ -59,8 +59,8 @@ module _ (cert : List ℕ) (p : Program) (typing : ℕ → CodeTypes) (desc : De
   text_answers certs.Memory (Err (At place fault)) h s = absurd h
   text_answers fault (Err Memory) h s = tt
 
-  answers : {E : Type 0} (verdict : CertVerdict) (result : Answer)
-      → Judges {E = E} p typing (initial_of p desc) (names_of p.world) cert (Ok verdict) → IsSaid verdict result
+  answers : (verdict : CertVerdict) (result : Answer)
+      → Judges p typing (initial_of p desc) (names_of p.world) cert verdict → IsSaid verdict result
       → AnswersCert cert p typing desc result
   answers Accepted (Ok outcome) h s = inr (h.content, (h.says, (h.nodes, (h.filled, inl (h.valid, s)))))
   answers (RefusedAt item cause) (Ok outcome) h s = inr
@@ -71,19 +71,19 @@ module _ (cert : List ℕ) (p : Program) (typing : ℕ → CodeTypes) (desc : De
   answers Accepted (Err Memory) h s = tt
   answers (RefusedAt item cause) (Err Memory) h s = tt
 
-  module _ {E : Type 0} (names : List (List ℕ)) (root : AbstractState) (verdict : CertVerdict) (result : Answer)
+  module _ (names : List (List ℕ)) (root : AbstractState) (verdict : CertVerdict) (result : Answer)
       (names_are : names ≡ names_of p.world) (root_is : root ≡ initial_of p desc)
-      (judges : Judges {E = E} p typing root names cert (Ok verdict)) (said : IsSaid verdict result) where
-    own : Judges {E = E} p typing (initial_of p desc) (names_of p.world) cert (Ok verdict)
-    own = subst (λ (s : AbstractState). Judges {E = E} p typing s (names_of p.world) cert (Ok verdict)) root_is
-        (subst (λ (ns : List (List ℕ)). Judges {E = E} p typing root ns cert (Ok verdict)) names_are judges)
+      (judges : Judges p typing root names cert verdict) (said : IsSaid verdict result) where
+    own : Judges p typing (initial_of p desc) (names_of p.world) cert verdict
+    own = subst (λ (s : AbstractState). Judges p typing s (names_of p.world) cert verdict) root_is
+        (subst (λ (ns : List (List ℕ)). Judges p typing root ns cert verdict) names_are judges)
 
     pub said_answers : AnswersCert cert p typing desc result
-    said_answers = answers {E = E} verdict result own said
+    said_answers = answers verdict result own said
 
     pub said_ends : CertifiedRunsEnd → IsClosed p → HasWidths p → IsTypingOf p typing → IsOwnDesc p desc → EndsIfAccepted p desc result
     said_ends law closed widths typing_is described accepts state fits =
         let valid : SaysValid p typing (initial_of p desc) (names_of p.world) cert = subst
-        (λ (v : CertVerdict). Judges {E = E} p typing (initial_of p desc) (names_of p.world) cert (Ok v))
+        (λ (v : CertVerdict). Judges p typing (initial_of p desc) (names_of p.world) cert v)
         (accepts_alone verdict result said accepts) own in
         law p typing desc valid.nodes valid.content.cuts closed widths typing_is described valid.certified state fits

@@ -51,7 +51,7 @@ fn said(alloc: Global, verdict: CertVerdict) -> Result<Outcome, Refused>
 }
 
 /// What is said of the bytes of a certificate for a program whose inputs are described.
-#[tactic(auto, using(crate::proofs::Saying::said_answers, crate::proofs::Saying::said_ends))]
+#[tactic(auto, using(crate::proofs::Saying::said_answers))]
 pub(crate) fn check_bytes(
     alloc: Global,
     program: &Program<'_>,

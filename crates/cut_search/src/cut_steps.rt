@@ -73,7 +73,8 @@ fn without(alloc: Global, rule: &Reduced, sum: &[(usize, i64)]) -> Result<Sum, S
         if entry.0 < rule.vars {
             let sign = sign_of(entry.1);
             let row = bound_of(rule, entry.0, sign).ok_or(Stop::NoForm)?;
-            let less = plus_times(0, entry.1, -sign).ok_or(Stop::NoForm)?;
+            let size = entry.1.checked_mul(sign).ok_or(Stop::NoForm)?;
+            let less = size.checked_neg().ok_or(Stop::NoForm)?;
             left = added(
                 alloc,
                 left.as_slice(),
@@ -85,12 +86,17 @@ fn without(alloc: Global, rule: &Reduced, sum: &[(usize, i64)]) -> Result<Sum, S
     Ok(left)
 }
 
+/// The row that a number stands for.
+fn row_of(number: usize, vars: usize) -> Option<u32> {
+    u32::try_from(number.checked_sub(vars)?.checked_sub(1)?).ok()
+}
+
 /// The rows that a sum without variables counts, each as often as it is taken off.
 fn taken_rows(alloc: Global, sum: &[(usize, i64)], vars: usize) -> Result<Seq<(u32, i64)>, Stop> {
     let mut rows = Seq::new(alloc);
     for entry in sum {
         if entry.0 > vars {
-            let row = u32::try_from(entry.0 - vars - 1).ok().ok_or(Stop::NoForm)?;
+            let row = row_of(entry.0, vars).ok_or(Stop::NoForm)?;
             rows.push((row, entry.1.checked_neg().ok_or(Stop::NoForm)?))?;
         }
     }

@@ -1,5 +1,5 @@
 -- From what each step says to the answer.
-use Rattle.std.proofs.Common.{◌≡◌, ◌∙◌, ◌⊎◌, ℕ, List, Result, Ok, Err, inl, inr, refl, sym, ap, subst}
+use Rattle.std.proofs.Common.{◌≡◌, ℕ, List, Result, Ok, Err, inl, inr, refl, sym, subst}
 use Rattle.std.specs.Prelude.{IfOk, IsTrue}
 use Rattle.std.specs.List.{list_all}
 use Rattle.class_base.specs.ClassNames.{is_class_name}
@@ -19,85 +19,116 @@ use Rattle.input_steps.specs.declared.refused.Refused.TheVariants.{At, Memory}
 use Rattle.input_steps.specs.declared.refused.Place.{Place}
 use Rattle.input_steps.specs.declared.refused.Fault.{Fault}
 use Rattle.input_steps.specs.Steps.{IsCaused, Then}
-use Rattle.input_steps.specs.Classes.{AllSpell, RefusesClasses, IsWorldOf, RefusesWorld, reading_classes, linking}
-use Rattle.input_steps.specs.Programs.{IsProgramOf, RefusesProgram, IsAcyclic, RefusesCalls, RefusesTypes, closing, testing_calls}
-use Rattle.input_steps.specs.Programs.{typing_methods}
-use Rattle.input_steps.proofs.Steps.{then_goes, step_refused, step_goes}
+use Rattle.input_steps.specs.Classes.{AllSpell, RefusesClasses, IsWorldOf, RefusesWorld}
+use Rattle.input_steps.specs.Programs.{IsProgramOf, RefusesProgram, IsAcyclic, RefusesCalls, RefusesTypes}
+use Rattle.input_steps.proofs.Steps.{then_refused, then_goes}
 use Rattle.desc_steps.specs.declared.given.DescribedProgram.{DescribedProgram}
 use Rattle.desc_steps.specs.Answers.{Saying, OfFiles}
-use Rattle.desc_steps.specs.Descriptions.{IsDescText, RefusesText, RefusesEntry, IsDesc, RefusesDesc, reading_description}
-use Rattle.desc_steps.specs.Descriptions.{finding_entry, describing}
-use Rattle.desc_steps.specs.Given.{IsGiven}
+use Rattle.desc_steps.specs.Rest.{OfProgram, OfEntry, OfClasses}
+use Rattle.desc_steps.specs.Descriptions.{IsDescText, RefusesText, RefusesEntry, IsDesc, RefusesDesc}
+use Rattle.desc_steps.specs.Given.{IsGiven, OfWorld}
 use Rattle.desc_steps.specs.Headline.{NameProgram, AllFittingEnd, AllEnd}
 use Rattle.desc_steps.specs.Names.{names_of}
 use Rattle.desc_steps.proofs.Naming.{names_are}
-use Rattle.desc_steps.proofs.Rest.{OfTyping, OfCalls, OfProgram, OfEntry, OfWorld, OfClasses, OfText}
 
 abbrev Given : Type 0
 Given = Result DescribedProgram Refused
 
--- ---- the steps, one after another: what is past them, and where each of them refuses
+-- ---- a program
+
+module _ (text : DescText) (p : Program) where
+  abbrev WithDesc : (ℕ → CodeTypes) → Given → Type 0
+  WithDesc typing = Then (IsDesc p text) (RefusesDesc p text) (IsGiven p typing)
+
+  abbrev WithTypes : Given → Type 0
+  WithTypes = Then {A = ℕ → CodeTypes} (IsTypingOf p) (RefusesTypes p) WithDesc
+
+  pub calls_refused : (refused : Refused) → IsCaused (RefusesCalls p) refused → OfProgram IsGiven text p (Err refused)
+  calls_refused refused h = then_refused {A = Unit {0}} (λ nothing. IsAcyclic p) (RefusesCalls p) (λ nothing. WithTypes) refused h
+
+  calls_good : (result : Given) → IsAcyclic p → WithTypes result → OfProgram IsGiven text p result
+  calls_good result a h = then_goes {A = Unit {0}} (λ nothing. IsAcyclic p) (RefusesCalls p) (λ nothing. WithTypes) tt result a h
+
+  pub types_refused : (refused : Refused) → IsAcyclic p → IsCaused (RefusesTypes p) refused → OfProgram IsGiven text p (Err refused)
+  types_refused refused a h = calls_good (Err refused) a
+      (then_refused {A = ℕ → CodeTypes} (IsTypingOf p) (RefusesTypes p) WithDesc refused h)
+
+  types_good : (typing : ℕ → CodeTypes) (result : Given) → IsAcyclic p → IsTypingOf p typing → WithDesc typing result
+      → OfProgram IsGiven text p result
+  types_good typing result a t h = calls_good result a
+      (then_goes {A = ℕ → CodeTypes} (IsTypingOf p) (RefusesTypes p) WithDesc typing result t h)
+
+  pub desc_is_refused : (typing : ℕ → CodeTypes) (refused : Refused) → IsAcyclic p → IsTypingOf p typing
+      → IsCaused (RefusesDesc p text) refused → OfProgram IsGiven text p (Err refused)
+  desc_is_refused typing refused a t h = types_good typing (Err refused) a t
+      (then_refused (IsDesc p text) (RefusesDesc p text) (IsGiven p typing) refused h)
+
+  desc_good : (typing : ℕ → CodeTypes) (desc : Desc) (result : Given) → IsAcyclic p → IsTypingOf p typing → IsDesc p text desc
+      → IsGiven p typing desc result → OfProgram IsGiven text p result
+  desc_good typing desc result a t d h = types_good typing result a t
+      (then_goes (IsDesc p text) (RefusesDesc p text) (IsGiven p typing) desc result d h)
+
+-- all steps give something
+pub program_given : (text : DescText) (given : DescribedProgram) → IsAcyclic (program_of given.program)
+    → IsTypingOf (program_of given.program) (typing_at given.typing) → IsDesc (program_of given.program) text given.desc
+    → OfProgram IsGiven text (program_of given.program) (Ok given)
+program_given text given a t d = desc_good text (program_of given.program) (typing_at given.typing) given.desc (Ok given) a t d
+    (refl, (refl, refl))
+
+-- ---- an entry
+
+pub program_refused : (text : DescText) (world : World) (entry : MethodRef) (refused : Refused)
+    → IsCaused (RefusesProgram world entry) refused → OfEntry IsGiven text world entry (Err refused)
+program_refused text world entry refused h = then_refused (IsProgramOf world entry) (RefusesProgram world entry)
+    (OfProgram IsGiven text) refused h
+
+pub entry_goes : (text : DescText) (world : World) (entry : MethodRef) (p : Program) (result : Given) → IsProgramOf world entry p
+    → OfProgram IsGiven text p result → OfEntry IsGiven text world entry result
+entry_goes text world entry p result is h = then_goes (IsProgramOf world entry) (RefusesProgram world entry)
+    (OfProgram IsGiven text) p result is h
+
+-- ---- classes
+
+module _ (text : DescText) where
+  abbrev IsNamed : World → MethodRef → Type 0
+  IsNamed world entry = entry_of world text.entry ≡ Ok entry
+
+  pub world_refused : (classes : List ClassContent) (refused : Refused) → IsCaused (RefusesWorld classes) refused
+      → OfClasses IsGiven text classes (Err refused)
+  world_refused classes refused h = then_refused (IsWorldOf classes) (RefusesWorld classes) (OfWorld text) refused h
+
+  pub entry_is_refused : (world : World) (refused : Refused) → IsCaused (RefusesEntry world text) refused
+      → OfWorld text world (Err refused)
+  entry_is_refused world refused h = then_refused (IsNamed world) (RefusesEntry world text) (OfEntry IsGiven text world) refused h
+
+  pub named_goes : (world : World) (entry : MethodRef) (result : Given) → entry_of world text.entry ≡ Ok entry
+      → OfEntry IsGiven text world entry result → OfWorld text world result
+  named_goes world entry result e h = then_goes (IsNamed world) (RefusesEntry world text) (OfEntry IsGiven text world) entry result e h
+
+  pub world_goes : (classes : List ClassContent) (world : World) (result : Given) → IsWorldOf classes world
+      → OfWorld text world result → OfClasses IsGiven text classes result
+  world_goes classes world result w h = then_goes (IsWorldOf classes) (RefusesWorld classes) (OfWorld text) world result w h
+
+-- ---- files
 
 module _ (desc : List ℕ) (files : List (List ℕ)) where
-  pub at_classes : (refused : Refused) → IsCaused (RefusesClasses files) refused → OfFiles IsGiven desc files (Err refused)
-  at_classes refused h = step_refused (reading_classes files) (OfText IsGiven desc) refused h
+  abbrev WithText : List ClassContent → Given → Type 0
+  WithText classes = Then (IsDescText desc) (RefusesText desc) (λ text. OfClasses IsGiven text classes)
 
-  module _ (classes : List ClassContent) (spelled : AllSpell files classes) where
-    past_classes : (result : Given) → OfText IsGiven desc classes result → OfFiles IsGiven desc files result
-    past_classes result h = step_goes (reading_classes files) (OfText IsGiven desc) classes result spelled h
+  pub classes_refused : (refused : Refused) → IsCaused (RefusesClasses files) refused → OfFiles IsGiven desc files (Err refused)
+  classes_refused refused h = then_refused (AllSpell files) (RefusesClasses files) WithText refused h
 
-    pub at_text : (refused : Refused) → IsCaused (RefusesText desc) refused → OfFiles IsGiven desc files (Err refused)
-    at_text refused h = past_classes (Err refused) (step_refused (reading_description desc) (λ text. OfClasses IsGiven text classes)
-        refused h)
+  pub text_is_refused : (classes : List ClassContent) (refused : Refused) → AllSpell files classes
+      → IsCaused (RefusesText desc) refused → OfFiles IsGiven desc files (Err refused)
+  text_is_refused classes refused s h =
+      then_goes (AllSpell files) (RefusesClasses files) WithText classes (Err refused) s
+      (then_refused (IsDescText desc) (RefusesText desc) (λ text. OfClasses IsGiven text classes) refused h)
 
-    module _ (text : DescText) (said : IsDescText desc text) where
-      past_text : (result : Given) → OfClasses IsGiven text classes result → OfFiles IsGiven desc files result
-      past_text result h = past_classes result (step_goes (reading_description desc) (λ text. OfClasses IsGiven text classes) text
-          result said h)
-
-      pub at_world : (refused : Refused) → IsCaused (RefusesWorld classes) refused → OfFiles IsGiven desc files (Err refused)
-      at_world refused h = past_text (Err refused) (step_refused (linking classes) (OfWorld IsGiven text) refused h)
-
-      module _ (world : World) (linked : IsWorldOf classes world) where
-        past_world : (result : Given) → OfWorld IsGiven text world result → OfFiles IsGiven desc files result
-        past_world result h = past_text result (step_goes (linking classes) (OfWorld IsGiven text) world result linked h)
-
-        pub at_entry : (refused : Refused) → IsCaused (RefusesEntry world text) refused → OfFiles IsGiven desc files (Err refused)
-        at_entry refused h = past_world (Err refused) (step_refused (finding_entry world text) (OfEntry IsGiven text world) refused h)
-
-        module _ (entry : MethodRef) (found : entry_of world text.entry ≡ Ok entry) where
-          past_entry : (result : Given) → OfEntry IsGiven text world entry result → OfFiles IsGiven desc files result
-          past_entry result h = past_world result (step_goes (finding_entry world text) (OfEntry IsGiven text world) entry result found h)
-
-          pub at_program : (refused : Refused) → IsCaused (RefusesProgram world entry) refused → OfFiles IsGiven desc files (Err refused)
-          at_program refused h = past_entry (Err refused) (step_refused (closing world entry) (OfProgram IsGiven text) refused h)
-
-          module _ (p : Program) (closed : IsProgramOf world entry p) where
-            past_program : (result : Given) → OfProgram IsGiven text p result → OfFiles IsGiven desc files result
-            past_program result h = past_entry result (step_goes (closing world entry) (OfProgram IsGiven text) p result closed h)
-
-            pub at_calls : (refused : Refused) → IsCaused (RefusesCalls p) refused → OfFiles IsGiven desc files (Err refused)
-            at_calls refused h = past_program (Err refused) (step_refused (testing_calls p) (λ nothing. OfCalls IsGiven text p) refused h)
-
-            module _ (acyclic : IsAcyclic p) where
-              past_calls : (result : Given) → OfCalls IsGiven text p result → OfFiles IsGiven desc files result
-              past_calls result h = past_program result
-                  (step_goes (testing_calls p) (λ nothing. OfCalls IsGiven text p) tt result acyclic h)
-
-              pub at_types : (refused : Refused) → IsCaused (RefusesTypes p) refused → OfFiles IsGiven desc files (Err refused)
-              at_types refused h = past_calls (Err refused) (step_refused (typing_methods p) (OfTyping IsGiven text p) refused h)
-
-              module _ (typing : ℕ → CodeTypes) (typed : IsTypingOf p typing) where
-                past_types : (result : Given) → OfTyping IsGiven text p typing result → OfFiles IsGiven desc files result
-                past_types result h = past_calls result (step_goes (typing_methods p) (OfTyping IsGiven text p) typing result typed h)
-
-                pub at_desc : (refused : Refused) → IsCaused (RefusesDesc p text) refused → OfFiles IsGiven desc files (Err refused)
-                at_desc refused h = past_types (Err refused) (step_refused (describing p text) (IsGiven p typing) refused h)
-
-                pub all_given : (described : Desc) (result : Given) → IsDesc p text described → IsGiven p typing described result
-                    → OfFiles IsGiven desc files result
-                all_given described result is h = past_types result
-                    (step_goes (describing p text) (IsGiven p typing) described result is h)
+  pub files_go : (classes : List ClassContent) (text : DescText) (result : Given) → AllSpell files classes → IsDescText desc text
+      → OfClasses IsGiven text classes result → OfFiles IsGiven desc files result
+  files_go classes text result s t h =
+      then_goes (AllSpell files) (RefusesClasses files) WithText classes result s
+      (then_goes (IsDescText desc) (RefusesText desc) (λ text. OfClasses IsGiven text classes) text result t h)
 
 -- ---- what is said behind these steps
 

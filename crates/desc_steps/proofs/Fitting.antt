@@ -34,7 +34,7 @@ use Rattle.input_desc.specs.declared.desc.Input.{Input}
 use Rattle.input_desc.specs.declared.desc.Input.TheVariants.{Int, Ref}
 use Rattle.input_desc.specs.declared.desc.Desc.{Desc}
 use Rattle.input_desc.specs.Descs.{desc_fault, IsDescribed}
-use Rattle.input_desc.specs.Fitting.{FitsInput, IsListed, FitsDescription}
+use Rattle.input_desc.specs.Fitting.{FitsInput, FitsDescription}
 use Rattle.input_desc.specs.Given.{params_of, statics_of, argument_slot, slots_of}
 use Rattle.input_desc.proofs.Faultless.{counted}
 use Rattle.input_desc.proofs.GoodDescs.{texts_count}

@@ -1,5 +1,5 @@
 -- Values for inputs that can be given, and the objects that they name: the object of each input has the input's number.
-use Rattle.std.proofs.Common.{◌≡◌, ◌∙◌, ◌+◌, ℕ, zero, suc, ℤ, ◌≤ℤ◌, Bool, true, false, cond, List, [], ◌∷◌, length, map}
+use Rattle.std.proofs.Common.{◌≡◌, ◌∙◌, ◌+◌, ℕ, zero, suc, ℤ, ◌≤ℤ◌, Bool, true, false, cond, List, [], ◌∷◌, map}
 use Rattle.std.proofs.Common.{Some, None, slice_get, inl, inr, refl, sym, ap, subst, arith}
 use Rattle.std.specs.Prelude.{int_le, option_map}
 use Rattle.std.specs.Int.{int_max, int_min}

@@ -1,4 +1,3 @@
-pub mod Rest
 pub mod Answering
 pub mod BareHeaps
 pub mod Fitting

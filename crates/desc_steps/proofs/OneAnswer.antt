@@ -1,6 +1,6 @@
 -- Each step gives one thing or refuses for one fault, so an input has one refusal at most, and a command one answer where it says one thing.
-use Rattle.std.proofs.Common.{◌≡◌, ◌∙◌, ◌≤◌, ℕ, zero, suc, List, [], ◌∷◌, length, Option, Some, None, slice_get, Result, Ok, Err}
-use Rattle.std.proofs.Common.{refl, sym, arith}
+use Rattle.std.proofs.Common.{◌≡◌, ◌∙◌, ℕ, List, Option, Some, None, slice_get, Result, Ok}
+use Rattle.std.proofs.Common.{refl, sym}
 use Rattle.std.specs.Prelude.{IsTrue}
 use Rattle.list_views.proofs.Items.{get_past}
 use Rattle.list_views.proofs.Options.{one_answer}
@@ -27,8 +27,8 @@ use Rattle.input_steps.specs.Programs.{IsProgramOf, RefusesProgram, IsAcyclic, R
 use Rattle.input_steps.proofs.OneAnswer.{map_some_one, IsExact, IsOne, at_one, then_one, none_some, classes_exact, world_exact}
 use Rattle.input_steps.proofs.OneAnswer.{program_exact, calls_exact, types_exact}
 use Rattle.input_steps.proofs.OneText.{said_exact, text_exact}
-use Rattle.desc_steps.specs.Answers.{Saying, OfFiles}
-use Rattle.desc_steps.proofs.Rest.{OfProgram, OfEntry, OfClasses}
+use Rattle.desc_steps.specs.Answers.{OfFiles}
+use Rattle.desc_steps.specs.Rest.{OfProgram, OfEntry, OfClasses}
 use Rattle.desc_steps.specs.Descriptions.{IsDescText, RefusesText, RefusesEntry, IsDesc, RefusesDesc}
 
 -- ---- what is described
@@ -67,8 +67,8 @@ typing_exact p linked = record {
 
 -- ---- the whole
 
-module _ {X : Type 0} (Says : Saying X) (one : (p : Program) (typing : ℕ → CodeTypes) (described : Desc)
-    → IsOne (Says p typing described)) where
+module _ {X : Type 0} (Says : Program → (ℕ → CodeTypes) → Desc → Result X Refused → Type 0)
+    (one : (p : Program) (typing : ℕ → CodeTypes) (described : Desc) → IsOne (Says p typing described)) where
   program_one : (text : DescText) (p : Program) → IsClosed p → IsOne (OfProgram Says text p)
   program_one text p closed =
       then_one {A = Unit {0}} (λ nothing. IsAcyclic p) (RefusesCalls p) _ (calls_exact p) (λ nothing a.

@@ -36,7 +36,10 @@ said_of_files Of Other desc files x y a other =
     let program = entry.1.1 in
     let calls = program.1.1 in
     let typing = calls.1.1 in
-    let described = typing.1.1 in
-    let of_typing = (typing.0, (typing.1.0, (described.0, (described.1.0, other)))) in
-    let of_program = (program.0, (program.1.0, (calls.0, (calls.1.0, of_typing)))) in
-    (a.0, (a.1.0, (text.0, (text.1.0, (world.0, (world.1.0, (entry.0, (entry.1.0, of_program))))))))
+    let described = typing.1.1 in (
+      a.0,
+      (
+        a.1.0,
+        (text.0, (text.1.0, (world.0, (world.1.0, (entry.0, (entry.1.0, (program.0, (program.1.0, (calls.0, (calls.1.0, (typing.0, (typing.1.0, (described.0, (described.1.0, other)))))))))))))),
+      ),
+    )

@@ -1,9 +1,9 @@
 -- A listing of blocks that pass their tests says a class.
 use Rattle.std.proofs.Common.{◌≡◌, ◌≤◌, ◌<◌, ℕ, zero, suc, ◌+◌, ◌*◌, ◌^◌, Bool, true, false, ◌&&◌, ◌||◌, cond, eqb, List, []}
 use Rattle.std.proofs.Common.{◌∷◌, ◌++◌, map, length}
-use Rattle.std.proofs.Common.{Option, Some, None, Result, Ok, Err, refl, sym, ap, ◌∙◌, subst, arith, inl, inr, append_assoc, append-nil}
+use Rattle.std.proofs.Common.{Option, Some, None, Ok, refl, sym, ap, ◌∙◌, arith, inl, inr, append_assoc, append-nil}
 use Rattle.std.specs.Prelude.{codes, nat_lt}
-use Rattle.std.specs.List.{list_all, flat_map, fold}
+use Rattle.std.specs.List.{flat_map, fold}
 use Rattle.std.specs.Option.{option_or}
 use Rattle.std.proofs.lemmas.Bool.Decides.{leb_tells, eqb_tells}
 use Rattle.std.proofs.lemmas.List.{map-append}
@@ -12,12 +12,12 @@ use Rattle.std.proofs.lemmas.Grind.{fold-append}
 use Rattle.class_read.specs.Text.{class_bytes}
 use Rattle.class_read.specs.declared.text.ClassText.{ClassText}
 use Rattle.list_views.specs.Results.{◌>>=◌}
-use Rattle.asm_lines.specs.LinesAndWords.{parts, lines_of}
+use Rattle.asm_lines.specs.LinesAndWords.{lines_of}
 use Rattle.asm_lines.specs.Statements.{Said, make_field}
 use Rattle.asm_lines.specs.ClassLines.{plain_class}
 use Rattle.asm_lines.specs.Operations.{all_names}
 use Rattle.asm_lines.specs.Firsts.{with_faults, unless}
-use Rattle.asm_lines.specs.Listings.{make_method, no_lines, outside_of, class_said, lines_said, ended, with_lines}
+use Rattle.asm_lines.specs.Listings.{make_method, no_lines, lines_said, ended}
 use Rattle.asm_lines.specs.Listings.{listing_of as listing_said}
 use Rattle.asm_lines.specs.declared.fault.AsmFault.{AsmFault}
 use Rattle.asm_lines.specs.declared.fault.AsmFault.TheVariants.{OutOfRange}

@@ -11,7 +11,7 @@ use Rattle.asm_lines.specs.declared.fault.AsmFault.{AsmFault}
 use Rattle.asm_codes.specs.Pooled.{Pooled}
 use Rattle.asm_codes.specs.Instructions.{Places, nowhere, insn_in}
 use Rattle.asm_codes.specs.Places.{size_at, end_from, has_label, place_from}
-use Rattle.asm_codes.specs.LineFaults.{item_labels, knows, passes, is_within, item_is_out, is_repeated, entries_of, fault_of}
+use Rattle.asm_codes.specs.LineFaults.{item_labels, knows, passes, is_within, item_is_out, entries_of}
 use Rattle.asm_codes.specs.LineFaults.{line_fault, first_fault_from}
 use Rattle.generate_laws.proofs.Tests.{both, neither, not_true}
 

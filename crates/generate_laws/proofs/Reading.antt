@@ -1,6 +1,6 @@
 -- Lines of a method that have no fault, read one behind the other.
-use Rattle.std.proofs.Common.{◌≡◌, ℕ, suc, ◌+◌, Bool, true, false, cond, ◌&&◌, not, List, [], ◌∷◌, ◌++◌, length, Option, Some, None}
-use Rattle.std.proofs.Common.{is_some, Ok, Err, refl, sym, ap, ◌∙◌, arith, append_assoc, append-nil}
+use Rattle.std.proofs.Common.{◌≡◌, ℕ, ◌+◌, Bool, true, false, cond, ◌&&◌, not, List, [], ◌∷◌, ◌++◌, length, Option, Some, None}
+use Rattle.std.proofs.Common.{is_some, Ok, Err, sym, ap, ◌∙◌, arith, append_assoc, append-nil}
 use Rattle.asm_lines.specs.LinesAndWords.{is_plain, words_of}
 use Rattle.asm_lines.specs.Statements.{Said, Words}
 use Rattle.asm_lines.specs.Items.{Names, item_of}
@@ -9,7 +9,7 @@ use Rattle.asm_lines.specs.declared.statement.MethodLine.{MethodLine}
 use Rattle.asm_lines.specs.declared.listing.CodeLine.{CodeLine}
 use Rattle.asm_lines.specs.declared.listing.Listing.{Listing}
 use Rattle.asm_lines.specs.Listings.{is_skipped, labelled, is_end, code_line, with_code, with_said, make_method, method_of_line}
-use Rattle.asm_lines.specs.Listings.{outside_line, plain_outside, with_line, with_lines}
+use Rattle.asm_lines.specs.Listings.{with_line, with_lines}
 use Rattle.generate_laws.proofs.Tests.{both, not_true}
 
 abbrev pub says : Said Item → Bool

@@ -33,8 +33,8 @@ use Rattle.jterm.specs.Decision.{IsUnrefused}
 use Rattle.jterm.specs.Laws.{AreAlike}
 use Rattle.desc_steps.specs.Headline.{AllEnd}
 use Rattle.generate_text.specs.Descriptions.{description}
-use Rattle.generate_call.specs.Answers.{IsClass}
-use Rattle.generate_call.specs.Lines.{yes_begin}
+use Rattle.jterm.specs.GenerateAnswers.{IsClass}
+use Rattle.jterm.specs.GenerateLines.{yes_begin}
 use Rattle.its_call.specs.Answers.{IsEnding}
 use Rattle.its_call.specs.Lines as its
 use Rattle.its_search.specs.declared.searching.ItsFound.{ItsFound}

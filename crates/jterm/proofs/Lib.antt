@@ -1,3 +1,9 @@
+pub mod GenerateCertifying
+pub mod GenerateLines
+pub mod GenerateCertificates
+pub mod GenerateSaying
+pub mod GenerateMaking
+pub mod GenerateOneAnswer
 pub mod ReadingOrder
 pub mod Proving
 pub mod Ruling

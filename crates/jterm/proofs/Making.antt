@@ -6,10 +6,10 @@ use Rattle.abs_cells.specs.declared.packed.PackedPairs.{PackedPairs}
 use Rattle.input_steps.specs.declared.refused.Refused.{Refused}
 use Rattle.its_search.specs.declared.searching.ItsFound.{ItsFound}
 use Rattle.prove_core.specs.declared.found.Reason.{Reason}
-use Rattle.generate_call.specs.declared.call.Generated.{Generated}
-use Rattle.generate_call.specs.Answers as generate
-use Rattle.generate_call.specs.Headline.{SaysYes, AllEndIfYes}
-use Rattle.generate_call.proofs.Saying.{yes_says, maybe_says_not}
+use Rattle.jterm.specs.declared.generate.Generated.{Generated}
+use Rattle.jterm.specs.GenerateAnswers as generate
+use Rattle.jterm.specs.GenerateHeadline.{SaysYes, AllEndIfYes}
+use Rattle.jterm.proofs.GenerateSaying.{yes_says, maybe_says_not}
 use Rattle.command_rows.specs.declared.table.Request.{Request}
 use Rattle.command_rows.specs.declared.table.Request.TheVariants.{Generate}
 use Rattle.jterm.specs.declared.verdict.Verdict.{Verdict}

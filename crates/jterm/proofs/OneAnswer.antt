@@ -3,9 +3,9 @@ use Rattle.std.proofs.Common.{◌≡◌, ℕ, List, [], ◌∷◌, Option, Some,
 use Rattle.std.specs.Prelude.{◌≢◌}
 use Rattle.asm_call.specs.Answers as asm
 use Rattle.asm_call.proofs.OneAnswer as assembling
-use Rattle.generate_call.specs.declared.call.Generated.{Generated}
-use Rattle.generate_call.specs.Answers as generate
-use Rattle.generate_call.proofs.OneAnswer as generating
+use Rattle.jterm.specs.declared.generate.Generated.{Generated}
+use Rattle.jterm.specs.GenerateAnswers as generate
+use Rattle.jterm.proofs.GenerateOneAnswer as generating
 use Rattle.its_front.specs.declared.fault.ItsFault.{ItsFault}
 use Rattle.its_front.specs.declared.reading.Its as systems
 use Rattle.its_front.specs.Reading.{rules_of}

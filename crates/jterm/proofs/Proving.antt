@@ -10,7 +10,7 @@ use Rattle.prove_call.specs.declared.answer.Answer.{Answer}
 use Rattle.prove_call.specs.Answers as prove
 use Rattle.prove_call.specs.Headline.{AllEndIfYes}
 use Rattle.prove_call.specs.Lines.{yes_line, yes_text}
-use Rattle.generate_call.proofs.Certifying.{Certifies, Reasons, certifies_or_reasons}
+use Rattle.jterm.proofs.GenerateCertifying.{Certifies, Reasons, certifies_or_reasons}
 use Rattle.check_call.specs.Answers as check
 use Rattle.check_call.specs.Lines as lines
 use Rattle.jterm.specs.declared.verdict.Verdict.{Verdict}

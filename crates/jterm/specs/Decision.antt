@@ -2,9 +2,9 @@
 use Rattle.std.specs.Prelude.{◌≡◌, ◌⊎◌, ℕ, List, [], ◌∷◌, ◌++◌, Option, Some, None, Result, Ok, Err, ⊤}
 use Rattle.abs_cells.specs.declared.packed.PackedPairs.{PackedPairs}
 use Rattle.asm_call.specs.Answers as asm
-use Rattle.generate_call.specs.declared.call.Generated.{Generated}
-use Rattle.generate_call.specs.Answers as generate
-use Rattle.generate_call.specs.Headline.{SaysYes}
+use Rattle.jterm.specs.declared.generate.Generated.{Generated}
+use Rattle.jterm.specs.GenerateAnswers as generate
+use Rattle.jterm.specs.GenerateHeadline.{SaysYes}
 use Rattle.generate_text.specs.Descriptions.{description}
 use Rattle.its_front.specs.declared.fault.ItsFault.{ItsFault}
 use Rattle.its_front.specs.declared.fault.ItsFault.TheVariants as ruled

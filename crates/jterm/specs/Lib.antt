@@ -1,3 +1,7 @@
+pub mod GenerateLines
+pub mod GenerateAnswers
+pub mod GenerateHeadline
+pub mod GenerateSaid
 pub mod Decision
 pub mod Laws
 pub mod Words

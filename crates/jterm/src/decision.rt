@@ -3,12 +3,12 @@ ghost use Rattle.std.specs.Prelude.{◌≡◌, length, map, IfOk};
 ghost use Rattle.command_rows.specs.Rows.{Takes};
 ghost use Rattle.jterm.specs.Decision.{HoldsClaim, IsAnswer, done_of, verdict_of, verdict_of_made};
 
+use crate::generate::{Generated, generate_line};
 use crate::rules::rules_verdict;
 use crate::verdict::Verdict;
 use asm_call::class_file;
 use check_call::{Outcome, check_line};
 use command_rows::Request;
-use generate_call::{Generated, generate_line};
 use input_steps::Refused;
 use list_views::Seq;
 use prove_call::prove_line;

@@ -2,9 +2,12 @@
 #![tactic(auto)]
 
 mod decision;
+mod generate;
 mod inputs;
 mod laws;
 mod lines;
+mod made_cert;
+mod made_line;
 mod rules;
 mod top;
 mod verdict;

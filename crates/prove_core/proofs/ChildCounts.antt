@@ -1,6 +1,6 @@
 -- No child of a state that is expanded has more than 512 ids.
-use Rattle.std.proofs.Common.{◌≡◌, ◌∙◌, ◌≤◌, ◌+◌, ◌-◌, ◌⊎◌, inl, inr, ℕ, zero, suc, Bool, true, false, cond, eqb, List, [], ◌∷◌, ◌++◌}
-use Rattle.std.proofs.Common.{length, map, Option, Some, None, slice_get, refl, sym, ap, subst, arith}
+use Rattle.std.proofs.Common.{◌≡◌, ◌∙◌, ◌≤◌, ◌+◌, ◌-◌, ◌⊎◌, inl, inr, ℕ, Bool, true, false, cond, eqb, List, [], ◌∷◌}
+use Rattle.std.proofs.Common.{length, map, Option, Some, None, refl, sym, subst, arith}
 use Rattle.std.specs.Prelude.{zip, option_map}
 use Rattle.std.specs.List.{AllByRecursion, AllZip}
 use Rattle.std.proofs.lemmas.Bool.{eqb-true}
@@ -17,14 +17,14 @@ use Rattle.abs_cells.specs.Cells.{are_compatible, cell_in, cell_at}
 use Rattle.abs_cells.specs.Sound.{AreIdsRising}
 use Rattle.abs_heap.specs.Answers.{AreNullChildren, AreClassChildren, AreEqualAnswers}
 use Rattle.abs_heap.specs.Counts.{new_ids, case_counts, AreFew}
-use Rattle.abs_heap.specs.Given.{IsGiven, with_cells}
-use Rattle.abs_heap.specs.Names.{one_name, cell_named, name_in}
+use Rattle.abs_heap.specs.Given.{with_cells}
+use Rattle.abs_heap.specs.Names.{one_name, cell_named}
 use Rattle.abs_heap.specs.Laws.{plain_link}
 use Rattle.abs_heap.specs.Refining.{Case, instance, numbers, references, IsCase, cases_of, cell_of_slot, length_cell, IsMergedChild}
 use Rattle.abs_heap.specs.Refining.{merged_cell}
 use Rattle.abs_heap.specs.Refining.{IsApartChild, IsEqualChild}
 use Rattle.abs_heap.specs.Refining.IsEqualChild.{both, alone}
-use Rattle.abs_heap.specs.Writing.{Write, cell_after, shape_after, zero_cell, array_cell}
+use Rattle.abs_heap.specs.Writing.{cell_after, shape_after, zero_cell, array_cell}
 use Rattle.abs_turns.specs.GoodPlans.{IsChange, IsGoodTurn, IsGoodPlan}
 use Rattle.abs_turns.specs.Plans.{Act, nothing, makes, writes, item, object, array, Goal, nowhere, on_stack, in_local, in_bottom}
 use Rattle.abs_turns.specs.Plans.{in_field, is_thrown, Turn, Plan, ends, steps, by_null, by_class, by_equal, ids_made}
@@ -32,7 +32,7 @@ use Rattle.abs_expand.specs.Children.{IsActed, field_with, gone_to, IsTurnChild,
 use Rattle.abs_expand.specs.Expansions.{AreChildren, AreExpanded, class_counts, equal_counts, counts_of}
 use Rattle.term_graph.specs.Graphs.{GraphChild}
 use Rattle.descent.specs.Splits.{has}
-use Rattle.prove_core.proofs.IdCounts.{keys, own_key, IsWithin, Holds, few_of, own, given, first_old, dropped, zip_few}
+use Rattle.prove_core.proofs.IdCounts.{keys, own_key, Holds, few_of, own, given, first_old, dropped, zip_few}
 
 abbrev IsSmall : GraphChild → Type 0
 IsSmall child = length child.state.cells ≤ 512

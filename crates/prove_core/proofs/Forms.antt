@@ -1,26 +1,25 @@
 -- The forms of a rank step that holds are readable.
-use Rattle.std.proofs.Common.{◌≡◌, ◌∙◌, ◌<◌, ◌≤◌, ◌⊎◌, inl, inr, ℕ, zero, suc, Bool, true, false, ℤ, cond, eqb, List, [], ◌∷◌, length}
-use Rattle.std.proofs.Common.{Option, Some, None, slice_get, refl, sym, ap, subst, arith}
-use Rattle.std.specs.Prelude.{◌&&◌, not, is_some, All, unsigned_abs}
+use Rattle.std.proofs.Common.{◌≡◌, ◌∙◌, ◌<◌, ◌≤◌, inl, inr, ℕ, zero, suc, Bool, true, false, ℤ, cond, eqb, List, [], ◌∷◌, length}
+use Rattle.std.proofs.Common.{Option, Some, slice_get, refl, sym, ap, subst, arith}
+use Rattle.std.specs.Prelude.{not, is_some, All}
 use Rattle.std.specs.List.{AllByRecursion}
 use Rattle.std.proofs.lemmas.Bool.{and_parts, false≢true, eqb-true, eq-eqb, ne_eqb}
 use Rattle.std.proofs.lemmas.List.Elements.{All-from_recursion, recursion_from_All}
 use Rattle.std.proofs.lemmas.Option.{none-some, same_Some}
 use Rattle.list_views.proofs.Quantified.{all_at, all_places}
-use Rattle.lin_core.specs.Rows.{Rise, RiseFrom}
+use Rattle.lin_core.specs.Rows.{RiseFrom}
 use Rattle.descent.specs.declared.proof.CutForm.{CutForm}
-use Rattle.descent.specs.declared.proof.RankRule.{RankRule}
 use Rattle.descent.specs.declared.proof.RankStep.{RankStep}
 use Rattle.descent.specs.declared.rules.PathRule.{PathRule}
 use Rattle.descent.specs.declared.rules.SlotForm.{SlotForm}
 use Rattle.descent.specs.Conditions as limits
-use Rattle.descent.specs.Rankings.{Ranking, form_at, is_slot_of, slot_at, have_slots, ints_of, sizes_of, is_taken}
-use Rattle.descent.specs.Steps.{rule_of, ranking_of, ranking_fault}
-use Rattle.rank_forms.specs.RankSteps.{FormsRise, HaveNoSizes, IsLinear}
+use Rattle.descent.specs.Rankings.{form_at, is_slot_of, slot_at, have_slots, sizes_of, is_taken}
+use Rattle.descent.specs.Steps.{rule_of, ranking_of}
+use Rattle.rank_forms.specs.RankSteps.{FormsRise, HaveNoSizes}
 use Rattle.chain_proofs.specs.Lean.{IsOwnCut, IsLeanRank}
 use Rattle.cert_write.specs.Readable.{AreMultiples, OnlyWith, IsForm, RisesBy}
 use Rattle.prove_core.specs.ReadableRules.{AreLow, IsReadableRule}
-use Rattle.prove_core.proofs.Multipliers.{IsFitting, IsFittingIn, all_fit}
+use Rattle.prove_core.proofs.Multipliers.{IsFitting, IsFittingIn}
 
 -- ---- ids of slots
 

@@ -1,5 +1,5 @@
 -- The listed rules of a rank step that holds: their multipliers are readable, and the step's forms are taken at their ends.
-use Rattle.std.proofs.Common.{◌≡◌, ◌≤◌, ℕ, suc, Bool, true, false, ℤ, cond, List, [], ◌∷◌, length, map, Option, Some, None}
+use Rattle.std.proofs.Common.{◌≡◌, ◌≤◌, ℕ, suc, Bool, true, false, ℤ, cond, List, [], ◌∷◌, length, Option, Some, None}
 use Rattle.std.proofs.Common.{slice_get, nat_lt, refl, sym, ap, subst, arith, pos, ◌∙◌}
 use Rattle.std.specs.Prelude.{◌&&◌, ◌^◌, All, unsigned_abs}
 use Rattle.std.specs.List.{AllByRecursion}
@@ -19,7 +19,7 @@ use Rattle.descent.specs.declared.proof.RankRule.TheVariants.{Weak, Strict}
 use Rattle.descent.specs.declared.rules.PathRule.{PathRule}
 use Rattle.descent.specs.Rankings.{Ranking, weigh_of, weak_fault, strict_fault, bounded_fault, need_fault, shows_target, fall_of}
 use Rattle.descent.specs.Rankings.{start_of, takes_start, takes_end}
-use Rattle.descent.specs.Steps.{rule_of, listed_fault, rank_fault, ranking_fault}
+use Rattle.descent.specs.Steps.{rule_of, listed_fault, ranking_fault}
 use Rattle.chain_proofs.proofs.Renumbered.{edge_none, one_listed}
 use Rattle.cert_write.specs.Readable.{IsMultiplier}
 

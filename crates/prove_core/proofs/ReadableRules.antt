@@ -7,7 +7,7 @@ use Rattle.std.proofs.lemmas.List.Elements.{All-from_recursion, recursion_from_A
 use Rattle.std.proofs.lemmas.Option.{slice_get_within}
 use Rattle.list_views.proofs.Quantified.{all_joined}
 use Rattle.abs_cells.specs.declared.cells.Cell.{Cell}
-use Rattle.abs_cells.specs.Cells.{is_int, cell_in}
+use Rattle.abs_cells.specs.Cells.{is_int}
 use Rattle.abs_cells.specs.Patterns.{Pattern}
 use Rattle.abs_cells.specs.Sound.{AreIdsRising}
 use Rattle.abs_reach.specs.Keys.{AreKeysRising}

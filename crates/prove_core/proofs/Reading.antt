@@ -86,7 +86,7 @@ module _ (p : Program) (typing : ℕ → CodeTypes) (root : AbstractState) (node
     never_unread fault h = never_none names bytes (content_of nodes cuts steps) says fault h
 
     -- so there is one verdict
-    pub only_accepted : {E : Type 0} (verdict : CertVerdict) → Judges {E = E} p typing root names bytes (Ok verdict) → verdict ≡ Accepted
+    pub only_accepted : (verdict : CertVerdict) → Judges p typing root names bytes verdict → verdict ≡ Accepted
     only_accepted Accepted judges = refl
     only_accepted (Refused item cause) judges = absurd (never_refused item cause judges)
     only_accepted (NoText fault) judges = absurd (never_unread fault judges)

@@ -1,6 +1,6 @@
 -- The sets that the steps of a closed proof leave, the parts of a split, and the steps that are named.
 use Rattle.std.proofs.Common.{◌≡◌, ◌∙◌, ◌<◌, ◌≤◌, inl, inr, ℕ, zero, suc, Bool, true, false, cond, eqb, List, [], ◌∷◌, ◌++◌}
-use Rattle.std.proofs.Common.{length, map, Option, Some, None, slice_get, nat_lt, refl, sym, ap, subst, arith}
+use Rattle.std.proofs.Common.{length, map, Option, Some, None, slice_get, nat_lt, refl, sym, subst, arith}
 use Rattle.std.specs.Prelude.{◌&&◌, All, filter, slice_set, is_none}
 use Rattle.std.specs.List.{AllByRecursion, concat, filter_map}
 use Rattle.std.proofs.lemmas.Bool.{false≢true, true≢false, eqb-true, eq-eqb, or_left, or_right, or_cases}
@@ -12,7 +12,7 @@ use Rattle.descent.specs.declared.faults.DescentFault.TheVariants.{NotCovered}
 use Rattle.descent.specs.declared.proof.RankRule.{RankRule}
 use Rattle.descent.specs.declared.proof.RankRule.TheVariants.{Weak, Strict}
 use Rattle.descent.specs.Splits.{has, stands_in, place_in, is_misplaced, least, least_of_two, uncovered, cover_fault}
-use Rattle.descent.specs.Steps.{Given, give, is_free, part_left, parts_left, same_option, rule_of}
+use Rattle.descent.specs.Steps.{Given, give, is_free, parts_left, same_option, rule_of}
 use Rattle.descent.proofs.Walked.{AllGiven}
 use Rattle.chain_proofs.specs.Dealt.{Rises, IsSet, AreSets}
 use Rattle.chain_proofs.proofs.Charging.{part_set}

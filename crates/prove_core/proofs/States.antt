@@ -1,13 +1,12 @@
 -- The nodes of a good graph in memory are within the limits of the text.
-use Rattle.std.proofs.Common.{◌≡◌, ◌∙◌, ◌<◌, ◌≤◌, ℕ, zero, suc, Bool, true, false, cond, eqb, List, [], ◌∷◌, ◌++◌, length, map}
-use Rattle.std.proofs.Common.{Option, Some, None, slice_get, refl, sym, ap, subst, arith}
-use Rattle.std.specs.Prelude.{All}
+use Rattle.std.proofs.Common.{◌≡◌, ◌∙◌, ◌<◌, ◌≤◌, ℕ, suc, Bool, true, false, cond, eqb, List, [], ◌∷◌, ◌++◌, length, map}
+use Rattle.std.proofs.Common.{Option, Some, None, refl, sym, ap, subst, arith}
 use Rattle.std.specs.List.{AllByRecursion, AllZip, flat_map}
 use Rattle.std.proofs.lemmas.Bool.{eqb-true, eq-eqb, ne_eqb}
 use Rattle.std.proofs.lemmas.List.Elements.{All-from_recursion, recursion_from_All}
-use Rattle.std.proofs.lemmas.Option.{none-some, same_Some, slice_get_within}
+use Rattle.std.proofs.lemmas.Option.{none-some, slice_get_within}
 use Rattle.list_views.proofs.Items.{length_mapped}
-use Rattle.list_views.proofs.Quantified.{all_at, all_front, all_back, all_weaker, all_places}
+use Rattle.list_views.proofs.Quantified.{all_front, all_back, all_weaker}
 use Rattle.jvm_values.specs.declared.types.Ty.{Ty}
 use Rattle.jvm_values.specs.Subtyping.{IsReference}
 use Rattle.class_read.specs.Content.{ClassContent}
@@ -19,13 +18,13 @@ use Rattle.abs_cells.specs.declared.cells.Cell.TheVariants.{Int, Null, Obj, Nums
 use Rattle.abs_cells.specs.AbstractStates.{AbstractFrame, AbstractState}
 use Rattle.abs_cells.specs.Cells.{ids_in, HasCell}
 use Rattle.abs_cells.specs.Sound.{AreIdsRising, given_ids, ids_of_frame, ids_used, IsSoundCell, IsSound}
-use Rattle.abs_reach.specs.Instances.{image_in, ListsIds, InstanceOf, whole_map}
+use Rattle.abs_reach.specs.Instances.{image_in, whole_map}
 use Rattle.abs_expand.specs.BadStates.{IsGoodState}
 use Rattle.term_graph.specs.declared.links.Link.{Link}
 use Rattle.term_graph.specs.declared.nodes.By.{By}
 use Rattle.term_graph.specs.declared.nodes.By.TheVariants.{Expand, Instance, End, Todo}
 use Rattle.term_graph.specs.Graphs.{GraphNode, GraphChild}
-use Rattle.graph_check.specs.Good.{NamesChild, IsLeftBy, IsGoodNode, GraphOk}
+use Rattle.graph_check.specs.Good.{NamesChild, IsLeftBy, IsGoodNode}
 use Rattle.cert_write.specs.Readable.{IsNumber, IsId, IsMaybe, IsCell, IsFrame, IsState, IsWay, IsNode}
 use Rattle.prove_core.specs.TextLaws.{GoodGraphsAreReadable}
 use Rattle.prove_core.specs.Stored.{IsStoredCell, IsStoredFrame, IsStored}

@@ -1,7 +1,7 @@
 -- A closed proof without idle parts is readable.
-use Rattle.std.proofs.Common.{◌≡◌, ◌∙◌, ◌<◌, ◌≤◌, ◌+◌, ◌*◌, ℕ, zero, suc, List, [], ◌∷◌, length, map, Option, Some, None}
+use Rattle.std.proofs.Common.{◌≡◌, ◌∙◌, ◌<◌, ◌≤◌, ℕ, zero, suc, List, [], ◌∷◌, length, Option, Some, None}
 use Rattle.std.proofs.Common.{slice_get, refl, sym, ap, subst, arith}
-use Rattle.std.specs.Prelude.{All, replicate, Bool, true, false, ℤ}
+use Rattle.std.specs.Prelude.{replicate, Bool, true, false, ℤ}
 use Rattle.std.specs.List.{AllByRecursion}
 use Rattle.std.proofs.lemmas.List.Elements.{All-from_recursion, recursion_from_All, All-weaker}
 use Rattle.std.proofs.lemmas.Option.{none-some}
@@ -20,15 +20,14 @@ use Rattle.descent.specs.declared.rules.PathRule.{PathRule}
 use Rattle.descent.specs.Conditions as limits
 use Rattle.descent.specs.Rankings.{weak_fault, strict_fault, bounded_fault}
 use Rattle.descent.specs.Splits.{uncovered, back_edge, first_loop, edge_fault, loop_fault}
-use Rattle.descent.specs.Steps.{Given, ranking_of, rule_of, step_fault, leaves, weak_ones, set_of, give, go_on, try_step, first_fault_from}
-use Rattle.descent.specs.Steps.{given_first, proof_fault}
+use Rattle.descent.specs.Steps.{Given, ranking_of, step_fault, leaves, weak_ones, set_of, give, go_on, try_step, first_fault_from}
+use Rattle.descent.specs.Steps.{given_first}
 use Rattle.descent.proofs.Walked.{gave}
 use Rattle.chain_proofs.specs.Dealt.{Rises, IsSet, AreSets}
-use Rattle.chain_proofs.specs.Lean.{IsLeanRank, IsLeanStep, AreLean}
+use Rattle.chain_proofs.specs.Lean.{IsLeanRank, IsLeanStep}
 use Rattle.chain_proofs.proofs.Renumbered.{listed_are}
 use Rattle.chain_proofs.proofs.Spending.{set_given, sets_first, weak_rise, weak_below}
 use Rattle.cert_write.specs.Readable.{IsNumber, IsMaybe, IsMultiplier, IsForm, IsRule, IsRank, IsStep, OnlyWith}
-use Rattle.lin_core.specs.Weights.{IsWeight}
 use Rattle.prove_core.specs.TextLaws.{ProofsAreReadable}
 use Rattle.prove_core.specs.ReadableRules.{IsReadableRule, AreReadableRules}
 use Rattle.prove_core.proofs.Multipliers.{HasSmall, IsFittingIn, all_fit}

@@ -1,5 +1,5 @@
 -- What a state in memory keeps, from what its parts keep.
-use Rattle.std.proofs.Common.{◌≡◌, ◌∙◌, ℕ, List, [], ◌∷◌, ◌++◌, reverse, sym, subst}
+use Rattle.std.proofs.Common.{◌≡◌, List, [], ◌∷◌, reverse, sym, subst}
 use Rattle.std.specs.Prelude.{All}
 use Rattle.std.specs.List.{AllByRecursion}
 use Rattle.std.proofs.lemmas.List.{reverse-append, reverse-reverse}

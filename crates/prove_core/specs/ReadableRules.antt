@@ -1,5 +1,5 @@
 -- What of the rules of a graph's paths the text of a proof depends on.
-use Rattle.std.specs.Prelude.{◌≤◌, ◌<◌, ℕ, List, All, length}
+use Rattle.std.specs.Prelude.{◌≤◌, ◌<◌, List, All, length}
 use Rattle.descent.specs.declared.rules.PathRule.{PathRule}
 use Rattle.descent.specs.declared.rules.SlotForm.{SlotForm}
 

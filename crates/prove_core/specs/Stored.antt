@@ -1,6 +1,6 @@
 -- What every graph in memory keeps, whatever it says: numbers of places and classes are of their fields' widths, intervals have an int, and
 -- pairs rise.
-use Rattle.std.specs.Prelude.{ℕ, ◌≤◌, ◌≤ℤ◌, List, All}
+use Rattle.std.specs.Prelude.{◌≤◌, ◌≤ℤ◌, List, All}
 use Rattle.abs_cells.specs.declared.cells.Cell.{Cell}
 use Rattle.abs_cells.specs.declared.cells.Cell.TheVariants as cells
 use Rattle.abs_cells.specs.AbstractStates.{AbstractFrame, AbstractState}

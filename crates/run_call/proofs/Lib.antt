@@ -1,4 +1,3 @@
-pub mod Rest
 pub mod Answering
 pub mod Endings
 pub mod Inputs

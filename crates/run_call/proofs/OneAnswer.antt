@@ -1,5 +1,5 @@
 -- So many steps, a state and class files have one answer.
-use Rattle.std.proofs.Common.{◌≡◌, ℕ, List, Some, Result, Ok, Err, refl, sym, ap, ◌∙◌, subst}
+use Rattle.std.proofs.Common.{◌≡◌, ℕ, Some, Ok, Err, refl, sym, ◌∙◌, subst}
 use Rattle.list_views.proofs.Options.{one_answer}
 use Rattle.class_world.specs.World.{World}
 use Rattle.class_world.specs.declared.world.MethodRef.{MethodRef}
@@ -21,7 +21,7 @@ use Rattle.input_steps.proofs.OneText.{said_exact, text_exact}
 use Rattle.input_steps.proofs.OneAnswer.{map_some_one, IsExact, IsOne, at_one, then_one, none_some, classes_exact, world_exact}
 use Rattle.input_steps.proofs.OneAnswer.{program_exact, calls_exact, types_exact}
 use Rattle.run_call.specs.Answers.{IsStateText, RefusesState, RefusesEntry, IsInput, input_fault, RefusesInput, AnswersRun}
-use Rattle.run_call.proofs.Rest.{OfProgram, OfEntry, OfClasses}
+use Rattle.run_call.specs.Rest.{AnswersProgram, AnswersEntry, AnswersNamed}
 use Rattle.run_call.specs.Laws.{AnswersAreOne}
 use Rattle.run_call.specs.Lines.{ended_line}
 use Rattle.run_call.proofs.Endings.{ends_one}
@@ -62,22 +62,22 @@ run_one fuel p input (Err Memory) s h k nr ns = absurd (nr refl)
 
 -- ---- the whole
 
-program_one : (fuel : ℕ) (text : StateText) (p : Program) → IsOne (OfProgram fuel text p)
+program_one : (fuel : ℕ) (text : StateText) (p : Program) → IsOne (AnswersProgram fuel text p)
 program_one fuel text p =
     then_one {A = Unit {0}} (λ nothing. IsAcyclic p) (RefusesCalls p) _ (calls_exact p) (λ nothing a.
     then_one {A = Unit {0}} (λ nothing. HasTypings p) (RefusesTypes p) _ (types_exact p) (λ nothing t.
     then_one (IsInput p text) (RefusesInput p text) (AnswersRun fuel p) (input_exact p text) (λ input h. run_one fuel p input)))
 
-entry_one : (fuel : ℕ) (text : StateText) (world : World) (entry : MethodRef) → IsOne (OfEntry fuel text world entry)
+entry_one : (fuel : ℕ) (text : StateText) (world : World) (entry : MethodRef) → IsOne (AnswersEntry fuel text world entry)
 entry_one fuel text world entry =
-    then_one (IsProgramOf world entry) (RefusesProgram world entry) (OfProgram fuel text) (program_exact world entry)
+    then_one (IsProgramOf world entry) (RefusesProgram world entry) (AnswersProgram fuel text) (program_exact world entry)
     (λ p h. program_one fuel text p)
 
 pub answers_one : AnswersAreOne
 answers_one fuel state files =
     then_one (AllSpell files) (RefusesClasses files) _ (classes_exact files) (λ classes s.
-    then_one (IsStateText state) (RefusesState state) (λ text. OfClasses fuel text classes)
+    then_one (IsStateText state) (RefusesState state) (λ text. AnswersNamed fuel text classes)
     (text_exact state_of state places.State) (λ text t.
     then_one (IsWorldOf classes) (RefusesWorld classes) _ (world_exact classes) (λ world w.
-    then_one (λ entry. entry_of world text.entry ≡ Ok entry) (RefusesEntry world text) (OfEntry fuel text world)
+    then_one (λ entry. entry_of world text.entry ≡ Ok entry) (RefusesEntry world text) (AnswersEntry fuel text world)
     (said_exact places.State (entry_of world text.entry)) (λ entry e. entry_one fuel text world entry))))

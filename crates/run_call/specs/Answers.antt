@@ -20,7 +20,6 @@ use Rattle.input_steps.specs.declared.refused.Refused.TheVariants.{At, Memory}
 use Rattle.input_steps.specs.declared.refused.Place.{Place}
 use Rattle.input_steps.specs.declared.refused.Place.TheVariants as places
 use Rattle.input_steps.specs.declared.refused.Fault.{Fault}
-use Rattle.input_steps.specs.declared.refused.Fault.TheVariants as faults
 use Rattle.input_steps.specs.Steps.{Step, ◌>>=◌}
 use Rattle.input_steps.specs.Texts.{OfInput, IsTextFault}
 use Rattle.input_steps.specs.Classes.{reading_classes, linking}

@@ -2,4 +2,4 @@ use Rattle.graph_fill.proofs.Lacking.{can_be_filled}
 use Rattle.cert_verdict.proofs.judging.of_text.Goals as goal
 
 pub filled-requires : goal.filled-requires
-filled-requires c = can_be_filled c.args.text.now.parts c.requires.named
+filled-requires g c = record { named = can_be_filled c.args.text.now.parts c.requires.named }

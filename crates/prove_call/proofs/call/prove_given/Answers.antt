@@ -10,6 +10,9 @@ pub search-requires-clause-names : goal.search-requires-clause-names
 search-requires-clause-names c = subst (λ (ns : List (List ℕ)). IsTrue (list_all is_class_name ns)) (sym c.in_ok-names.ensures)
     c.requires.names
 
+pub search-requires-clause-own_names : goal.search-requires-clause-own_names
+search-requires-clause-own_names c = c.in_ok-names.ensures
+
 pub returns-in-Ok-clause-says : goal.returns-in-Ok-clause-says
 returns-in-Ok-clause-says c =
     let p = program_of c.args.given.now.program in

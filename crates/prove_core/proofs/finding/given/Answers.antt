@@ -3,19 +3,25 @@ use Rattle.class_program.specs.Views.{program_of}
 use Rattle.code_verify.specs.Typings.{typing_at}
 use Rattle.cert_form.specs.Certificates.{cert_of, SaysOf}
 use Rattle.cert_write.specs.Data.{content_of}
+use Rattle.cert_verdict.specs.declared.verdict.CertVerdict.{CertVerdict}
+use Rattle.cert_verdict.specs.Verdicts.{Judges}
 use Rattle.prove_core.specs.Answers.{SaysValid}
 use Rattle.prove_core.specs.Words.{aim_of, IsProved}
 use Rattle.prove_core.proofs.Giving.{is_certificate}
 use Rattle.prove_core.proofs.Reading.{readable, only_accepted}
 use Rattle.prove_core.proofs.finding.given.Goals as goal
 
-pub returns-Accepted : goal.returns-Accepted
-returns-Accepted g c =
-    let aim = aim_of (program_of c.args.program.now) (typing_at c.args.typing.now) c.args.root.now in
+pub returns : goal.returns
+returns g c =
+    let p = program_of c.args.program.now in
+    let typing = typing_at c.args.typing.now in
+    let root = c.args.root.now in
     let names = c.args.names.now in
-    let valid = subst (λ (bytes : List ℕ). SaysValid aim names bytes) c.as_slice-2.ensures c.in-Accepted.ensures in
-    λ limit few. is_certificate aim names c.args.cert.graph c.as_slice.result.now c.args.cert.proof.steps c.in_ok-bytes.bytes
-    c.in_ok-bytes.ensures.text (omega (arith, c.len.ensures, c.if-len-gt-MOST_CERTIFICATE_BYTES.false)) valid
+    let accepted = subst (λ (verdict : CertVerdict). Judges p typing root names c.as_slice-2.result.now verdict) c.in-Accepted.is
+    c.in_ok-verdict.ensures in
+    let valid = subst (λ (bytes : List ℕ). SaysValid (aim_of p typing root) names bytes) c.as_slice-2.ensures accepted in
+    λ limit few. is_certificate (aim_of p typing root) names c.args.cert.graph c.as_slice.result.now c.args.cert.proof.steps
+    c.in_ok-bytes.bytes c.in_ok-bytes.ensures.text (omega (arith, c.len.ensures, c.if-len-gt-MOST_CERTIFICATE_BYTES.false)) valid
 
 -- the bytes say the certificate again, and so there is one verdict on them
 pub unreachable-requires : goal.unreachable-requires
