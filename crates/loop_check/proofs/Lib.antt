@@ -1,0 +1,4 @@
+pub mod Seeking
+pub mod Idling
+pub mod Looping
+pub mod Answering

@@ -1,0 +1,31 @@
+-- What the report of a valid certificate promises.
+use Rattle.std.proofs.Common.{◌≡◌, ℕ, List, Ok, subst}
+use Rattle.abs_cells.specs.AbstractStates.{AbstractState}
+use Rattle.class_program.specs.Programs.{Program, IsClosed}
+use Rattle.class_program.specs.Widths.{HasWidths}
+use Rattle.frame_types.specs.Tables.{CodeTypes}
+use Rattle.code_verify.specs.Typings.{IsTypingOf}
+use Rattle.descent.specs.declared.proof.ProofStep.{ProofStep}
+use Rattle.term_graph.specs.Graphs.{GraphNode}
+use Rattle.cert_check.specs.Certified.{IsCertified}
+use Rattle.cert_check.specs.Valid.{IsValid}
+use Rattle.cert_check.specs.Parts.{case_of}
+use Rattle.throw_report.specs.declared.ways.Report.{Report}
+use Rattle.throw_report.specs.Reports.{IsReport}
+use Rattle.throw_report.specs.Laws.{CertifiedRunsEndAsReported}
+use Rattle.throw_report.specs.Answers.{Reported, OwnRunsEnd}
+
+-- the graph is the same after the check
+pub is_told : (p : Program) (typing : ℕ → CodeTypes) (root : AbstractState) (nodes after : List GraphNode) (cuts : List ℕ)
+    (steps : List ProofStep) (report : Report) → after ≡ nodes → IsValid (case_of p typing root nodes cuts steps) → IsReport after report
+    → Reported (case_of p typing root nodes cuts steps) (Ok report)
+is_told p typing root nodes after cuts steps report same valid is =
+    (valid, subst (λ (ns : List GraphNode). IsReport ns report) same is)
+
+pub own_runs_end : (p : Program) (typing : ℕ → CodeTypes) (root : AbstractState) (nodes after : List GraphNode) (cuts : List ℕ)
+    (report : Report) → CertifiedRunsEndAsReported → IsClosed p → HasWidths p → IsTypingOf p typing → after ≡ nodes
+    → IsCertified p typing nodes cuts root → IsReport after report → OwnRunsEnd p root report
+own_runs_end p typing root nodes after cuts report law closed widths typing_is same certified is desc own begins state fits = law p
+    typing desc nodes cuts report closed widths typing_is own
+    (subst (λ (s : AbstractState). IsCertified p typing nodes cuts s) begins certified)
+    (subst (λ (ns : List GraphNode). IsReport ns report) same is) state fits
