@@ -1,4 +1,0 @@
-pub mod Parts
-pub mod Entries
-pub mod Bounds
-pub mod Laws

@@ -1,4 +1,0 @@
-pub mod Seeking
-pub mod Idling
-pub mod Looping
-pub mod Answering

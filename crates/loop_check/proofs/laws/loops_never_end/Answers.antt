@@ -1,6 +1,0 @@
-use Rattle.loop_check.proofs.Looping.{never_end}
-use Rattle.loop_check.proofs.laws.loops_never_end.Goals as goal
-
-pub returns : goal.returns
-returns c = never_end c.steps_are_typed.ensures c.fitting_states_are_typed.ensures c.fitting_states_are_described.ensures
-    c.graphs_hold_runs.ensures

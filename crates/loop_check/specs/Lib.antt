@@ -1,4 +1,0 @@
-pub mod Loops
-pub mod Laws
-pub mod Words
-pub mod Fitting

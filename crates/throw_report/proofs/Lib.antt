@@ -1,7 +1,0 @@
-pub mod Numbers
-pub mod Reached
-pub mod Adding
-pub mod Thrown
-pub mod LastSteps
-pub mod Walking
-pub mod Checked
