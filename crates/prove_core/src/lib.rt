@@ -12,7 +12,6 @@ mod plain_rules;
 mod searching;
 mod stored;
 mod text_laws;
-mod tries;
 
 pub use chain_proofs::LeftRule;
 pub use found::{Cert, Found, Reason, SearchFault};

@@ -1,2 +1,0 @@
-mod Good
-mod Heads
