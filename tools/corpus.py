@@ -13,23 +13,26 @@ TRUTH is T (it ends on all described inputs), N (it doesn't on some) or X (it is
 Without params ints have `F`, numbers of other kinds `K`, receivers and arrays `tree!`, other references `tree?`.
 
 It compiles with `javac --release 8`, and writes classes, descriptions and certificates into a new folder, which is gone at the end. Each method has one line: group,
-method, truth, answer, seconds; at the end stands how many of those that end have a YES. The status is 1 where a method that doesn't end has a YES, or `check` refuses a
-certificate. CORPUS_SECONDS (20) bounds a method's time, CORPUS_NODES is handed to `--nodes`.
+method, truth, answer, seconds of processor time of `prove`; at the end stands how many of those that end have a YES, with the median of their seconds and the most. The status is 1 where a method
+that doesn't end has a YES, `check` refuses a certificate, or fewer than CORPUS_LEAST (0) methods have a YES. CORPUS_SECONDS (20) bounds the processor time of each
+command, CORPUS_NODES is handed to `--nodes`.
 """
 import itertools
 import json
 import os
 import pathlib
 import re
+import resource
+import signal
 import struct
 import subprocess
 import sys
 import tempfile
-import time
 
 TOP = pathlib.Path(__file__).resolve().parent.parent
-SECONDS = float(os.environ.get('CORPUS_SECONDS', '20'))
+SECONDS = int(os.environ.get('CORPUS_SECONDS', '20'))
 NODES = os.environ.get('CORPUS_NODES')
+WANTED = int(os.environ.get('CORPUS_LEAST', '0'))
 LEAST, MOST = -2**31, 2**31 - 1
 KINDS = {'I': (LEAST, MOST), 'Z': (0, 1), 'B': (-128, 127), 'S': (-32768, 32767), 'C': (0, 65535)}
 PARAMETER = re.compile(r'\[*(?:L[^;]*;|[BCDFIJSZ])')
@@ -168,35 +171,44 @@ def descriptions(files, owner, method, words):
                'statics': [described(f'{word}:{left.pop(0)}' if word in untyped else word, 'I') for word in statics]}
 
 
+def used():
+    """Seconds of processor time of the commands that were run so far."""
+    spent = resource.getrusage(resource.RUSAGE_CHILDREN)
+    return spent.ru_utime + spent.ru_stime
+
+
 def run(words):
-    """Status, output, faults; None where the time is up."""
-    try:
-        done = subprocess.run([str(word) for word in words], capture_output=True, text=True, timeout=SECONDS)
-        return done.returncode, done.stdout, done.stderr
-    except subprocess.TimeoutExpired:
-        return None
+    """Status, output, faults; None where the processor time is up."""
+    done = subprocess.run([str(word) for word in words], capture_output=True, text=True,
+                          preexec_fn=lambda: resource.setrlimit(resource.RLIMIT_CPU, (SECONDS, SECONDS + 1)))
+    return None if done.returncode in (-signal.SIGXCPU, -signal.SIGKILL) else (done.returncode, done.stdout, done.stderr)
 
 
 def answered(program, room, files, tried):
-    """What `prove` and, where there is a certificate, `check` answer, in one line."""
+    """What `prove` and, where there is a certificate, `check` answer, in one line, and the seconds of `prove`."""
     text, cert = room / 'description.json', room / 'certificate.json'
+    began = used()
     for description in tried:
         text.write_text(json.dumps(description, separators=(',', ':')))
+        began = used()
         found = run([program, 'prove', *(['--nodes', NODES] if NODES else []), text, *files])
         if found is None:
-            return f'TIME over {SECONDS:g} s'
+            return f'TIME over {SECONDS} s', SECONDS
         status, out, err = found
         if status != 3 or not ('UnknownType' in err or 'ParamKind' in err):
             break
+    seconds = used() - began
     if status == 0:
         cert.write_text(out.split('\n', 1)[1])
         checked = run([program, 'check', cert, text, *files])
-        return 'YES' if checked is not None and checked[1] == 'ACCEPTED\n' else f'YES but check: {checked}'
+        if checked is None:
+            return f'TIME over {SECONDS} s', SECONDS
+        return 'YES' if checked[1] == 'ACCEPTED\n' else f'YES but check: {checked}', seconds
     if status == 1:
         rules = [line.split() for line in out.split('\n') if line.startswith('rule')]
         places = sorted({re.sub(r'.*\.(\w+|<init>)\(.*@', r'\1@', word) for rule in rules for word in rule[2:]})
-        return out.split('\n')[0] + (f' {len(rules)} rules at {" ".join(places)}' if rules else '')
-    return f'STATUS {status} {err.strip()}'
+        return out.split('\n')[0] + (f' {len(rules)} rules at {" ".join(places)}' if rules else ''), seconds
+    return f'STATUS {status} {err.strip()}', seconds
 
 
 def main():
@@ -206,7 +218,7 @@ def main():
     named = sys.argv[2] if len(sys.argv) > 2 else '-'
     program = TOP / '.built' / 'jterm' if named == '-' else pathlib.Path(named).resolve()
     only = sys.argv[3] if len(sys.argv) > 3 else ''
-    ending = proved = wrong = 0
+    ending, wrong, proved = 0, 0, []
     with tempfile.TemporaryDirectory() as name:
         room = pathlib.Path(name)
         compile_programs(source, room / 'classes')
@@ -214,15 +226,17 @@ def main():
             if not f'{group}/{folder}/{method}'.startswith(only):
                 continue
             files = sorted((room / 'classes' / group / folder).iterdir())
-            began = time.time()
-            answer = answered(program, room, files, descriptions(files, owner, method, words))
+            answer, seconds = answered(program, room, files, descriptions(files, owner, method, words))
             shown = f'{owner}.{method}' if owner.lower() == folder.lower() else f'{folder}/{owner}.{method}'
-            print(group, shown, truth, answer, f'{time.time() - began:.2f}', sep='\t', flush=True)
+            print(group, shown, truth, answer, f'{seconds:.2f}', sep='\t', flush=True)
             ending += truth == 'T'
-            proved += truth == 'T' and answer == 'YES'
+            if truth == 'T' and answer == 'YES':
+                proved.append(seconds)
             wrong += answer.startswith('YES') and (truth != 'T' or answer != 'YES')
-    print(f'YES {proved} of {ending} that end; wrong YES {wrong}')
-    return 1 if wrong else 0
+    proved.sort()
+    times = f', {proved[len(proved) // 2]:.2f} s at the median, {proved[-1]:.2f} s at most' if proved else ''
+    print(f'YES {len(proved)} of {ending} that end{times}; wrong YES {wrong}')
+    return 1 if wrong or len(proved) < WANTED else 0
 
 
 if __name__ == '__main__':

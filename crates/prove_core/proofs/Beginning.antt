@@ -14,7 +14,8 @@ use Rattle.graph_build.specs.Disciplined.{IsDisciplined}
 use Rattle.graph_build.specs.Answers.{IsClosed, IsStopped, PassesLimit, HasLarge}
 use Rattle.prove_core.specs.Growth.{growth_of}
 use Rattle.prove_core.specs.Reasons.{HasManyNodes, HasManyIds}
-use Rattle.prove_core.specs.Words.{aim_of, CanGrow, IsGrownGraph}
+use Rattle.prove_core.specs.Reasons.{aim_of}
+use Rattle.prove_core.specs.inner.Words.{CanGrow, IsGrownGraph}
 
 pub root_grows : (p : Program) (typing : ℕ → CodeTypes) (desc : Desc) (root : AbstractState) → GrowingRoots → IsClosedProgram p
     → IsTypingOf p typing → IsOwnDesc p desc → root ≡ initial_of p desc → CanGrow p typing root

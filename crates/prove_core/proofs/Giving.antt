@@ -9,7 +9,8 @@ use Rattle.descent.specs.declared.proof.ProofStep.{ProofStep}
 use Rattle.term_graph.specs.Graphs.{GraphNode}
 use Rattle.prove_core.specs.Answers.{IsCertificate, SaysValid}
 use Rattle.prove_core.specs.Reasons.{Aim, IsTooLong}
-use Rattle.prove_core.specs.Words.{aim_of, IsProved}
+use Rattle.prove_core.specs.Reasons.{aim_of}
+use Rattle.prove_core.specs.inner.Words.{IsProved}
 
 pub is_certificate : (aim : Aim) (names : List (List ℕ)) (nodes : List GraphNode) (cuts : List ℕ) (steps : List ProofStep)
     (bytes : List ℕ) → bytes ≡ compact_text (certificate names (content_of nodes cuts steps)) → length bytes ≤ 16777216

@@ -23,7 +23,7 @@ use Rattle.grow_laws.specs.Laws.{GrowingChildren, GrowingStatesStandAlike, Growi
 use Rattle.one_expansion.proofs.OneAnswer.{not_bad}
 use Rattle.place_sorts.specs.Growing.{IsGrowing}
 use Rattle.prove_core.specs.Growth.{growth_of}
-use Rattle.prove_core.specs.Words.{CanGrow, BecomesThese, IsGrowFault}
+use Rattle.prove_core.specs.inner.Words.{CanGrow, BecomesThese, IsGrowFault}
 
 module _ (p : Program) (typing : ℕ → CodeTypes) (state : AbstractState) (can : CanGrow p typing state) where
   -- ---- children

@@ -1,5 +1,5 @@
 mod Beginning
-mod ChildCounts
+pub mod ChildCounts
 mod Close
 mod Collected
 mod Counted
@@ -10,9 +10,9 @@ mod Good
 mod Grown
 mod IdCounts
 mod Multipliers
-mod Names
+pub mod Names
 mod NodeCounts
-mod Parts
+pub mod Parts
 mod Plain
 mod ReadableRules
 mod Reading

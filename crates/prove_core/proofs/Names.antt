@@ -6,7 +6,7 @@ use Rattle.std.proofs.lemmas.Bool.{false≢true, eqb-true, and_parts}
 use Rattle.std.proofs.lemmas.Option.{none-some, same_Some}
 use Rattle.class_read.specs.Content.{ClassContent}
 use Rattle.class_world.specs.declared.fault.LinkFault.TheVariants.{DuplicateClass}
-use Rattle.class_world.specs.Linked.{linked_from}
+use Rattle.class_world.specs.lemmas.Linked.{linked_from}
 use Rattle.class_world.specs.Linking.{is_array_interface, duplicate_class, is_linked}
 use Rattle.class_world.specs.World.{World, class_of}
 use Rattle.cert_write.specs.Readable.{AreDistinct}

@@ -35,7 +35,8 @@ use Rattle.prove_core.proofs.Parts.{written_parts}
 use Rattle.prove_core.proofs.States.{good_graphs_are_readable}
 use Rattle.prove_core.proofs.Steps.{proofs_are_readable}
 use Rattle.prove_core.specs.Heads.{is_head}
-use Rattle.prove_core.specs.Words.{aim_of, IsProved}
+use Rattle.prove_core.specs.Reasons.{aim_of}
+use Rattle.prove_core.specs.inner.Words.{IsProved}
 use Rattle.prove_core.proofs.ReadableRules.{rules_are_readable}
 use Rattle.prove_core.proofs.Readying.{ready}
 

@@ -38,7 +38,8 @@ use Rattle.prove_core.specs.Cuts.{is_instance_of, is_target, AreTargets}
 use Rattle.prove_core.specs.Growth.{growth_of}
 use Rattle.prove_core.specs.Heads.{is_head}
 use Rattle.prove_core.specs.Reasons.{Aim, IsWhole, HasLongPaths, IsComponent}
-use Rattle.prove_core.specs.Words.{aim_of, CanGrow, IsProved, IsGrownGraph}
+use Rattle.prove_core.specs.Reasons.{aim_of}
+use Rattle.prove_core.specs.inner.Words.{CanGrow, IsProved, IsGrownGraph}
 
 -- ---- grown graphs
 

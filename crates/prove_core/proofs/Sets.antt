@@ -14,7 +14,8 @@ use Rattle.descent.specs.declared.proof.RankRule.TheVariants.{Weak, Strict}
 use Rattle.descent.specs.Splits.{has, stands_in, place_in, is_misplaced, least, least_of_two, uncovered, cover_fault}
 use Rattle.descent.specs.Steps.{Given, give, is_free, parts_left, same_option, rule_of}
 use Rattle.descent.proofs.Walked.{AllGiven}
-use Rattle.chain_proofs.specs.Dealt.{Rises, IsSet, AreSets}
+use Rattle.chain_proofs.specs.Dealt.{Rises}
+use Rattle.chain_proofs.specs.inner.Dealt.{IsSet, AreSets}
 use Rattle.chain_proofs.proofs.Charging.{part_set}
 use Rattle.chain_proofs.proofs.Spending.{sets_more}
 use Rattle.cert_form.specs.Steps.{number_of}

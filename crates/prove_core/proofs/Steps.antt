@@ -23,7 +23,8 @@ use Rattle.descent.specs.Splits.{uncovered, back_edge, first_loop, edge_fault, l
 use Rattle.descent.specs.Steps.{Given, ranking_of, step_fault, leaves, weak_ones, set_of, give, go_on, try_step, first_fault_from}
 use Rattle.descent.specs.Steps.{given_first}
 use Rattle.descent.proofs.Walked.{gave}
-use Rattle.chain_proofs.specs.Dealt.{Rises, IsSet, AreSets}
+use Rattle.chain_proofs.specs.Dealt.{Rises}
+use Rattle.chain_proofs.specs.inner.Dealt.{IsSet, AreSets}
 use Rattle.chain_proofs.specs.Lean.{IsLeanRank, IsLeanStep}
 use Rattle.chain_proofs.proofs.Renumbered.{listed_are}
 use Rattle.chain_proofs.proofs.Spending.{set_given, sets_first, weak_rise, weak_below}

@@ -15,7 +15,7 @@ use Rattle.term_graph.specs.Graphs.{GraphNode}
 use Rattle.path_rules.specs.Conditions.{CutsRise}
 use Rattle.path_rules.specs.Paths.{is_cut}
 use Rattle.prove_core.specs.Cuts.{is_instance_of, is_target, AreTargets}
-use Rattle.prove_core.specs.Words.{cuts_from, marked_by}
+use Rattle.prove_core.specs.inner.Words.{cuts_from, marked_by}
 
 -- ---- marks
 

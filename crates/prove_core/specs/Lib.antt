@@ -3,9 +3,9 @@ pub mod Growth
 pub mod Cuts
 pub mod Reasons
 pub mod Answers
-pub mod Words
 pub mod ShortLinks
 pub mod PlainRules
 pub mod ReadableRules
 pub mod Stored
 pub mod TextLaws
+pub mod inner

@@ -15,22 +15,22 @@ use Rattle.path_rules.specs.Conditions.{AreBounded, IsReady}
 use Rattle.rank_forms.specs.Graphs.{ArePlainRules}
 use Rattle.prove_core.specs.ShortLinks.{IsShortLink, AreShortLinks}
 
--- The links of every expansion have short equations.
+-- the links of every expansion have equations with small coefficients
 abbrev pub LinksAreShort : Type 0
 LinksAreShort =
     (p : Program) (typing : ℕ → CodeTypes) (state : AbstractState) (children : List GraphChild)
     → AreExpanded (types_of p.world) state (plan_of p typing state) children
     → AllByRecursion (λ (child : GraphChild). IsShortLink child.link) children
 
--- The rules of all paths of a graph that is ready are plain, where the ends of its intervals are at most 2^31 in size and its links have
--- short equations.
+-- the rules of all paths of a graph are plain, where the graph is ready for rules, the ends of its intervals are at most 2^31 in size, and
+-- its links have equations with small coefficients
 abbrev pub PathRulesArePlain : Type 0
 PathRulesArePlain =
     (graph : List GraphNode) (links : List (List Link)) (cuts : List ℕ) (rules : List PathRule)
     → IsReady graph links cuts → All (λ (n : GraphNode). AreBounded n.state) graph → AreShortLinks links
     → Answers graph links cuts (Ok rules) → ArePlainRules rules
 
--- Those of a good graph are.
+-- the rules of all paths of a good graph that is ready for rules are plain
 abbrev pub GoodGraphRulesArePlain : Type 0
 GoodGraphRulesArePlain =
     (p : Program) (typing : ℕ → CodeTypes) (nodes : List GraphNode) (root : AbstractState) (links : List (List Link))
@@ -38,7 +38,7 @@ GoodGraphRulesArePlain =
     → GraphOk p typing nodes root links → IsReady nodes links cuts
     → Answers nodes links cuts (Ok rules) → ArePlainRules rules
 
--- Rules that are all among such rules, and are no more than these, are such: there may be no more than 4,096 of them.
+-- rules that are each among plain rules, and are no more than these, are plain: the number of rules is limited
 abbrev pub SomeRulesArePlain : Type 0
 SomeRulesArePlain =
     (rules some : List PathRule) → ArePlainRules rules → length some ≤ length rules

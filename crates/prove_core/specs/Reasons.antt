@@ -31,15 +31,19 @@ pub record Aim : Type 0 where
   pub typing : ℕ → CodeTypes
   pub root : AbstractState
 
+-- the aim of a program with its typing, from a state on
+abbrev pub aim_of : Program → (ℕ → CodeTypes) → AbstractState → Aim
+aim_of p typing root = record { program = p; typing = typing; root = root }
+
 -- ---- graphs that stop
 
--- the next growth would give the graph more nodes than the limit
+-- a disciplined graph has no more nodes than the limit, and its next growth would give it more
 abbrev pub HasManyNodes : Aim → ℕ → List GraphNode → Type 0
 HasManyNodes aim limit nodes =
     IsStopped (growth_of aim.program aim.typing) aim.root nodes
     (λ parent n state. PassesLimit (growth_of aim.program aim.typing) nodes parent n state limit) × (length nodes ≤ limit)
 
--- the next growth has a state with more than 512 ids
+-- a disciplined graph has no more nodes than the limit, and its next growth has a state with more than 512 ids
 abbrev pub HasManyIds : Aim → ℕ → List GraphNode → Type 0
 HasManyIds aim limit nodes =
     IsStopped (growth_of aim.program aim.typing) aim.root nodes
@@ -47,21 +51,22 @@ HasManyIds aim limit nodes =
 
 -- ---- whole graphs
 
--- the graph of the program's growth, with no open node; its links, and its cuts
+-- a graph of the program's growth is whole: it is disciplined, has no open node, and is a good one with these links; its cuts are the root
+-- and the targets of instances
 pub record IsWhole (aim : Aim) (nodes : List GraphNode) (links : List (List Link)) (cuts : List ℕ) : Type 0 where
   pub disciplined : IsDisciplined (growth_of aim.program aim.typing) aim.root nodes
   pub closed : IsClosed nodes
   pub good : GraphOk aim.program aim.typing nodes aim.root links
   pub targets : AreTargets nodes cuts
 
--- there are too many paths, or too many rows in their rules
+-- a fault of paths is that there are too many of them, or too many rows in their rules
 abbrev pub IsLong : PathFault → Type 0
 IsLong (Uncut node) = ⊥
 IsLong TooManyPaths = Unit {0}
 IsLong (TooManyRows path) = Unit {0}
 IsLong Memory = ⊥
 
--- the graph has no more nodes than the limit, and between its cuts there are too many paths, or too many rows in their rules
+-- a whole graph has no more nodes than the limit, and between its cuts there are too many paths, or too many rows in their rules
 pub record HasLongPaths (aim : Aim) (limit : ℕ) (nodes : List GraphNode) : Type 0 where
   pub few : length nodes ≤ limit
   pub links : List (List Link)
@@ -73,12 +78,12 @@ pub record HasLongPaths (aim : Aim) (limit : ℕ) (nodes : List GraphNode) : Typ
 
 -- ---- certificates that are too long
 
--- a certificate as it is written, in form 2
+-- the bytes of a certificate as it is written, in form 2
 abbrev pub written : List (List ℕ) → List GraphNode → List ℕ → List ProofStep → List ℕ
 written names nodes cuts steps = compact_text (certificate names (content_of nodes cuts steps))
 
--- the certificate is valid, its graph has no more nodes than the limit, its proof has no idle steps, and it has so many bytes,
--- which are more than 16 MiB
+-- a certificate is too long: it is valid, its graph is whole and has no more nodes than the limit, the steps of its proof are within the
+-- limits of proofs and none is idle, and it has so many bytes, which are more than 16 MiB
 pub record IsTooLong (aim : Aim) (limit : ℕ) (names : List (List ℕ)) (nodes : List GraphNode) (cuts : List ℕ)
     (steps : List ProofStep) (size : ℕ) : Type 0 where
   pub few : length nodes ≤ limit
@@ -95,8 +100,8 @@ pub record IsTooLong (aim : Aim) (limit : ℕ) (names : List (List ℕ)) (nodes 
 
 -- ---- rules that no form ranks
 
--- the graph has no more nodes than the limit; the steps so far are within the limits of proofs and hold, none of them is idle, and
--- they leave rules to the next one that are stuck
+-- a proof comes to rules that no form ranks: the graph is whole and has no more nodes than the limit; the steps so far are within the
+-- limits of proofs and hold, none of them is idle, and they leave rules to the next one that are stuck
 pub record IsComponent (aim : Aim) (limit : ℕ) (nodes : List GraphNode) (cuts : List ℕ) (steps : List ProofStep)
     (left : List LeftRule) : Type 0 where
   pub few : length nodes ≤ limit

@@ -26,14 +26,14 @@ use Rattle.chain_proofs.specs.Lean.{AreLean}
 use Rattle.cert_write.specs.Readable.{IsStep, AreDistinct}
 use Rattle.prove_core.specs.ReadableRules.{AreReadableRules}
 
--- A closed proof without idle steps, for rules whose ids and rows are within the limits of the text: each number is within its limits, and
--- each list is in its order.
+-- A closed proof without idle steps is readable, where its steps are within the limits of proofs, and the ids and rows of its rules are
+-- within those of the text: each number is within its limits, and each list is in its order
 abbrev pub ProofsAreReadable : Type 0
 ProofsAreReadable =
     (rules : List PathRule) (steps : List ProofStep) → AreReadableRules rules → proof_fault rules steps ≡ None → AreSteps steps
     → AreLean rules steps → All IsStep steps
 
--- No state of a disciplined graph has more than 512 ids, if the root hasn't.
+-- No state of a disciplined graph has more than 512 ids, if the root hasn't
 abbrev pub DisciplinedGraphsHaveFewIds : Type 0
 DisciplinedGraphsHaveFewIds =
     (p : Program) (typing : ℕ → CodeTypes) (is_head : AbstractState → Bool) (root : AbstractState) (nodes : List GraphNode) → IsGood p
@@ -41,8 +41,8 @@ DisciplinedGraphsHaveFewIds =
     → IsNode nodes n state by
     → length state.cells ≤ 512
 
--- Each node of a good graph in memory is within the limits of the text, where no state has more than 512 ids, and types are named by the names
--- of the world's classes.
+-- Each node of a good graph in memory is within the limits of the text, where the graph has no more nodes than a graph may have, no state
+-- has more than 512 ids, and types are named by the names of the world's classes
 abbrev pub GoodGraphsAreReadable : Type 0
 GoodGraphsAreReadable =
     (p : Program) (typing : ℕ → CodeTypes) (nodes : List GraphNode) (root : AbstractState) (links : List (List Link))
@@ -51,10 +51,10 @@ GoodGraphsAreReadable =
     → All (λ (node : GraphNode). length node.state.cells ≤ 512) nodes
     → All (IsReadableNode names) nodes
 
--- What is written of a graph, in either form, are its nodes, some without their states.
+-- What is written of a graph, in either form, are its nodes, some without their states
 abbrev pub WrittenPartsAreOfGraphs : Type 0
 WrittenPartsAreOfGraphs = (second : Bool) (nodes : List GraphNode) → ArePartsOf nodes (parts_from second [] nodes)
 
--- The classes of a linked world have different names.
+-- The classes of a linked world have different names
 abbrev pub NamesOfWorldsDiffer : Type 0
 NamesOfWorldsDiffer = (world : World) → is_linked world ≡ true → AreDistinct (map (λ (class : ClassContent). class.name) world)

@@ -2,7 +2,7 @@
 ghost use Rattle.std.specs.Prelude.{◌≡◌, ◌≤◌, ℕ, ◌<◌, length, false, IfOk, get_or};
 ghost use Rattle.term_graph.specs.Limits.{most_nodes};
 ghost use Rattle.prove_core.specs.Cuts.{is_target, AreTargets};
-ghost use Rattle.prove_core.specs.Words.{cuts_from, marked_by};
+ghost use Rattle.prove_core.specs.inner.Words.{cuts_from, marked_by};
 
 use abs_cells::Pairs;
 use list_views::Seq;

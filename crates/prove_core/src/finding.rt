@@ -7,7 +7,8 @@ ghost use Rattle.class_program.specs.Views.{program_of};
 ghost use Rattle.code_verify.specs.Typings.{IsTypingOf, typing_at};
 ghost use Rattle.term_graph.specs.Limits.{most_nodes};
 ghost use Rattle.prove_core.specs.Answers.{SearchesOr};
-ghost use Rattle.prove_core.specs.Words.{aim_of, IsProved};
+ghost use Rattle.prove_core.specs.Reasons.{aim_of};
+ghost use Rattle.prove_core.specs.inner.Words.{IsProved};
 
 use crate::found::{Cert, Found, Reason, SearchFault};
 use crate::stored::graph_is_stored;

@@ -10,7 +10,7 @@ ghost use Rattle.frame_types.specs.Tables.{CodeTypes};
 ghost use Rattle.graph_build.specs.Growing.{GrowsOr, MatchesOr, WidensOr};
 ghost use Rattle.graph_build.specs.Rules.{HaveSamePositions};
 ghost use Rattle.prove_core.specs.Growth.{growth_of};
-ghost use Rattle.prove_core.specs.Words.{Scope, CanGrow, BecomesThese, IsGrowFault};
+ghost use Rattle.prove_core.specs.inner.Words.{Scope, CanGrow, BecomesThese, IsGrowFault};
 
 use crate::heads;
 use abs_cells::{AbsState, Id, Pairs};

@@ -12,6 +12,7 @@ mod plain_rules;
 mod searching;
 mod stored;
 mod text_laws;
+mod tries;
 
 pub use chain_proofs::LeftRule;
 pub use found::{Cert, Found, Reason, SearchFault};
@@ -19,6 +20,7 @@ pub use plain_rules::{
     good_graph_rules_are_plain, links_are_short, path_rules_are_plain, some_rules_are_plain,
 };
 pub use searching::search;
+pub use stored::graph_is_stored;
 pub use text_laws::{
     disciplined_graphs_have_few_ids, good_graphs_are_readable, proofs_are_readable,
 };

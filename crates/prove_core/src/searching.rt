@@ -14,14 +14,16 @@ ghost use Rattle.path_rules.specs.Answers.{Answers as PathAnswers};
 ghost use Rattle.term_graph.specs.Limits.{most_nodes};
 ghost use Rattle.prove_core.specs.Growth.{growth_of};
 ghost use Rattle.prove_core.specs.Reasons.{IsWhole};
-ghost use Rattle.prove_core.specs.Answers.{SearchesOr};
-ghost use Rattle.prove_core.specs.Words.{aim_of, CanGrow, IsGrownGraph};
+ghost use Rattle.prove_core.specs.Answers.{HoldsReason, SearchesOr};
+ghost use Rattle.prove_core.specs.Reasons.{aim_of};
+ghost use Rattle.prove_core.specs.inner.Words.{CanGrow, IsGrownGraph};
 
 use crate::cutting::cuts_of;
 use crate::finding::given;
 use crate::found::{Cert, Found, Reason, SearchFault};
 use crate::grower::RunGrower;
 use crate::plain_rules::good_graph_rules_are_plain;
+use crate::tries::further;
 use abs_cells::{AbsState, Pairs};
 use abs_reach::Marks;
 use cert_form::ClassNames;
@@ -167,7 +169,7 @@ fn of_graph<P: Pairs>(
 
 /// The state that a program's own description begins with.
 #[tactic(auto, using(crate::proofs::Beginning::root_grows, crate::proofs::Beginning::root_small))]
-fn root_of<P: Pairs>(
+pub(crate) fn root_of<P: Pairs>(
     alloc: Global,
     program: &Program<'_>,
     typing: &Typing,
@@ -230,15 +232,9 @@ fn grown<P: Pairs>(
     build(alloc, &mut grower, first, limit)
 }
 
-/// A certificate that every run of a program ends which begins with a state that its description fits; or why none is given. The graph is
-/// grown up to a limit of nodes, from 1 to 20,000. The names are those of the world's classes, in the order of their numbers: with them
-/// what is found is read again.
-///
-/// # Errors
-///
-/// Want of memory.
+/// What the first graph comes to, which is grown up to a limit of nodes.
 #[tactic(auto, using(crate::proofs::Beginning::grown_from, crate::proofs::Beginning::nodes_from, crate::proofs::Beginning::ids_from))]
-pub fn search<P: Pairs>(
+fn first_search<P: Pairs>(
     alloc: Global,
     program: &Program<'_>,
     typing: &Typing,
@@ -261,5 +257,60 @@ pub fn search<P: Pairs>(
         Ok(Built::Nodes(graph)) => Ok(Found::Maybe(Reason::Nodes(graph))),
         Ok(Built::Ids(graph)) => Ok(Found::Maybe(Reason::Ids(graph))),
         Err(BuildFault::Memory) => Err(SearchFault::Memory),
+    }
+}
+
+/// What further tries come to; where they come to nothing, or lack memory, the first one's reason.
+fn or_further<P: Pairs>(
+    alloc: Global,
+    program: &Program<'_>,
+    typing: &Typing,
+    desc: &Desc,
+    names: &ClassNames,
+    limit: u32,
+    reason: Reason<P>,
+) -> Result<Found<P>, SearchFault>
+    requires typing { IsTypingOf (program_of program.now) (typing_at typing.now) }
+    requires own { IsOwnDesc (program_of program.now) desc.now }
+    requires names { IsTrue (list_all is_class_name names.now) }
+    requires reason { HoldsReason (aim_of (program_of program.now) (typing_at typing.now) (initial_of (program_of program.now) desc.now))
+        names.now limit reason }
+    ensures { SearchesOr (aim_of (program_of program.now) (typing_at typing.now) (initial_of (program_of program.now) desc.now))
+        names.now limit result }
+{
+    match further(alloc, program, typing, desc, names, &reason, limit) {
+        Ok(Some(bytes)) => Ok(Found::Certificate(bytes)),
+        Ok(None) => Ok(Found::Maybe(reason)),
+        Err(_) => Ok(Found::Maybe(reason)),
+    }
+}
+
+/// A certificate that every run of a program ends which begins with a state that its description fits, by the first graph or by a further
+/// try; or why the first graph gives none. Each graph is grown up to a limit of nodes, from 1 to 20,000. The names are those of the world's
+/// classes, in the order of their numbers: with them what is found is read again.
+///
+/// # Errors
+///
+/// Want of memory.
+pub fn search<P: Pairs>(
+    alloc: Global,
+    program: &Program<'_>,
+    typing: &Typing,
+    desc: &Desc,
+    names: &ClassNames,
+    limit: u32,
+) -> Result<Found<P>, SearchFault>
+    requires typing { IsTypingOf (program_of program.now) (typing_at typing.now) }
+    requires own { IsOwnDesc (program_of program.now) desc.now }
+    requires names { IsTrue (list_all is_class_name names.now) }
+    requires own_names { names.now ≡ map (λ class. class.name) (program_of program.now).world }
+    requires positive { 1 ≤ limit }
+    requires small { limit ≤ most_nodes }
+    ensures { SearchesOr (aim_of (program_of program.now) (typing_at typing.now) (initial_of (program_of program.now) desc.now))
+        names.now limit result }
+{
+    match first_search(alloc, program, typing, desc, names, limit)? {
+        Found::Certificate(bytes) => Ok(Found::Certificate(bytes)),
+        Found::Maybe(reason) => or_further(alloc, program, typing, desc, names, limit, reason),
     }
 }

@@ -53,9 +53,9 @@ fn state_is_stored<P: Pairs>(state: &AbsState<P>)
     state.share().rise();
 }
 
-/// Says of a graph what all in memory keep: numbers of places and classes are of their fields' widths, intervals have an int, and pairs rise.
-/// It looks once at each frame and cell.
-pub(crate) fn graph_is_stored<P: Pairs>(graph: &Graph<P>)
+/// Says of a graph what all in memory keep: numbers of places and classes are of their fields' widths, intervals have an int, and pairs
+/// rise. It looks once at each frame and cell.
+pub fn graph_is_stored<P: Pairs>(graph: &Graph<P>)
     requires { length graph.now ≤ most_nodes }
     ensures { IsStoredGraph graph.now }
 {

@@ -1,4 +1,5 @@
-//! That what is found is within the limits of certificates, so that its text is read again. The laws are calls that do nothing when they run.
+//! That what is found is within the limits of certificates, so that its text is read again. The laws are calls that do nothing when they
+//! run.
 ghost use Rattle.prove_core.specs.TextLaws.{ProofsAreReadable, DisciplinedGraphsHaveFewIds, GoodGraphsAreReadable};
 
 /// A closed proof without idle steps is within the limits of the text.

@@ -1,5 +1,5 @@
 use Rattle.std.proofs.Common.{◌≡◌, ◌++◌, drop}
-use Rattle.prove_core.specs.Words.{cuts_from}
+use Rattle.prove_core.specs.inner.Words.{cuts_from}
 use Rattle.prove_core.proofs.cutting.numbers_of.Given as goal
 
 abbrev pub invariant-loop-n : goal.invariant-loop-n

@@ -6,7 +6,8 @@ use Rattle.cert_write.specs.Data.{content_of}
 use Rattle.cert_verdict.specs.declared.verdict.CertVerdict.{CertVerdict}
 use Rattle.cert_verdict.specs.Verdicts.{Judges}
 use Rattle.prove_core.specs.Answers.{SaysValid}
-use Rattle.prove_core.specs.Words.{aim_of, IsProved}
+use Rattle.prove_core.specs.Reasons.{aim_of}
+use Rattle.prove_core.specs.inner.Words.{IsProved}
 use Rattle.prove_core.proofs.Giving.{is_certificate}
 use Rattle.prove_core.proofs.Reading.{readable, only_accepted}
 use Rattle.prove_core.proofs.finding.given.Goals as goal

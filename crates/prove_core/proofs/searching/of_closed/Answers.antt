@@ -3,7 +3,8 @@ use Rattle.class_program.specs.Views.{program_of}
 use Rattle.code_verify.specs.Typings.{typing_at}
 use Rattle.abs_cells.specs.AbstractStates.{AbstractState}
 use Rattle.prove_core.specs.Answers.{SearchesOr}
-use Rattle.prove_core.specs.Words.{aim_of, IsGrownGraph}
+use Rattle.prove_core.specs.Reasons.{aim_of}
+use Rattle.prove_core.specs.inner.Words.{IsGrownGraph}
 use Rattle.prove_core.proofs.searching.of_closed.Goals as goal
 
 pub of_graph-requires-clause-grown : goal.of_graph-requires-clause-grown

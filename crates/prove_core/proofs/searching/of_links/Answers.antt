@@ -7,7 +7,7 @@ use Rattle.rank_forms.specs.Graphs.{ArePlainRules}
 use Rattle.term_graph.specs.Graphs.{GraphNode}
 use Rattle.prove_core.specs.Cuts.{AreTargets}
 use Rattle.prove_core.specs.Reasons.{HasLongPaths}
-use Rattle.prove_core.specs.Words.{aim_of}
+use Rattle.prove_core.specs.Reasons.{aim_of}
 use Rattle.prove_core.proofs.Readying.{never_uncut, ready, plain, whole, moved, long_paths, long_rows}
 use Rattle.prove_core.proofs.searching.of_links.Goals as goal
 

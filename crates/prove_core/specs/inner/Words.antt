@@ -1,4 +1,4 @@
--- Words for the calls that grow graphs and give what is found.
+-- Words of the private calls that grow graphs and give what is found.
 use Rattle.std.specs.Prelude.{◌≡◌, ℕ, suc, ◌==◌, ◌||◌, nat_lt, slice_set, length, true, Bool, if◌then◌else◌, List, [], ◌∷◌, map}
 use Rattle.std.specs.Prelude.{Result, Ok, Err, None}
 use Rattle.abs_cells.specs.AbstractStates.{AbstractState}
@@ -31,17 +31,17 @@ use Rattle.prove_core.specs.Reasons.{Aim, IsWhole}
 
 -- ---- states
 
--- a program with its typing
+-- what a grower keeps: a program with its typing
 pub record Scope : Type 0 where
   pub program : Program
   pub typing : ℕ → CodeTypes
 
--- what a grower asks of a state: the typing is the program's, and graphs grow from the state
+-- what a grower asks of a state: the typing is the program's own, and graphs grow from the state
 pub record CanGrow (p : Program) (typing : ℕ → CodeTypes) (state : AbstractState) : Type 0 where
   pub typing_is : IsTypingOf p typing
   pub grows : IsGrowing p typing state
 
--- what a state with these children becomes
+-- what a state with these children becomes, as a grower answers it
 abbrev pub BecomesThese : {P : Type 0} → List GraphChild → Result (Grown P) GrowFault → Type 0
 BecomesThese children (Ok grown.End) = ⊥
 BecomesThese children (Ok (grown.Children states)) = states ≡ map (λ (child : GraphChild). child.state) children
@@ -56,7 +56,7 @@ IsGrowFault faults.Memory fault = fault ≡ Memory
 
 -- ---- cuts
 
--- the node of which a node that is left in this way is an instance has its mark
+-- marks of nodes, with one for the node of which a node that is left in this way is an instance
 abbrev pub marked_by : By → List Bool → List Bool
 marked_by (Expand named) marks = marks
 marked_by (Instance target entries) marks = if nat_lt target (length marks) then slice_set marks target true else marks
@@ -69,9 +69,6 @@ cuts_from n [] = []
 cuts_from n (mark ∷ marks) = if (n == 0) || mark then n ∷ cuts_from (suc n) marks else cuts_from (suc n) marks
 
 -- ---- graphs
-
-abbrev pub aim_of : Program → (ℕ → CodeTypes) → AbstractState → Aim
-aim_of p typing root = record { program = p; typing = typing; root = root }
 
 -- a whole graph with its cuts, and a closed proof for the rules of its paths, without idle steps
 pub record IsProved (aim : Aim) (nodes : List GraphNode) (cuts : List ℕ) (steps : List ProofStep) : Type 0 where

@@ -3,7 +3,7 @@ use Rattle.class_program.specs.Views.{program_of}
 use Rattle.code_verify.specs.Typings.{typing_at}
 use Rattle.input_desc.specs.Initial.{initial_of}
 use Rattle.prove_core.proofs.Beginning.{grown_from, nodes_from, ids_from}
-use Rattle.prove_core.proofs.searching.search.Goals as goal
+use Rattle.prove_core.proofs.searching.first_search.Goals as goal
 
 pub of_closed-requires-clause-grown : goal.of_closed-requires-clause-grown
 of_closed-requires-clause-grown g c =
