@@ -1,26 +1,27 @@
-//! Puts a certificate once more on the output, each node with its state, so that it can be looked at.
+//! Puts a certificate once more on the output, each node with its state, so that it can be looked at; or the text of a bound beside it; or a
+//! certificate that no run of a method ends.
 //!
-//! The words are `fill`, the name of a file with a certificate, that of one with a description, and those of 1 to 256 class files.
+//! The words are `fill` or `bound`, the name of a file with a certificate, that of one with a description, and those of 1 to 256 class
+//! files; or `loop` and the same without a certificate.
 #![tactic(auto)]
 
 ghost use Rattle.std.specs.Prelude.{◌+◌, ◌≤◌, ◌^◌, length, IfOk};
 ghost use Rattle.class_base.specs.Limits.{most_classes};
 
+use bound_search::{Found, bound_for};
 use cert_form::MOST_CERTIFICATE_BYTES;
-use check_call::{Outcome, fill_line};
+use check_call::{Outcome, check_line, fill_line};
 use class_base::{MOST_CLASSES, MOST_FILE_BYTES};
 use input_steps::{Refused, refusal_text};
 use io_ports::{FileFault, Files, RealFiles, Sink, StdSink};
 use list_views::Seq;
 use list_views::fault_words::joined;
+use loop_search::loop_line;
 use std::alloc::{AllocError, AllocFailed, Global};
 use std::env;
 use std::io::ErrorKind;
 use std::process::ExitCode;
 use std::rt::Env;
-
-/// The most words: `fill`, a certificate, a description and the class files.
-const MOST_WORDS: usize = MOST_CLASSES + 3;
 
 /// Why there is no outcome.
 #[derive(Drop)]
@@ -86,35 +87,104 @@ fn content<F: Files>(
     }
 }
 
-/// The contents of the class files, which the words from the fourth on name.
+/// The contents of the class files, which the words from a place on name.
 fn class_files<F: Files>(
     alloc: Global,
     files: &mut F,
     words: &[String],
+    first: usize,
 ) -> Result<Vec<Vec<u8>>, Failure>
-    requires { length words.now ≤ most_classes + 3 }
+    requires { length words.now ≤ most_classes + first }
     ensures { IfOk result (λ contents. length contents.items ≤ most_classes) }
 {
     let mut contents = Vec::new(alloc);
-    for n in 3..words.len() {
+    for n in first..words.len() {
         contents.push(content(alloc, files, words[n].as_str(), MOST_FILE_BYTES)?)?;
     }
     Ok(contents)
 }
 
-/// What is put for the words.
-fn outcome<F: Files>(alloc: Global, files: &mut F, words: &[String]) -> Result<Outcome, Failure> {
-    if words.len() < 4 || words.len() > MOST_WORDS || words[0].as_str() != "fill" {
-        let lines = Seq::from_slice(alloc, b"certs: usage\nfill CERT DESC CLASS..\n");
-        return Err(told(4, lines));
-    }
-    let cert = content(alloc, files, words[1].as_str(), MOST_CERTIFICATE_BYTES)?;
-    let desc = content(alloc, files, words[2].as_str(), MOST_FILE_BYTES)?;
-    let classes = class_files(alloc, files, words)?;
-    match fill_line(alloc, cert.as_slice(), desc.as_slice(), classes.as_slice()) {
+/// The outcome of a command, or why there is none.
+fn told_of(alloc: Global, outcome: Result<Outcome, Refused>) -> Result<Outcome, Failure> {
+    match outcome {
         Ok(outcome) => Ok(outcome),
         Err(Refused::At { place, fault }) => Err(told(3, refusal_text(alloc, place, &fault))),
         Err(Refused::Memory) => Err(Failure::Memory),
+    }
+}
+
+/// What `bound` puts: the text of a bound with status 0; `NONE` with status 1 where none is found; and of a certificate that is refused
+/// what `check` puts.
+fn bound_line(
+    alloc: Global,
+    cert: &[u8],
+    desc: &[u8],
+    files: &[Vec<u8>],
+) -> Result<Outcome, Refused>
+    requires { length files.now ≤ most_classes }
+{
+    match bound_for(alloc, cert, desc, files) {
+        Ok(Found::Text(text)) => Ok(Outcome {
+            status: 0,
+            out: text,
+        }),
+        Ok(Found::None) => Ok(Outcome {
+            status: 1,
+            out: Seq::from_slice(alloc, b"NONE\n")?,
+        }),
+        Ok(Found::Refused) => check_line(alloc, cert, desc, files),
+        Err(refused) => Err(refused),
+    }
+}
+
+/// What is put for words that are none of the program.
+fn usage(alloc: Global) -> Failure {
+    let lines =
+        b"certs: usage\nfill CERT DESC CLASS..\nbound CERT DESC CLASS..\nloop DESC CLASS..\n";
+    told(4, Seq::from_slice(alloc, lines))
+}
+
+/// What is put for `fill`, or else for `bound`.
+fn of_cert<F: Files>(
+    alloc: Global,
+    files: &mut F,
+    words: &[String],
+    is_fill: bool,
+) -> Result<Outcome, Failure> {
+    if words.len() < 4 || words.len() > MOST_CLASSES + 3 {
+        return Err(usage(alloc));
+    }
+    let cert = content(alloc, files, words[1].as_str(), MOST_CERTIFICATE_BYTES)?;
+    let desc = content(alloc, files, words[2].as_str(), MOST_FILE_BYTES)?;
+    let classes = class_files(alloc, files, words, 3)?;
+    let (cert, desc, classes) = (cert.as_slice(), desc.as_slice(), classes.as_slice());
+    if is_fill {
+        told_of(alloc, fill_line(alloc, cert, desc, classes))
+    } else {
+        told_of(alloc, bound_line(alloc, cert, desc, classes))
+    }
+}
+
+/// What is put for `loop`.
+fn looped<F: Files>(alloc: Global, files: &mut F, words: &[String]) -> Result<Outcome, Failure> {
+    if words.len() < 3 || words.len() > MOST_CLASSES + 2 {
+        return Err(usage(alloc));
+    }
+    let desc = content(alloc, files, words[1].as_str(), MOST_FILE_BYTES)?;
+    let classes = class_files(alloc, files, words, 2)?;
+    told_of(alloc, loop_line(alloc, desc.as_slice(), classes.as_slice()))
+}
+
+/// What is put for the words.
+fn outcome<F: Files>(alloc: Global, files: &mut F, words: &[String]) -> Result<Outcome, Failure> {
+    if words.is_empty() {
+        return Err(usage(alloc));
+    }
+    match words[0].as_str() {
+        "fill" => of_cert(alloc, files, words, true),
+        "bound" => of_cert(alloc, files, words, false),
+        "loop" => looped(alloc, files, words),
+        _ => Err(usage(alloc)),
     }
 }
 

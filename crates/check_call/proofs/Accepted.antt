@@ -1,5 +1,5 @@
 -- An answer that a certificate is accepted is enough for the headline, where the class files are lists of bytes.
-use Rattle.std.proofs.Common.{◌≡◌, ◌∙◌, ◌≤◌, ◌+◌, ◌++◌, ℕ, List, [], ◌∷◌, length, length-append, map, None, slice_get, Ok, Err}
+use Rattle.std.proofs.Common.{◌≡◌, ◌∙◌, ◌≤◌, ◌+◌, ◌++◌, List, [], ◌∷◌, length, length-append, map, None, slice_get, Ok, Err}
 use Rattle.std.proofs.Common.{refl, ap, arith}
 use Rattle.std.specs.List.{AllByRecursion}
 use Rattle.std.specs.Option.{option_map_or}
@@ -20,6 +20,7 @@ use Rattle.input_desc.proofs.Faultless.{counted}
 use Rattle.input_desc.proofs.GoodDescs.{found_count, texts_count, few_made, made_is_good}
 use Rattle.cert_check.specs.Laws.{ValidCertificatesEnd}
 use Rattle.desc_steps.proofs.Answering.{all_end}
+use Rattle.check_call.specs.Answers.{AnswersCert}
 use Rattle.check_call.specs.Laws.{AcceptedEnds}
 use Rattle.check_call.proofs.Accepting.{reached, cert_ends}
 use Rattle.check_call.proofs.FileBytes.{world_good}
@@ -73,7 +74,7 @@ own_desc p text described closed few none is =
 
 pub accepted_ends : ValidCertificatesEnd → AcceptedEnds
 accepted_ends ended cert desc files (Ok outcome) bytes a accepts =
-    let r = reached cert desc files outcome a in
+    let r = reached (AnswersCert cert) desc files outcome a in
     let p = r.program in
     let closed = r.named.closed in
     let world = world_good files r.named.classes p.world (recursion_from_All IsBytes files bytes) r.named.spelled r.named.linked in

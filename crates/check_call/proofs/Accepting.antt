@@ -11,6 +11,7 @@ use Rattle.input_desc.specs.Descs.{IsOwnDesc}
 use Rattle.input_desc.specs.Entries.{entry_of}
 use Rattle.input_desc.specs.Initial.{initial_of}
 use Rattle.input_steps.specs.Classes.{IsWorldOf}
+use Rattle.desc_steps.specs.Answers.{Saying, OfFiles}
 use Rattle.desc_steps.specs.Headline.{NameProgram, AllFittingEnd}
 use Rattle.desc_steps.specs.Names.{names_of}
 use Rattle.descent.specs.declared.proof.ProofStep.{ProofStep}
@@ -22,22 +23,22 @@ use Rattle.cert_form.proofs.Lacking.{good_steps}
 use Rattle.cert_check.specs.Laws.{ValidCertificatesEnd}
 use Rattle.cert_check.specs.Parts.{case_of}
 use Rattle.check_call.specs.declared.outcome.Outcome.{Outcome}
-use Rattle.check_call.specs.Answers.{IsCertText, AnswersChecked, AnswersContent, AnswersCert, Answers}
+use Rattle.check_call.specs.Answers.{IsCertText, AnswersChecked, AnswersContent, AnswersCert}
 
 -- ---- where an answer comes from
 
--- a program that the files and the description name, with its typing and described inputs, of which this is the answer
-pub record IsReached (cert desc : List ℕ) (files : List (List ℕ)) (outcome : Outcome) : Type 0 where
+-- a program that the files and the description name, with its typing and described inputs, of which this is said
+pub record IsReached {X : Type 0} (Says : Saying X) (desc : List ℕ) (files : List (List ℕ)) (said : X) : Type 0 where
   pub program : Program
   pub typing : ℕ → CodeTypes
   pub described : Desc
   pub named : NameProgram files desc program described
   pub typed : IsTypingOf program typing
-  pub says : AnswersCert cert program typing described (Ok outcome)
+  pub says : Says program typing described (Ok said)
 
-pub reached : (cert desc : List ℕ) (files : List (List ℕ)) (outcome : Outcome) → Answers cert desc files (Ok outcome)
-    → IsReached cert desc files outcome
-reached cert desc files outcome a =
+pub reached : {X : Type 0} (Says : Saying X) (desc : List ℕ) (files : List (List ℕ)) (said : X) → OfFiles Says desc files (Ok said)
+    → IsReached Says desc files said
+reached Says desc files said a =
     let text = a.1.1 in
     let world = text.1.1 in
     let entry = world.1.1 in

@@ -1,23 +1,21 @@
 -- What is said of a certificate.
-use Rattle.std.proofs.Common.{◌≡◌, ℕ, false, List, [], ◌∷◌, ◌++◌, Result, Ok, Err, inl, inr, ap, subst}
+use Rattle.std.proofs.Common.{◌≡◌, ℕ, false, List, [], ◌∷◌, ◌++◌, Result, Ok, Err, ap}
 use Rattle.serde_json.specs.Written.{compact_text}
 use Rattle.class_program.specs.Programs.{Program}
 use Rattle.frame_types.specs.Tables.{CodeTypes}
 use Rattle.input_steps.specs.declared.refused.Refused.{Refused}
-use Rattle.input_steps.specs.declared.refused.Refused.TheVariants.{At, Memory}
 use Rattle.desc_steps.specs.Names.{names_of}
 use Rattle.term_graph.specs.Graphs.{GraphNode}
 use Rattle.graph_fill.specs.ChildrenOfStates.{IsFilledGraph}
 use Rattle.cert_form.specs.declared.fault.CertFault.{CertFault}
-use Rattle.cert_form.specs.declared.fault.CertFault.TheVariants as certs
 use Rattle.cert_form.specs.Certificates.{CertContent, cert_of, AnswersText}
 use Rattle.cert_write.specs.Data.{content_in, certificate_in}
 use Rattle.descent.specs.declared.proof.ProofStep.{ProofStep}
 use Rattle.check_call.specs.declared.outcome.Outcome.{Outcome}
-use Rattle.check_call.specs.Answers.{IsCertText}
-use Rattle.check_call.specs.Said.{IsSaidOfText}
+use Rattle.check_call.specs.Answers.{IsSaidOfText}
 use Rattle.check_call.specs.FillAnswers.{filled, AnswersContent, AnswersCert}
 use Rattle.check_call.specs.FillTexts.{filled_text}
+use Rattle.check_call.proofs.Reading.{reading_goes, reading_refused}
 
 abbrev Answer : Type 0
 Answer = Result Outcome Refused
@@ -40,28 +38,8 @@ filled_goes p typing content nodes outcome f e = (nodes, (f, e))
 module _ (cert : List ℕ) (p : Program) (typing : ℕ → CodeTypes) where
   pub text_goes : (names : List (List ℕ)) (content : CertContent) (result : Answer) → names ≡ names_of p.world
       → AnswersText (cert_of names) cert (Ok content) → AnswersContent p typing content result → AnswersCert cert p typing result
-  text_goes names content result e i h = go result h
-    where
-      is : IsCertText p cert content
-      is = subst (λ (ns : List (List ℕ)). AnswersText (cert_of ns) cert (Ok content)) e i
-
-      go : (result : Answer) → AnswersContent p typing content result → AnswersCert cert p typing result
-      go (Ok outcome) h = inr (content, (is, h))
-      go (Err (At place fault)) h = absurd h
-      go (Err Memory) h = tt
+  text_goes = reading_goes (AnswersContent p typing) p cert (λ content place fault h. h)
 
   pub text_refused : (names : List (List ℕ)) (fault : CertFault) (result : Answer) → names ≡ names_of p.world
       → AnswersText (cert_of names) cert (Err fault) → IsSaidOfText fault result → AnswersCert cert p typing result
-  text_refused names fault result e i s = go fault result (subst (λ (ns : List (List ℕ)). AnswersText (cert_of ns) cert (Err fault)) e i) s
-    where
-      go : (fault : CertFault) (result : Answer) → AnswersText (cert_of (names_of p.world)) cert (Err fault)
-          → IsSaidOfText fault result → AnswersCert cert p typing result
-      go (certs.Json f) (Ok outcome) h s = inl (certs.Json f, (h, s))
-      go (certs.Json f) (Err (At place fault)) h s = absurd s
-      go (certs.Json f) (Err Memory) h s = tt
-      go (certs.Limit at) (Ok outcome) h s = inl (certs.Limit at, (h, s))
-      go (certs.Limit at) (Err (At place fault)) h s = absurd s
-      go (certs.Limit at) (Err Memory) h s = tt
-      go certs.Memory (Ok outcome) h s = absurd (cc)
-      go certs.Memory (Err (At place fault)) h s = absurd (cc)
-      go certs.Memory (Err Memory) h s = tt
+  text_refused = reading_refused (AnswersContent p typing) p cert

@@ -3,5 +3,7 @@ pub mod Accepting
 pub mod FileBytes
 pub mod FillSaying
 pub mod OneAnswer
+pub mod Outcomes
 pub mod ProgramNumbers
+pub mod Reading
 pub mod Saying

@@ -1,15 +1,15 @@
 -- A certificate, a description and class files have one answer.
-use Rattle.std.proofs.Common.{◌≡◌, ◌≤◌, ◌∙◌, ◌⊎◌, ℕ, zero, suc, List, [], ◌∷◌, length, Option, Some, None, slice_get, Result, Ok}
-use Rattle.std.proofs.Common.{Err, inl, inr, refl, sym, ap, subst, arith}
-use Rattle.std.specs.Prelude.{◌≢◌, IsTrue}
+use Rattle.std.proofs.Common.{◌≡◌, ◌∙◌, ◌⊎◌, ℕ, List, Result, Ok}
+use Rattle.std.proofs.Common.{Err, inl, inr, refl, sym, ap, subst}
+use Rattle.std.specs.Prelude.{◌≢◌}
 use Rattle.list_views.proofs.Options.{one_answer}
 use Rattle.serde_json.specs.Data.{Data}
 use Rattle.json_view.specs.Answers.{Reads}
 use Rattle.json_view.specs.Located.{root_of}
 use Rattle.json_view.specs.declared.fault.JsonFault.TheVariants as json
+use Rattle.abs_cells.specs.AbstractStates.{AbstractState}
 use Rattle.class_program.specs.Programs.{Program}
 use Rattle.frame_types.specs.Tables.{CodeTypes}
-use Rattle.input_desc.specs.declared.desc.Desc.{Desc}
 use Rattle.input_desc.specs.Initial.{initial_of}
 use Rattle.input_steps.specs.declared.refused.Refused.{Refused}
 use Rattle.input_steps.specs.declared.refused.Refused.TheVariants.{At, Memory}
@@ -30,7 +30,7 @@ use Rattle.cert_check.specs.Valid.{Case, IsValid, IsFirstFault}
 use Rattle.cert_verdict.proofs.VerdictLaw.{verdicts_one}
 use Rattle.cert_check.specs.Parts.{case_of}
 use Rattle.check_call.specs.declared.outcome.Outcome.{Outcome}
-use Rattle.check_call.specs.Answers.{IsCertText, IsCertFault, AnswersChecked, AnswersContent, AnswersCert}
+use Rattle.check_call.specs.Answers.{IsCertText, IsCertFault, OfText, SayingValid, OfCase, OfContent, OfCert, OfBytes, SaysAccepted}
 use Rattle.check_call.specs.Causes.{cause_text}
 use Rattle.check_call.specs.Laws.{AnswersAreOne}
 use Rattle.check_call.specs.Lines.{refused_at}
@@ -117,51 +117,64 @@ module _ (case : Case) where
       let causes : cause ≡ next = cc in
       λ i. refused_at (items i) (cause_text (causes i))
 
-  checked_one : IsOne (AnswersChecked case)
-  checked_one (Ok x) (Ok y) (inl h) (inl k) nr ns = let e : x ≡ y = h.1 ∙ sym k.1 in λ i. Ok (e i)
-  checked_one (Ok x) (Ok y) (inl h) (inr k) nr ns = absurd (valid_or_fault k.0 k.1.0 h.0 k.1.1.0)
-  checked_one (Ok x) (Ok y) (inr h) (inl k) nr ns = absurd (valid_or_fault h.0 h.1.0 k.0 h.1.1.0)
-  checked_one (Ok x) (Ok y) (inr h) (inr k) nr ns = let e : x ≡ y = h.1.1.1
-      ∙ (fault_same h.0 k.0 h.1.0 k.1.0 h.1.1.0 k.1.1.0 ∙ sym k.1.1.1) in λ i. Ok (e i)
-  checked_one (Ok x) (Err (At place fault)) h k nr ns = absurd k
-  checked_one (Ok x) (Err Memory) h k nr ns = absurd (ns refl)
-  checked_one (Err (At place fault)) s h k nr ns = absurd h
-  checked_one (Err Memory) s h k nr ns = absurd (nr refl)
+-- ---- what a command says of a valid certificate
 
--- ---- what the certificate says
+module _ (Says : SayingValid)
+    (one : (case : Case) (v w : IsValid case) (x y : Outcome) → Says case v x → Says case w y → x ≡ y) where
+  case_one : (case : Case) → IsOne (OfCase Says case)
+  case_one case (Ok x) (Ok y) (inl h) (inl k) nr ns = let e : x ≡ y = one case h.0 k.0 x y h.1 k.1 in λ i. Ok (e i)
+  case_one case (Ok x) (Ok y) (inl h) (inr k) nr ns = absurd (valid_or_fault case k.0 k.1.0 h.0 k.1.1.0)
+  case_one case (Ok x) (Ok y) (inr h) (inl k) nr ns = absurd (valid_or_fault case h.0 h.1.0 k.0 h.1.1.0)
+  case_one case (Ok x) (Ok y) (inr h) (inr k) nr ns = let e : x ≡ y = h.1.1.1
+      ∙ (fault_same case h.0 k.0 h.1.0 k.1.0 h.1.1.0 k.1.1.0 ∙ sym k.1.1.1) in λ i. Ok (e i)
+  case_one case (Ok x) (Err (At place fault)) h k nr ns = absurd k
+  case_one case (Ok x) (Err Memory) h k nr ns = absurd (ns refl)
+  case_one case (Err (At place fault)) s h k nr ns = absurd h
+  case_one case (Err Memory) s h k nr ns = absurd (nr refl)
 
-module _ (p : Program) (typing : ℕ → CodeTypes) (desc : Desc) where
-  told_one : (content : CertContent) → IsOne (AnswersContent p typing desc content)
-  told_one content (Ok x) (Ok y) h k nr ns =
-      let same : h.0 ≡ k.0 = filled_once p typing content.parts h.0 k.0 h.1.0 k.1.0 in
-      checked_one (case_of p typing (initial_of p desc) k.0 content.cuts content.proof) (Ok x) (Ok y)
-      (subst (λ (nodes : List GraphNode). AnswersChecked (case_of p typing (initial_of p desc) nodes content.cuts content.proof) (Ok x))
-      same h.1.1) k.1.1 nr ns
-  told_one content (Ok x) (Err (At place fault)) h k nr ns = absurd k
-  told_one content (Ok x) (Err Memory) h k nr ns = absurd (ns refl)
-  told_one content (Err (At place fault)) s h k nr ns = absurd h
-  told_one content (Err Memory) s h k nr ns = absurd (nr refl)
+  module _ (p : Program) (typing : ℕ → CodeTypes) (root : AbstractState) where
+    told_one : (content : CertContent) → IsOne (OfContent Says p typing root content)
+    told_one content (Ok x) (Ok y) h k nr ns =
+        let same : h.0 ≡ k.0 = filled_once p typing content.parts h.0 k.0 h.1.0 k.1.0 in
+        case_one (case_of p typing root k.0 content.cuts content.proof) (Ok x) (Ok y)
+        (subst (λ (nodes : List GraphNode). OfCase Says (case_of p typing root nodes content.cuts content.proof) (Ok x)) same h.1.1)
+        k.1.1 nr ns
+    told_one content (Ok x) (Err (At place fault)) h k nr ns = absurd k
+    told_one content (Ok x) (Err Memory) h k nr ns = absurd (ns refl)
+    told_one content (Err (At place fault)) s h k nr ns = absurd h
+    told_one content (Err Memory) s h k nr ns = absurd (nr refl)
 
-  module _ (cert : List ℕ) where
-    both_told : (a b : CertContent) (r s : Result Outcome Refused) → IsCertText p cert a → IsCertText p cert b
-        → AnswersContent p typing desc a r → AnswersContent p typing desc b s → IsKnown r → IsKnown s → r ≡ s
-    both_told a b r s g h n m nr ns = told_one b r s
-        (subst (λ (c : CertContent). AnswersContent p typing desc c r) (content_one p cert a b g h) n) m nr ns
+-- ---- the bytes
 
-    cert_one : IsOne (AnswersCert cert p typing desc)
-    cert_one (Ok x) (Ok y) (inl h) (inl k) nr ns =
-        let line = ap (λ (fault : CertFault). refused_at 0 (fault_text fault)) (fault_one p cert h.0 k.0 h.1.0 k.1.0) in
-        let e : x ≡ y = h.1.1 ∙ (line ∙ sym k.1.1) in
-        λ i. Ok (e i)
-    cert_one (Ok x) (Ok y) (inl h) (inr k) nr ns = absurd (content_or_fault p cert k.0 h.0 k.1.0 (faulty p cert h.0 h.1.0))
-    cert_one (Ok x) (Ok y) (inr h) (inl k) nr ns = absurd (content_or_fault p cert h.0 k.0 h.1.0 (faulty p cert k.0 k.1.0))
-    cert_one (Ok x) (Ok y) (inr h) (inr k) nr ns = both_told h.0 k.0 (Ok x) (Ok y) h.1.0 k.1.0 h.1.1 k.1.1 nr ns
-    cert_one (Ok x) (Err (At place fault)) h k nr ns = absurd k
-    cert_one (Ok x) (Err Memory) h k nr ns = absurd (ns refl)
-    cert_one (Err (At place fault)) s h k nr ns = absurd h
-    cert_one (Err Memory) s h k nr ns = absurd (nr refl)
+module _ (Says : CertContent → Result Outcome Refused → Type 0) (one : (content : CertContent) → IsOne (Says content)) (p : Program)
+    (cert : List ℕ) where
+  both_told : (a b : CertContent) (r s : Result Outcome Refused) → IsCertText p cert a → IsCertText p cert b
+      → Says a r → Says b s → IsKnown r → IsKnown s → r ≡ s
+  both_told a b r s g h n m nr ns = one b r s (subst (λ (c : CertContent). Says c r) (content_one p cert a b g h) n) m nr ns
+
+  pub text_one : IsOne (OfText Says p cert)
+  text_one (Ok x) (Ok y) (inl h) (inl k) nr ns =
+      let line = ap (λ (fault : CertFault). refused_at 0 (fault_text fault)) (fault_one p cert h.0 k.0 h.1.0 k.1.0) in
+      let e : x ≡ y = h.1.1 ∙ (line ∙ sym k.1.1) in
+      λ i. Ok (e i)
+  text_one (Ok x) (Ok y) (inl h) (inr k) nr ns = absurd (content_or_fault p cert k.0 h.0 k.1.0 (faulty p cert h.0 h.1.0))
+  text_one (Ok x) (Ok y) (inr h) (inl k) nr ns = absurd (content_or_fault p cert h.0 k.0 h.1.0 (faulty p cert k.0 k.1.0))
+  text_one (Ok x) (Ok y) (inr h) (inr k) nr ns = both_told h.0 k.0 (Ok x) (Ok y) h.1.0 k.1.0 h.1.1 k.1.1 nr ns
+  text_one (Ok x) (Err (At place fault)) h k nr ns = absurd k
+  text_one (Ok x) (Err Memory) h k nr ns = absurd (ns refl)
+  text_one (Err (At place fault)) s h k nr ns = absurd h
+  text_one (Err Memory) s h k nr ns = absurd (nr refl)
 
 -- ---- the whole
 
+-- a command has one answer, where it says one thing of a valid certificate
+pub bytes_one : (Says : SayingValid)
+    → ((case : Case) (v w : IsValid case) (x y : Outcome) → Says case v x → Says case w y → x ≡ y)
+    → (cert desc : List ℕ) (files : List (List ℕ)) → IsOne (OfBytes Says cert desc files)
+bytes_one Says one cert desc files =
+    files_one (OfCert Says cert)
+    (λ p typing described. text_one (OfContent Says p typing (initial_of p described))
+    (told_one Says one p typing (initial_of p described)) p cert) desc files
+
 pub answers_one : AnswersAreOne
-answers_one cert desc files = files_one (AnswersCert cert) (λ p typing described. cert_one p typing described cert) desc files
+answers_one = bytes_one SaysAccepted (λ case v w x y h k. h ∙ sym k)

@@ -23,7 +23,8 @@ use Rattle.check_call.specs.declared.outcome.Outcome.{Outcome}
 use Rattle.check_call.specs.Answers.{AnswersCert}
 use Rattle.check_call.specs.Headline.{Accepts, EndsIfAccepted}
 use Rattle.check_call.specs.Lines.{refused_at}
-use Rattle.check_call.specs.Said.{IsSaid, IsSaidOfText}
+use Rattle.check_call.specs.inner.Said.{IsSaid}
+use Rattle.check_call.specs.Answers.{IsSaidOfText}
 
 abbrev Answer : Type 0
 Answer = Result Outcome Refused

@@ -6,12 +6,12 @@ use Rattle.input_steps.specs.declared.refused.Refused.{Refused}
 use Rattle.desc_steps.specs.Headline.{AllFittingEnd, AllEnd}
 use Rattle.check_call.specs.declared.outcome.Outcome.{Outcome}
 
--- the certificate is accepted
+-- a check's result is that the certificate is accepted
 abbrev pub Accepts : Result Outcome Refused → Type 0
 Accepts (Ok outcome) = outcome.status ≡ 0
 Accepts (Err refused) = ⊥
 
--- then every state that the description fits ends
+-- where the certificate is accepted, every state that the description fits ends
 abbrev pub EndsIfAccepted : Program → Desc → Result Outcome Refused → Type 0
 EndsIfAccepted p desc result = Accepts result → AllFittingEnd p desc
 

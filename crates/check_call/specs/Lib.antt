@@ -5,4 +5,4 @@ pub mod Headline
 pub mod Laws
 pub mod FillTexts
 pub mod FillAnswers
-pub mod Said
+pub mod inner

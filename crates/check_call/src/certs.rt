@@ -2,14 +2,18 @@
 ghost use Rattle.class_program.specs.Views.{program_of};
 ghost use Rattle.code_verify.specs.Typings.{IsTypingOf, typing_at};
 ghost use Rattle.input_desc.specs.Descs.{IsOwnDesc};
+ghost use Rattle.desc_steps.specs.Answers.{AnswersAs};
 ghost use Rattle.check_call.specs.Answers.{AnswersCert};
+ghost use Rattle.check_call.specs.Causes.{cause_text};
 ghost use Rattle.check_call.specs.Headline.{EndsIfAccepted};
-ghost use Rattle.check_call.specs.Said.{IsSaid, IsSaidOfText};
+ghost use Rattle.check_call.specs.Lines.{refused_at};
+ghost use Rattle.check_call.specs.inner.Said.{IsSaid};
+ghost use Rattle.check_call.specs.Answers.{IsSaidOfText};
 
 use crate::causes::cause_text;
 use crate::outcome::{Outcome, accepted, refused};
 use abs_cells::{AbsState, PackedPairs};
-use cert_check::certified_runs_end;
+use cert_check::{Cause, certified_runs_end};
 use cert_form::CertFault;
 use cert_verdict::{CertVerdict, judged};
 use class_program::Program;
@@ -36,16 +40,25 @@ pub fn refuse_text(alloc: Global, fault: CertFault) -> Result<Outcome, Refused>
     }
 }
 
+/// What is said of a certificate whose item of this number is the first that fails, for this cause.
+///
+/// # Errors
+///
+/// Want of memory.
+pub fn refuse_item(alloc: Global, item: u64, cause: Cause) -> Result<Outcome, Refused>
+    ensures { AnswersAs (refused_at item (cause_text cause)) result }
+{
+    let cause = cause_text(alloc, cause)?;
+    refused(alloc, item, cause.as_slice())
+}
+
 /// The words for a verdict.
 fn said(alloc: Global, verdict: CertVerdict) -> Result<Outcome, Refused>
     ensures { IsSaid verdict result }
 {
     match verdict {
         CertVerdict::Accepted => accepted(alloc),
-        CertVerdict::Refused { item, cause } => {
-            let cause = cause_text(alloc, cause)?;
-            refused(alloc, item, cause.as_slice())
-        }
+        CertVerdict::Refused { item, cause } => refuse_item(alloc, item, cause),
         CertVerdict::NoText(fault) => refuse_text(alloc, fault),
     }
 }

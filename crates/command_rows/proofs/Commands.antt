@@ -5,7 +5,7 @@ use Rattle.command_rows.specs.declared.table.Request.{Request}
 use Rattle.command_rows.specs.declared.table.Command.{Command}
 use Rattle.command_rows.specs.Rows.{commands, row_of, command_of, number_of}
 use Rattle.command_rows.specs.Words.{IsCommand}
-use Rattle.command_rows.specs.Reading.{command_named, Reads}
+use Rattle.command_rows.specs.inner.Reading.{command_named, Reads}
 use Rattle.command_rows.proofs.Rows.{own_word, has_word}
 
 -- a command's words are its word and what is read behind it

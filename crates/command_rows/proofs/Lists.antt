@@ -10,7 +10,7 @@ use Rattle.command_rows.specs.declared.row.NumberWord.TheVariants.{Absent, Neede
 use Rattle.command_rows.specs.declared.row.Row.{Row}
 use Rattle.command_rows.specs.Rows.{least_files, most_files}
 use Rattle.command_rows.specs.Words.{is_file_word, AreFiles, IsNumber, SaysNumber}
-use Rattle.command_rows.specs.Reading.{BeginWith, Reads}
+use Rattle.command_rows.specs.inner.Reading.{BeginWith, Reads}
 
 -- ---- words of files
 

@@ -8,7 +8,7 @@ use Rattle.std.proofs.lemmas.Bool.Decides.{nat_tests}
 use Rattle.std.proofs.lemmas.Fmt.{decimal_digit, decimal_injective, first_decimal, parse-decimal, decimal-digits_value}
 use Rattle.std.proofs.lemmas.Str.Parse.{IsNumeralModel, numerals_by_value, tells_digits, parse_plain}
 use Rattle.command_rows.specs.declared.row.NumberRange.{NumberRange}
-use Rattle.command_rows.specs.Reading.{is_plain}
+use Rattle.command_rows.specs.inner.Reading.{is_plain}
 use Rattle.command_rows.specs.Words.{IsNumber}
 
 own : IsNumeralModel (AllDigits 10) (digits_value 10)

@@ -11,7 +11,7 @@ use Rattle.command_rows.specs.declared.row.NumberWord.TheVariants.{Absent, Neede
 use Rattle.command_rows.specs.declared.row.Row.{Row}
 use Rattle.command_rows.specs.Rows.{row_of, request_of, command_of, number_of, Takes}
 use Rattle.command_rows.specs.Words.{IsNumber, IsCommand}
-use Rattle.command_rows.specs.Reading.{Reads, BeginWith, IsGoodNumber}
+use Rattle.command_rows.specs.inner.Reading.{Reads, BeginWith, IsGoodNumber}
 use Rattle.command_rows.proofs.Numbers.{number_one}
 use Rattle.command_rows.proofs.Lists.{absent_reads, needed_reads, limited_reads, plain_reads}
 use Rattle.command_rows.proofs.Rows.{good, in_range, own_request}

@@ -6,12 +6,12 @@ use Rattle.std.specs.Str.{bytes_eq}
 use Rattle.command_rows.specs.declared.table.Request.{Request}
 use Rattle.command_rows.specs.declared.table.Request.TheVariants as requests
 use Rattle.command_rows.specs.declared.table.Command.{Command}
-use Rattle.command_rows.specs.declared.table.Command.TheVariants.{Prove, Check, Run, Asm, Generate, Its}
+use Rattle.command_rows.specs.declared.table.Command.TheVariants.{Prove, Check, Run, Asm, Generate, Migrate, Bound, Loop, Its, Throws}
 use Rattle.command_rows.specs.declared.row.NumberRange.{NumberRange}
 use Rattle.command_rows.specs.declared.row.NumberWord.TheVariants.{Absent, Needed, Optional}
 use Rattle.command_rows.specs.Rows.{commands, row_of, request_of, command_of, number_of, IsInRange}
 use Rattle.command_rows.specs.Words.{SaysNumber}
-use Rattle.command_rows.specs.Reading.{command_named, IsGoodNumber}
+use Rattle.command_rows.specs.inner.Reading.{command_named, IsGoodNumber}
 
 -- ---- the command of a word
 
@@ -22,7 +22,11 @@ own_word Check = refl
 own_word Run = refl
 own_word Asm = refl
 own_word Generate = refl
+own_word Migrate = refl
+own_word Bound = refl
+own_word Loop = refl
 own_word Its = refl
+own_word Throws = refl
 
 -- what is found has the word
 pub has_word : (cs : List Command) (word : List ℕ) (command : Command) → command_named cs word ≡ Some command
@@ -59,7 +63,11 @@ good Check = tt
 good Run = omega arith
 good Asm = tt
 good Generate = omega arith
+good Migrate = tt
+good Bound = tt
+good Loop = tt
 good Its = tt
+good Throws = tt
 
 absent_range : (numbers : List (List ℕ)) (number : ℕ) → SaysNumber Absent numbers number → number ≡ 0
 absent_range [] number says = says
@@ -87,7 +95,11 @@ in_range Check numbers number says = absent_range numbers number says
 in_range Run numbers number says = needed_range (codes "FUEL") _ numbers number says
 in_range Asm numbers number says = absent_range numbers number says
 in_range Generate numbers number says = needed_range (codes "N") _ numbers number says
+in_range Migrate numbers number says = absent_range numbers number says
+in_range Bound numbers number says = absent_range numbers number says
+in_range Loop numbers number says = absent_range numbers number says
 in_range Its numbers number says = absent_range numbers number says
+in_range Throws numbers number says = absent_range numbers number says
 
 -- ---- requests and their rows
 
@@ -97,7 +109,11 @@ own_command Check number = refl
 own_command Run number = refl
 own_command Asm number = refl
 own_command Generate number = refl
+own_command Migrate number = refl
+own_command Bound number = refl
+own_command Loop number = refl
 own_command Its number = refl
+own_command Throws number = refl
 
 pub own_number : (command : Command) (number : ℕ) → IsInRange (row_of command).number number
     → number_of (request_of command number) ≡ number
@@ -106,7 +122,11 @@ own_number Check number range = sym range
 own_number Run number range = refl
 own_number Asm number range = sym range
 own_number Generate number range = refl
+own_number Migrate number range = sym range
+own_number Bound number range = sym range
+own_number Loop number range = sym range
 own_number Its number range = sym range
+own_number Throws number range = sym range
 
 pub own_request : (request : Request) → request_of (command_of request) (number_of request) ≡ request
 own_request (requests.Prove nodes) = refl
@@ -114,4 +134,8 @@ own_request requests.Check = refl
 own_request (requests.Run fuel) = refl
 own_request requests.Asm = refl
 own_request (requests.Generate blocks) = refl
+own_request requests.Migrate = refl
+own_request requests.Bound = refl
+own_request requests.Loop = refl
 own_request requests.Its = refl
+own_request requests.Throws = refl

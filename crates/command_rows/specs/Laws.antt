@@ -9,7 +9,7 @@ abbrev pub CommandsAreOne : Type 0
 CommandsAreOne = (words : List (List ℕ)) (r s : Request) (m n : List (List ℕ)) → IsCommand words r m → IsCommand words s n → (r ≡ s)
     × (m ≡ n)
 
--- what they ask for takes as many files as they name
+-- the words of a command name as many files as its row takes, and its number lies in the row's range
 abbrev pub CommandsAreTaken : Type 0
 CommandsAreTaken = (words : List (List ℕ)) (request : Request) (names : List (List ℕ)) → IsCommand words request names
     → Takes request (length names)

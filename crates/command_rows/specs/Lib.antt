@@ -2,4 +2,4 @@ pub mod Rows
 pub mod Words
 pub mod Usage
 pub mod Laws
-pub mod Reading
+pub mod inner

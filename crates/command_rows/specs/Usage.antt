@@ -3,36 +3,37 @@ use Rattle.std.specs.Prelude.{ℕ, List, [], ◌∷◌, ◌++◌, codes, if◌th
 use Rattle.std.specs.List.{flat_map}
 use Rattle.command_rows.specs.declared.table.Command.{Command}
 use Rattle.command_rows.specs.declared.row.FileWord.{FileWord}
-use Rattle.command_rows.specs.declared.row.FileWord.TheVariants.{Cert, Desc, State, Listing, Rules, Class}
+use Rattle.command_rows.specs.declared.row.FileWord.TheVariants.{Cert, Desc, State, Listing, Rules, Bounds, Class}
 use Rattle.command_rows.specs.declared.row.NumberWord.{NumberWord}
 use Rattle.command_rows.specs.declared.row.NumberWord.TheVariants.{Needed}
 use Rattle.command_rows.specs.Rows.{commands, row_of}
 
--- a word behind a blank
+-- a word of a usage line, with a blank in front of it
 abbrev pub behind_blank : List ℕ → List ℕ
 behind_blank word = 32 ∷ word
 
--- how it calls the file that a word names
+-- the word by which a usage line calls a file of a row
 abbrev pub file_name : FileWord → List ℕ
 file_name Cert = codes "CERT"
 file_name Desc = codes "DESC"
 file_name State = codes "STATE"
 file_name Listing = codes "LISTING"
 file_name Rules = codes "RULES"
+file_name Bounds = codes "BOUND"
 file_name Class = codes "CLASS"
 
--- the number that has to stand; an option that needn't isn't named
+-- the word by which a usage line calls the number that has to stand; an optional number has none
 abbrev pub number_name : NumberWord → List ℕ
 number_name (Needed name range) = behind_blank name
 number_name kind = []
 
--- the words of a command
+-- the usage line of a command: its word, its number, its files and its class files, as they have to stand
 abbrev pub usage_line : Command → List ℕ
 usage_line command =
     let row = row_of command in
     row.word ++ number_name row.number ++ flat_map (λ word. behind_blank (file_name word)) row.files
     ++ (if row.classes then codes " CLASS.." else []) ++ codes "\n"
 
--- the words are no command; a line for each command follows, with its words
+-- what is said on `err` where the words are no command: a line that says so, and the usage line of each command
 abbrev pub usage_lines : List ℕ
 usage_lines = codes "jterm: usage\n" ++ flat_map usage_line commands

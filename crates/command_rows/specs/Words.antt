@@ -14,13 +14,13 @@ abbrev pub is_file_word : List ℕ → Bool
 is_file_word [] = true
 is_file_word (first ∷ rest) = not (first == 45)
 
--- as many words that name files as the row takes
+-- words name the files of a row: each is a file's name, and there are as many as the row takes
 pub record AreFiles (row : Row) (files : List (List ℕ)) : Type 0 where
   pub some : least_files row ≤ length files
   pub few : length files ≤ most_files row
   pub each : IsTrue (list_all is_file_word files)
 
--- a number of the range, in digits without a sign or a leading zero
+-- a word is a number of a range, in digits without a sign or a leading zero
 pub record IsNumber (range : NumberRange) (word : List ℕ) (number : ℕ) : Type 0 where
   pub spelled : word ≡ decimal number
   pub some : range.least ≤ number

@@ -18,6 +18,8 @@ pub enum FileWord {
     Listing,
     /// A text of integer transition rules.
     Rules,
+    /// The text of a bound.
+    Bounds,
     /// A class file.
     Class,
 }

@@ -30,18 +30,30 @@ pub enum Command {
     Asm,
     /// `generate`
     Generate,
+    /// `migrate`
+    Migrate,
+    /// `bound`
+    Bound,
+    /// `loop`
+    Loop,
     /// `its`
     Its,
+    /// `throws`
+    Throws,
 }
 
 /// All commands, in the order in which the usage names them.
-pub const COMMANDS: [Command; 6] = [
+pub const COMMANDS: [Command; 10] = [
     Command::Prove,
     Command::Check,
     Command::Run,
     Command::Asm,
     Command::Generate,
+    Command::Migrate,
+    Command::Bound,
+    Command::Loop,
     Command::Its,
+    Command::Throws,
 ];
 
 /// What a command does with the files that it names.
@@ -66,8 +78,16 @@ pub enum Request {
         /// At least 1 and at most 100.
         n: u32,
     },
+    /// To write a certificate that is valid in form 2.
+    Migrate,
+    /// To say how many instructions the runs of a method take at most.
+    Bound,
+    /// To say whether a certificate shows that a method never ends.
+    Loop,
     /// To prove that the steps of a system of integer transition rules end.
     Its,
+    /// To say in which ways the runs of a method can end.
+    Throws,
 }
 
 impl Command {
@@ -125,11 +145,35 @@ impl Command {
                 files: FileWords::new(&[]),
                 classes: false,
             },
+            Command::Migrate => Row {
+                word: Bytes::new(b"migrate"),
+                number: NumberWord::Absent,
+                files: FileWords::new(&[FileWord::Cert, FileWord::Desc]),
+                classes: true,
+            },
+            Command::Bound => Row {
+                word: Bytes::new(b"bound"),
+                number: NumberWord::Absent,
+                files: FileWords::new(&[FileWord::Bounds, FileWord::Cert, FileWord::Desc]),
+                classes: true,
+            },
+            Command::Loop => Row {
+                word: Bytes::new(b"loop"),
+                number: NumberWord::Absent,
+                files: FileWords::new(&[FileWord::Cert, FileWord::State, FileWord::Desc]),
+                classes: true,
+            },
             Command::Its => Row {
                 word: Bytes::new(b"its"),
                 number: NumberWord::Absent,
                 files: FileWords::new(&[FileWord::Rules]),
                 classes: false,
+            },
+            Command::Throws => Row {
+                word: Bytes::new(b"throws"),
+                number: NumberWord::Absent,
+                files: FileWords::new(&[FileWord::Cert, FileWord::Desc]),
+                classes: true,
             },
         }
     }
@@ -147,7 +191,11 @@ impl Command {
             Command::Run => Request::Run { fuel: number },
             Command::Asm => Request::Asm,
             Command::Generate => Request::Generate { n: number as u32 },
+            Command::Migrate => Request::Migrate,
+            Command::Bound => Request::Bound,
+            Command::Loop => Request::Loop,
             Command::Its => Request::Its,
+            Command::Throws => Request::Throws,
         }
     }
 }
@@ -163,7 +211,11 @@ impl Request {
             Request::Run { .. } => Command::Run,
             Request::Asm => Command::Asm,
             Request::Generate { .. } => Command::Generate,
+            Request::Migrate => Command::Migrate,
+            Request::Bound => Command::Bound,
+            Request::Loop => Command::Loop,
             Request::Its => Command::Its,
+            Request::Throws => Command::Throws,
         }
     }
 }
@@ -172,5 +224,7 @@ impl Request {
 pub fn usage_text() -> &'static [u8]
     ensures { result.now ≡ usage_lines }
 {
-    b"jterm: usage\nprove DESC CLASS..\ncheck CERT DESC CLASS..\nrun FUEL STATE CLASS..\nasm LISTING\ngenerate N\nits RULES\n"
+    b"jterm: usage\nprove DESC CLASS..\n\
+      check CERT DESC CLASS..\nrun FUEL STATE CLASS..\nasm LISTING\ngenerate N\nmigrate CERT DESC CLASS..\n\
+      bound BOUND CERT DESC CLASS..\nloop CERT STATE DESC CLASS..\nits RULES\nthrows CERT DESC CLASS..\n"
 }

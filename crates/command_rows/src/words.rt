@@ -6,7 +6,7 @@ ghost use Rattle.command_rows.specs.declared.table.Request.{Request};
 ghost use Rattle.command_rows.specs.declared.row.NumberWord.TheVariants.{Absent, Needed, Optional};
 ghost use Rattle.command_rows.specs.Rows.{commands, row_of, command_of, number_of, least_files, most_files, from_to};
 ghost use Rattle.command_rows.specs.Words.{is_file_word, AreFiles, IsNumber, IsCommand};
-ghost use Rattle.command_rows.specs.Reading.{command_named, is_plain, BeginWith, Reads, IsLimited, IsGoodNumber};
+ghost use Rattle.command_rows.specs.inner.Reading.{command_named, is_plain, BeginWith, Reads, IsLimited, IsGoodNumber};
 
 use crate::row::{NumberRange, NumberWord, Row};
 use crate::table::{COMMANDS, Command, Request};

@@ -1,12 +1,15 @@
 //! Answers the cases of the tables of commands: `link-52`, `jvm-52` and five more of linking, `run`, `run-52`, `check`, `check-2`, and four
-//! more of checks, `prove` and `prove-int`: each line of the input is the name of a table, a tab and the input fields of a case, divided by
-//! tabs. The answer to each comes on a line of its own.
+//! more of checks, `prove` and `prove-int`, `throws`, `migrate`, `bound`: each line of the input is the name of a table, a tab and the input fields of a
+//! case, divided by tabs. The answer to each comes on a line of its own.
 #![tactic(auto)]
 
+mod bounds;
 mod checks;
 mod links;
+mod migrates;
 mod proves;
 mod runs;
+mod throws;
 
 use anyhow::{Result, bail};
 use std::alloc::Global;
@@ -26,6 +29,9 @@ impl Answers for Cases {
             "check" | "check-2" | "check-int" | "check-2-int" => checks::answer(alloc, case),
             "hostile" | "prefixes" => checks::answer(alloc, case),
             "prove" | "prove-int" => proves::answer(alloc, case),
+            "throws" => throws::answer(alloc, case),
+            "migrate" => migrates::answer(alloc, case),
+            "bound" => bounds::answer(alloc, case),
             _ => bail!("the table is not known"),
         }
     }

@@ -24,9 +24,10 @@ use Rattle.input_steps.specs.Programs.{IsProgramOf, RefusesProgram, IsAcyclic, R
 use Rattle.input_steps.proofs.Steps.{then_refused, then_goes}
 use Rattle.desc_steps.specs.declared.given.DescribedProgram.{DescribedProgram}
 use Rattle.desc_steps.specs.Answers.{Saying, OfFiles}
-use Rattle.desc_steps.specs.Rest.{OfProgram, OfEntry, OfClasses}
+use Rattle.desc_steps.specs.inner.Rest.{OfProgram, OfEntry, OfClasses}
 use Rattle.desc_steps.specs.Descriptions.{IsDescText, RefusesText, RefusesEntry, IsDesc, RefusesDesc}
-use Rattle.desc_steps.specs.Given.{IsGiven, OfWorld}
+use Rattle.desc_steps.specs.Given.{IsGiven}
+use Rattle.desc_steps.specs.inner.Typed.{OfWorld}
 use Rattle.desc_steps.specs.Headline.{NameProgram, AllFittingEnd, AllEnd}
 use Rattle.desc_steps.specs.Names.{names_of}
 use Rattle.desc_steps.proofs.Naming.{names_are}

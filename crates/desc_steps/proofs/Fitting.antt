@@ -19,7 +19,7 @@ use Rattle.jvm_values.specs.Heaps.{target, Region}
 use Rattle.jvm_values.specs.States.{MachineFrame, MachineState, locals_from}
 use Rattle.jvm_values.specs.TypedHeaps.{WorldTypes, type_of, Holds, IsTypedObject, IsTypedHeap}
 use Rattle.class_world.specs.World.{World}
-use Rattle.class_world.specs.WorldLaws.{world_laws}
+use Rattle.class_world.specs.lemmas.WorldLaws.{world_laws}
 use Rattle.class_world.specs.WorldTypes.{types_of}
 use Rattle.class_program.specs.declared.program.Method.{Method}
 use Rattle.class_program.specs.Programs.{Program, IsClosed}

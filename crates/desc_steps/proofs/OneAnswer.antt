@@ -6,7 +6,7 @@ use Rattle.list_views.proofs.Items.{get_past}
 use Rattle.list_views.proofs.Options.{one_answer}
 use Rattle.class_world.specs.Linking.{is_linked}
 use Rattle.class_world.specs.World.{World}
-use Rattle.class_world.specs.WorldLaws.{world_laws}
+use Rattle.class_world.specs.lemmas.WorldLaws.{world_laws}
 use Rattle.class_world.specs.declared.world.MethodRef.{MethodRef}
 use Rattle.class_program.specs.declared.program.Method.{Method}
 use Rattle.class_program.specs.Programs.{Program, IsClosed}
@@ -28,7 +28,7 @@ use Rattle.input_steps.proofs.OneAnswer.{map_some_one, IsExact, IsOne, at_one, t
 use Rattle.input_steps.proofs.OneAnswer.{program_exact, calls_exact, types_exact}
 use Rattle.input_steps.proofs.OneText.{said_exact, text_exact}
 use Rattle.desc_steps.specs.Answers.{OfFiles}
-use Rattle.desc_steps.specs.Rest.{OfProgram, OfEntry, OfClasses}
+use Rattle.desc_steps.specs.inner.Rest.{OfProgram, OfEntry, OfClasses}
 use Rattle.desc_steps.specs.Descriptions.{IsDescText, RefusesText, RefusesEntry, IsDesc, RefusesDesc}
 
 -- ---- what is described
@@ -40,7 +40,7 @@ desc_one p text a b h k =
     let share : a.share ≡ b.share = h.1.share_is ∙ sym k.1.share_is in
     λ i. record { inputs = inputs i; same = same i; share = share i }
 
-desc_exact : (p : Program) (text : DescText) → IsExact (IsDesc p text) (RefusesDesc p text)
+pub desc_exact : (p : Program) (text : DescText) → IsExact (IsDesc p text) (RefusesDesc p text)
 desc_exact p text = record {
   one = desc_one p text;
   apart = λ described place fault h r. none_some (desc_fault p text) r.cause h.0 r.holds;
@@ -58,7 +58,7 @@ types_at p linked a b h k n place None e = let l = get_past p.methods n e in h.n
 typing_one : (p : Program) → IsTrue (is_linked p.world) → (a b : ℕ → CodeTypes) → IsTypingOf p a → IsTypingOf p b → a ≡ b
 typing_one p linked a b h k = λ i n place. types_at p linked a b h k n place (slice_get p.methods n) refl i
 
-typing_exact : (p : Program) → IsTrue (is_linked p.world) → IsExact {A = ℕ → CodeTypes} (IsTypingOf p) (RefusesTypes p)
+pub typing_exact : (p : Program) → IsTrue (is_linked p.world) → IsExact {A = ℕ → CodeTypes} (IsTypingOf p) (RefusesTypes p)
 typing_exact p linked = record {
   one = typing_one p linked;
   apart = λ typing place fault t r. (types_exact p).apart tt place fault (typing, t) r;

@@ -14,7 +14,8 @@ use Rattle.desc_steps.specs.Descriptions.{reading_description, finding_entry, de
 abbrev pub Saying : Type 0 → Type 1
 Saying X = Program → (ℕ → CodeTypes) → Desc → Result X Refused → Type 0
 
--- The steps in their one order, from the first to the last: each gives something, or refuses the input. `docs/REFUSALS.md` numbers them so.
+-- what a command answers over files and a description. The steps stand in their one order, from the first to the
+-- last: each gives something, or refuses the input. `docs/REFUSALS.md` numbers them so.
 abbrev pub OfFiles : {X : Type 0} → Saying X → List ℕ → List (List ℕ) → Result X Refused → Type 0
 OfFiles Says desc files = do
   classes ← reading_classes files
@@ -27,7 +28,7 @@ OfFiles Says desc files = do
   described ← describing program text
   Says program typing described
 
--- what is said where nothing is refused: this, or want of memory
+-- what is answered where nothing is refused any more: exactly this, or want of memory
 abbrev pub AnswersAs : {X : Type 0} → X → Result X Refused → Type 0
 AnswersAs wanted (Ok said) = said ≡ wanted
 AnswersAs wanted (Err (At place fault)) = ⊥

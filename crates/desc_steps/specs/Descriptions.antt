@@ -15,23 +15,23 @@ use Rattle.input_steps.specs.declared.refused.Fault.{Fault}
 use Rattle.input_steps.specs.Steps.{Step}
 use Rattle.input_steps.specs.Texts.{OfInput, IsTextFault}
 
--- the bytes say this
+-- the bytes of a description say this text, by the reader of JSON texts
 abbrev pub IsDescText : List ℕ → DescText → Type 0
 IsDescText desc text = SaysOf description_of desc (Ok text)
 
--- a fault of the bytes
+-- the bytes of a description are refused for the first fault of their reader
 abbrev pub RefusesText : List ℕ → Place → Fault → Type 0
 RefusesText desc = OfInput places.Description (IsTextFault description_of desc)
 
--- the description names no method of the world that can run
+-- a description is refused where it names no method of the world that can run
 abbrev pub RefusesEntry : World → DescText → Place → Fault → Type 0
 RefusesEntry world text = OfInput places.Description (λ fault. entry_of world text.entry ≡ Err fault)
 
--- the program's inputs are described so
+-- a description's text says this of the inputs of a program
 abbrev pub IsDesc : Program → DescText → Desc → Type 0
 IsDesc p text described = Describes p text (Ok described)
 
--- the first fault of the description against the program
+-- a description is refused for its first fault against the program
 abbrev pub RefusesDesc : Program → DescText → Place → Fault → Type 0
 RefusesDesc p text = OfInput places.Description (λ fault. desc_fault p text ≡ Some fault)
 
@@ -41,10 +41,10 @@ RefusesDesc p text = OfInput places.Description (λ fault. desc_fault p text ≡
 abbrev pub reading_description : List ℕ → Step DescText
 reading_description desc = record { gives = IsDescText desc; refuses = RefusesText desc }
 
--- the method that it names is looked up
+-- the method that a description names is looked up in the world
 abbrev pub finding_entry : World → DescText → Step MethodRef
 finding_entry world text = record { gives = λ entry. entry_of world text.entry ≡ Ok entry; refuses = RefusesEntry world text }
 
--- it is read as one of the program's inputs
+-- a description's text is read as what it says of the program's inputs
 abbrev pub describing : Program → DescText → Step Desc
 describing p text = record { gives = IsDesc p text; refuses = RefusesDesc p text }

@@ -9,7 +9,7 @@ use Rattle.class_world.specs.World.{World}
 use Rattle.input_desc.specs.declared.desc.Input.{Input}
 use Rattle.input_desc.specs.declared.desc.Input.TheVariants as inputs
 
--- a class that can be made; numbers are no objects
+-- an object can be of a class: the class can be made; numbers are no objects
 abbrev pub IsMade : World → Base → Type 0
 IsMade world (Class class) = IsTrue (can_be_made world class)
 IsMade world (Num kind) = ⊥

@@ -20,7 +20,7 @@ use std::alloc::Global;
 /// # Errors
 ///
 /// At `Description` the first fault of the bytes; want of memory.
-pub(crate) fn read_desc(alloc: Global, bytes: &[u8]) -> Result<DescText, Refused>
+pub fn read_desc(alloc: Global, bytes: &[u8]) -> Result<DescText, Refused>
     ensures text { IfOk result (IsDescText bytes.now) }
     ensures refused { IfErr result (IsCaused (RefusesText bytes.now)) }
 {

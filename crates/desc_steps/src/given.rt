@@ -10,8 +10,9 @@ ghost use Rattle.class_program.specs.Views.{program_of};
 ghost use Rattle.code_verify.specs.Typings.{IsTypingOf, typing_at};
 ghost use Rattle.input_steps.specs.Programs.{IsAcyclic};
 ghost use Rattle.desc_steps.specs.Answers.{OfFiles};
-ghost use Rattle.desc_steps.specs.Rest.{OfProgram, OfEntry, OfClasses};
-ghost use Rattle.desc_steps.specs.Given.{IsGiven, IsReady, IsTyped, OfWorld};
+ghost use Rattle.desc_steps.specs.inner.Rest.{OfProgram, OfEntry, OfClasses};
+ghost use Rattle.desc_steps.specs.Given.{IsGiven, IsReady};
+ghost use Rattle.desc_steps.specs.inner.Typed.{IsTyped, OfWorld};
 ghost use Rattle.desc_steps.specs.Headline.{NameProgram};
 ghost use Rattle.desc_steps.specs.Names.{names_of};
 

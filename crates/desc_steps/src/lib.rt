@@ -10,7 +10,7 @@ mod given;
 mod laws;
 mod names;
 
-pub use description::{described, entry_of};
+pub use description::{described, entry_of, read_desc};
 pub use given::{DescribedProgram, described_program};
 pub use laws::{names_one, some_state_fits};
 pub use names::class_names;

@@ -62,6 +62,6 @@ RefusesWorld classes = IsAt {C = LinkFault} (λ fault. places.Link) faults.Link 
 abbrev pub reading_classes : List (List ℕ) → Step (List ClassContent)
 reading_classes files = record { gives = AllSpell files; refuses = RefusesClasses files }
 
--- they are linked
+-- classes are linked to a world (JVM specification, section 5.3)
 abbrev pub linking : List ClassContent → Step World
 linking classes = record { gives = IsWorldOf classes; refuses = RefusesWorld classes }

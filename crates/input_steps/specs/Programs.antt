@@ -51,14 +51,14 @@ RefusesTypes p = IsAt {C = MethodName} (λ method. places.Verify) faults.Untyped
 abbrev pub closing : World → MethodRef → Step Program
 closing world entry = record { gives = IsProgramOf world entry; refuses = RefusesProgram world entry }
 
--- its calls are tested
+-- a program's calls are tested for cycles, which this prover refuses
 abbrev pub testing_calls : Program → Step (Unit {0})
 testing_calls p = record { gives = λ nothing. IsAcyclic p; refuses = RefusesCalls p }
 
--- that its methods can be typed is tested
+-- a program is tested for methods without a typing (JVM specification, section 4.10)
 abbrev pub testing_types : Program → Step (Unit {0})
 testing_types p = record { gives = λ nothing. HasTypings p; refuses = RefusesTypes p }
 
--- its methods are typed
+-- the methods of a program are given their least typings (JVM specification, section 4.10)
 abbrev pub typing_methods : Program → Step (ℕ → CodeTypes)
 typing_methods p = record { gives = IsTypingOf p; refuses = RefusesTypes p }

@@ -11,12 +11,13 @@ use Rattle.its_search.specs.Found.{Finds}
 use Rattle.its_call.specs.declared.answer.ItsAnswer.{ItsAnswer}
 use Rattle.its_call.specs.Lines.{yes_line, maybe_text}
 
--- yes for a proof; for rules that are left, maybe and a line for each, and they are kept
+-- what is said of a system by what was found for its rules: yes for a proof; else maybe with a line for each rule
+-- that is left, and these rules are kept
 abbrev pub Tells : Its → ItsFound → ItsAnswer → Type 0
 Tells its (Proof proof) answer = answer ≡ record { status = 0; out = yes_line; left = None }
 Tells its (Left proof rules) answer = answer ≡ record { status = 1; out = maybe_text its.places rules; left = Some (Left proof rules) }
 
--- the text says a system, and this is said of what was found for its rules
+-- an answer is that of a text: the text says a system, and the answer is what is said of what was found for its rules
 pub record IsSaid (text : List ℕ) (answer : ItsAnswer) : Type 0 where
   pub its : Its
   pub said : rules_of text ≡ Ok its
@@ -24,7 +25,7 @@ pub record IsSaid (text : List ℕ) (answer : ItsAnswer) : Type 0 where
   pub finds : Finds its.rules found
   pub tells : Tells its found answer
 
--- the answer to a text; or its first fault. Want of memory has no cause
+-- the answer to a text of rules, or the text's first fault; want of memory has no cause
 abbrev pub Answers : List ℕ → Result ItsAnswer ItsFault → Type 0
 Answers text (Ok answer) = IsSaid text answer
 Answers text (Err fault) = MatchBool (is_memory fault) (Unit {0}) (rules_of text ≡ Err fault)
@@ -40,7 +41,7 @@ pub record IsEnding (text : List ℕ) : Type 0 where
   pub ends : StepsEnd its
   pub no_infinite : NoInfiniteWalk its
 
--- where yes is said, they do
+-- what the headline of `its` says: where yes is said, the text says a system whose steps end
 abbrev pub SystemEnds : List ℕ → Result ItsAnswer ItsFault → Type 0
 SystemEnds text (Ok answer) = SaysYes answer → IsEnding text
 SystemEnds text (Err fault) = Unit {0}

@@ -19,6 +19,6 @@ abbrev pub rule_line : List (List ℕ) → LeftRule → List ℕ
 rule_line places left = joined (codes "rule " ∷ decimal left.rule ∷ codes " " ∷ place_name places left.from ∷ codes " " ∷ place_name
     places left.to ∷ codes "\n" ∷ [])
 
--- the rules that are left
+-- the text of a maybe: a line that says so, and a line for each rule that is left
 abbrev pub maybe_text : List (List ℕ) → List LeftRule → List ℕ
 maybe_text places left = codes "MAYBE component\n" ++ flat_map (rule_line places) left

@@ -41,8 +41,8 @@ fn told(alloc: Global, its: &Its, found: ItsFound) -> Result<ItsAnswer, AllocErr
     }
 }
 
-/// What is said of a text of rules: `YES` where a closed proof shows that no chain of them is infinite; else `MAYBE component` and a line for
-/// each rule that is left.
+/// What is said of a text of rules: `YES` where a closed proof shows that no chain of them is infinite; else `MAYBE
+/// component` and a line for each rule that is left.
 ///
 /// # Errors
 ///

@@ -8,14 +8,19 @@ use Rattle.input_steps.specs.declared.refused.Place.{Place}
 use Rattle.input_steps.specs.declared.refused.Fault.{Fault}
 use Rattle.input_steps.specs.declared.refused.Refused.TheVariants.{At}
 use Rattle.jterm.specs.declared.inputs.Failure.TheVariants.{Broken}
-use Rattle.command_rows.specs.declared.table.Request.TheVariants.{Prove, Check, Run, Asm, Generate, Its}
+use Rattle.command_rows.specs.declared.table.Request.TheVariants.{Prove, Check, Run, Asm, Generate, Migrate, Bound, Loop, Its, Throws}
 use Rattle.command_rows.specs.Rows.{Takes}
 use Rattle.command_rows.proofs.OneCommand.{commands_taken}
 use Rattle.jterm.specs.Decision.{IsAnswer, HoldsClaim}
 use Rattle.jterm.specs.Outside.{AreContents}
-use Rattle.jterm.specs.Failure.{AreOfCommand, IsAnswered, HasCause}
+use Rattle.jterm.specs.inner.Failure.{AreOfCommand, IsAnswered, HasCause}
 use Rattle.jterm.proofs.ReadingOrder.{contents_length}
-use Rattle.jterm.proofs.Checking.{judged_low}
+use Rattle.check_call.specs.Answers as check
+use Rattle.migrate_call.specs.Answers as migrate
+use Rattle.loop_call.specs.Answers as looping
+use Rattle.bound_call.specs.Answers as bounding
+use Rattle.throws_call.specs.Answers as throws
+use Rattle.jterm.proofs.Checking.{bound_judged, check_judged, migrate_judged, loop_judged, throws_judged, judged_low}
 use Rattle.jterm.proofs.Proving.{proved_low}
 use Rattle.jterm.proofs.Ruling.{ruled_low}
 
@@ -34,7 +39,8 @@ status_low (Prove nodes) [] verdict answer = absurd answer
 status_low (Prove nodes) (desc ∷ classes) verdict answer = let low = proved_low nodes desc classes verdict answer in omega (arith, low)
 status_low Check [] verdict answer = absurd answer
 status_low Check (cert ∷ []) verdict answer = absurd answer
-status_low Check (cert ∷ desc ∷ classes) verdict answer = judged_low cert desc classes verdict answer
+status_low Check (cert ∷ desc ∷ classes) verdict answer =
+    judged_low (check.Answers cert desc classes) (check_judged cert desc classes) verdict answer
 status_low (Run fuel) [] verdict answer = absurd answer
 status_low (Run fuel) (state ∷ classes) verdict answer = let none = answer.0 in omega (arith, none)
 status_low Asm [] verdict answer = absurd answer
@@ -42,6 +48,24 @@ status_low Asm (listing ∷ []) verdict answer = let none = answer.0 in omega (a
 status_low Asm (listing ∷ more ∷ files) verdict answer = absurd answer
 status_low (Generate n) [] verdict answer = let none = answer.0 in omega (arith, none)
 status_low (Generate n) (file ∷ files) verdict answer = absurd answer
+status_low Migrate [] verdict answer = absurd answer
+status_low Migrate (cert ∷ []) verdict answer = absurd answer
+status_low Migrate (cert ∷ desc ∷ classes) verdict answer =
+    judged_low (migrate.Answers cert desc classes) (migrate_judged cert desc classes) verdict answer
+status_low Bound [] verdict answer = absurd answer
+status_low Bound (bound ∷ []) verdict answer = absurd answer
+status_low Bound (bound ∷ cert ∷ []) verdict answer = absurd answer
+status_low Bound (bound ∷ cert ∷ desc ∷ classes) verdict answer =
+    judged_low (bounding.Answers bound cert desc classes) (bound_judged bound cert desc classes) verdict answer
+status_low Loop [] verdict answer = absurd answer
+status_low Loop (cert ∷ []) verdict answer = absurd answer
+status_low Loop (cert ∷ state ∷ []) verdict answer = absurd answer
+status_low Loop (cert ∷ state ∷ desc ∷ classes) verdict answer =
+    judged_low (looping.Answers cert state desc classes) (loop_judged cert state desc classes) verdict answer
+status_low Throws [] verdict answer = absurd answer
+status_low Throws (cert ∷ []) verdict answer = absurd answer
+status_low Throws (cert ∷ desc ∷ classes) verdict answer =
+    judged_low (throws.Answers cert desc classes) (throws_judged cert desc classes) verdict answer
 status_low Its [] verdict answer = absurd answer
 status_low Its (text ∷ []) verdict answer = let low = ruled_low text verdict answer in omega (arith, low)
 status_low Its (text ∷ more ∷ files) verdict answer = absurd answer

@@ -13,7 +13,7 @@ use Rattle.io_ports.specs.declared.files.FileFault.TheVariants.{Failed, TooLong,
 use Rattle.jterm.specs.declared.inputs.Failure.{Failure}
 use Rattle.jterm.specs.declared.inputs.Failure.TheVariants.{Unread, Broken, NoMemory}
 use Rattle.command_rows.specs.declared.table.Request.{Request}
-use Rattle.command_rows.specs.declared.table.Request.TheVariants.{Prove, Check, Run, Asm, Generate, Its}
+use Rattle.command_rows.specs.declared.table.Request.TheVariants.{Prove, Check, Run, Asm, Generate, Migrate, Bound, Loop, Its, Throws}
 use Rattle.jterm.specs.declared.verdict.Verdict.{Verdict}
 use Rattle.input_steps.specs.declared.refused.Place.{Place}
 use Rattle.input_steps.specs.declared.refused.Fault.{Fault}
@@ -27,8 +27,13 @@ use Rattle.jterm.specs.Lines.{memory_line, read_line}
 use Rattle.abs_cells.specs.declared.packed.PackedPairs.{PackedPairs}
 use Rattle.prove_core.specs.declared.found.Reason.{Reason}
 use Rattle.prove_call.specs.Lines.{yes_line, yes_text}
-use Rattle.check_call.specs.Lines.{accepted_line, refused_line}
-use Rattle.jterm.specs.Decision.{Says, not_proved_for, left_for, accepted, refused_at, IsAnswer, HoldsClaim, HasReason, IsUnproved}
+use Rattle.check_call.specs.Answers as check
+use Rattle.check_call.specs.Lines.{accepted_line}
+use Rattle.migrate_call.specs.Answers as migrate
+use Rattle.loop_call.specs.Answers as looping
+use Rattle.bound_call.specs.Answers as bounding
+use Rattle.throws_call.specs.Answers as throws
+use Rattle.jterm.specs.Decision.{Says, not_proved_for, left_for, accepted, refused_with, IsRefusedLine, IsAnswer, HoldsClaim, HasReason, IsUnproved}
 use Rattle.jterm.specs.Decision.{IsUnrefused}
 use Rattle.jterm.specs.Laws.{AreAlike}
 use Rattle.desc_steps.specs.Headline.{AllEnd}
@@ -40,9 +45,9 @@ use Rattle.its_call.specs.Lines as its
 use Rattle.its_search.specs.declared.searching.ItsFound.{ItsFound}
 use Rattle.jterm.specs.Outside.{AreTold, AreContents, AreWithin, AreHanded, IsUnread, ReadFails, Decided, Begins, Claims, IsWritten}
 use Rattle.jterm.specs.Outside.{file_limits, behind}
-use Rattle.jterm.specs.Failure.{IsAnswered, HasCause, HasLine, status_of, line_of}
+use Rattle.jterm.specs.inner.Failure.{IsAnswered, HasCause, HasLine, status_of, line_of}
 use Rattle.jterm.proofs.OneAnswer.{answers_one}
-use Rattle.jterm.proofs.Checking.{judged_refused, judged_not_one}
+use Rattle.jterm.proofs.Checking.{bound_judged, check_judged, migrate_judged, loop_judged, throws_judged, judged_refused, judged_not_one}
 use Rattle.jterm.proofs.Making.{made_reason}
 use Rattle.jterm.proofs.Ruling.{ruled_low, ruled_left, ruled_reason}
 use Rattle.jterm.proofs.Proving.{proved_low, unproved, reason_kept, certifies}
@@ -179,7 +184,7 @@ told_answer words held r s m n contents told result here there are tells answer 
     subst (λ (q : Request). IsAnswer q told result) one.0 (subst (λ (fs : List (List ℕ)). IsAnswer r fs result) same answer)
 
 -- and what is claimed for it is claimed for that
-told_claim : (words : List (List ℕ)) (held : List ℕ → Told) (r s : Request) (m n contents told : List (List ℕ)) (verdict : Verdict)
+pub told_claim : (words : List (List ℕ)) (held : List ℕ → Told) (r s : Request) (m n contents told : List (List ℕ)) (verdict : Verdict)
     → IsCommand words r m → IsCommand words s n → AreContents (file_limits r) held m contents → AreTold held n told
     → HoldsClaim r contents verdict → HoldsClaim s told verdict
 told_claim words held r s m n contents told verdict here there are tells claim =
@@ -467,13 +472,14 @@ unwritten status own low (inr w) (inr line) six = (w.1, line.1)
 
 -- a verdict of status 2 is that of a refused certificate
 refused_verdict : (request : Request) (files : List (List ℕ)) (verdict : Verdict) → IsAnswer request files (Ok verdict)
-    → verdict.status ≡ 2 → (item : ℕ) × ((cause : List ℕ) × (verdict ≡ refused_at item cause))
+    → verdict.status ≡ 2 → (line : List ℕ) × (IsRefusedLine line × (verdict ≡ refused_with line))
 refused_verdict (Prove nodes) [] verdict answer two = absurd answer
 refused_verdict (Prove nodes) (desc ∷ classes) verdict answer two = let low = proved_low nodes desc classes verdict answer in absurd
     (omega (arith, low, two))
 refused_verdict Check [] verdict answer two = absurd answer
 refused_verdict Check (cert ∷ []) verdict answer two = absurd answer
-refused_verdict Check (cert ∷ desc ∷ classes) verdict answer two = judged_refused cert desc classes verdict answer two
+refused_verdict Check (cert ∷ desc ∷ classes) verdict answer two =
+    judged_refused (check.Answers cert desc classes) (check_judged cert desc classes) verdict answer two
 refused_verdict (Run fuel) [] verdict answer two = absurd answer
 refused_verdict (Run fuel) (state ∷ classes) verdict answer two = let none = answer.0 in absurd (omega (arith, none, two))
 refused_verdict Asm [] verdict answer two = absurd answer
@@ -481,6 +487,24 @@ refused_verdict Asm (listing ∷ []) verdict answer two = let none = answer.0 in
 refused_verdict Asm (listing ∷ more ∷ files) verdict answer two = absurd answer
 refused_verdict (Generate n) [] verdict answer two = let none = answer.0 in absurd (omega (arith, none, two))
 refused_verdict (Generate n) (file ∷ files) verdict answer two = absurd answer
+refused_verdict Migrate [] verdict answer two = absurd answer
+refused_verdict Migrate (cert ∷ []) verdict answer two = absurd answer
+refused_verdict Migrate (cert ∷ desc ∷ classes) verdict answer two =
+    judged_refused (migrate.Answers cert desc classes) (migrate_judged cert desc classes) verdict answer two
+refused_verdict Bound [] verdict answer two = absurd answer
+refused_verdict Bound (bound ∷ []) verdict answer two = absurd answer
+refused_verdict Bound (bound ∷ cert ∷ []) verdict answer two = absurd answer
+refused_verdict Bound (bound ∷ cert ∷ desc ∷ classes) verdict answer two =
+    judged_refused (bounding.Answers bound cert desc classes) (bound_judged bound cert desc classes) verdict answer two
+refused_verdict Loop [] verdict answer two = absurd answer
+refused_verdict Loop (cert ∷ []) verdict answer two = absurd answer
+refused_verdict Loop (cert ∷ state ∷ []) verdict answer two = absurd answer
+refused_verdict Loop (cert ∷ state ∷ desc ∷ classes) verdict answer two =
+    judged_refused (looping.Answers cert state desc classes) (loop_judged cert state desc classes) verdict answer two
+refused_verdict Throws [] verdict answer two = absurd answer
+refused_verdict Throws (cert ∷ []) verdict answer two = absurd answer
+refused_verdict Throws (cert ∷ desc ∷ classes) verdict answer two =
+    judged_refused (throws.Answers cert desc classes) (throws_judged cert desc classes) verdict answer two
 refused_verdict Its [] verdict answer two = absurd answer
 refused_verdict Its (text ∷ []) verdict answer two = let low = ruled_low text verdict answer in absurd (omega (arith, low, two))
 refused_verdict Its (text ∷ more ∷ files) verdict answer two = absurd answer
@@ -490,11 +514,11 @@ pub not_accepted : {S : Type 0} (faults : S → ℕ) (taken : S → Option (List
     (request : Request) (names : List (List ℕ)) (held : List ℕ → Told) (verdict : Verdict) (status : ℕ)
     → IsCommand words request names → IsAnswered (file_limits request) request names held verdict
     → IsWritten faults taken old new verdict status
-    → status ≡ 2 → (item : ℕ) × (cause : List ℕ) × Decided words held (Ok (refused_at item cause))
-    × Appends (taken old) (taken new) (refused_line item cause)
+    → status ≡ 2 → (line : List ℕ) × IsRefusedLine line × Decided words held (Ok (refused_with line))
+    × Appends (taken old) (taken new) line
 not_accepted faults taken old new words request names held verdict status command answered (inl put) two =
     let is = refused_verdict request answered.contents verdict answered.answer (sym put.0 ∙ two) in
-    let answer : IsAnswer request answered.contents (Ok (refused_at is.0 is.1.0)) = subst
+    let answer : IsAnswer request answered.contents (Ok (refused_with is.0)) = subst
     (λ (v : Verdict). IsAnswer request answered.contents (Ok v)) is.1.1 answered.answer in (
       is.0,
       is.1.0,
@@ -523,7 +547,8 @@ unproved_verdict (Prove nodes) [] verdict answer one = absurd answer
 unproved_verdict (Prove nodes) (desc ∷ classes) verdict answer one = inl (unproved nodes desc classes verdict answer one)
 unproved_verdict Check [] verdict answer one = absurd answer
 unproved_verdict Check (cert ∷ []) verdict answer one = absurd answer
-unproved_verdict Check (cert ∷ desc ∷ classes) verdict answer one = absurd (judged_not_one cert desc classes verdict answer one)
+unproved_verdict Check (cert ∷ desc ∷ classes) verdict answer one =
+    absurd (judged_not_one (check.Answers cert desc classes) (check_judged cert desc classes) verdict answer one)
 unproved_verdict (Run fuel) [] verdict answer one = absurd answer
 unproved_verdict (Run fuel) (state ∷ classes) verdict answer one = let none = answer.0 in absurd (omega (arith, none, one))
 unproved_verdict Asm [] verdict answer one = absurd answer
@@ -531,6 +556,24 @@ unproved_verdict Asm (listing ∷ []) verdict answer one = let none = answer.0 i
 unproved_verdict Asm (listing ∷ more ∷ files) verdict answer one = absurd answer
 unproved_verdict (Generate n) [] verdict answer one = let none = answer.0 in absurd (omega (arith, none, one))
 unproved_verdict (Generate n) (file ∷ files) verdict answer one = absurd answer
+unproved_verdict Migrate [] verdict answer one = absurd answer
+unproved_verdict Migrate (cert ∷ []) verdict answer one = absurd answer
+unproved_verdict Migrate (cert ∷ desc ∷ classes) verdict answer one =
+    absurd (judged_not_one (migrate.Answers cert desc classes) (migrate_judged cert desc classes) verdict answer one)
+unproved_verdict Bound [] verdict answer one = absurd answer
+unproved_verdict Bound (bound ∷ []) verdict answer one = absurd answer
+unproved_verdict Bound (bound ∷ cert ∷ []) verdict answer one = absurd answer
+unproved_verdict Bound (bound ∷ cert ∷ desc ∷ classes) verdict answer one =
+    absurd (judged_not_one (bounding.Answers bound cert desc classes) (bound_judged bound cert desc classes) verdict answer one)
+unproved_verdict Loop [] verdict answer one = absurd answer
+unproved_verdict Loop (cert ∷ []) verdict answer one = absurd answer
+unproved_verdict Loop (cert ∷ state ∷ []) verdict answer one = absurd answer
+unproved_verdict Loop (cert ∷ state ∷ desc ∷ classes) verdict answer one =
+    absurd (judged_not_one (looping.Answers cert state desc classes) (loop_judged cert state desc classes) verdict answer one)
+unproved_verdict Throws [] verdict answer one = absurd answer
+unproved_verdict Throws (cert ∷ []) verdict answer one = absurd answer
+unproved_verdict Throws (cert ∷ desc ∷ classes) verdict answer one =
+    absurd (judged_not_one (throws.Answers cert desc classes) (throws_judged cert desc classes) verdict answer one)
 unproved_verdict Its [] verdict answer one = absurd answer
 unproved_verdict Its (text ∷ []) verdict answer one = inr (ruled_left text verdict answer one)
 unproved_verdict Its (text ∷ more ∷ files) verdict answer one = absurd answer
@@ -612,8 +655,8 @@ reasons_kept (Prove nodes) [] verdict answer = absurd answer
 reasons_kept (Prove nodes) (desc ∷ classes) verdict answer = of_prove verdict answer.0 (reason_kept nodes desc classes verdict answer)
 reasons_kept Check [] verdict answer = absurd answer
 reasons_kept Check (cert ∷ []) verdict answer = absurd answer
-reasons_kept Check (cert ∷ desc ∷ classes) verdict answer = no_reason verdict (judged_not_one cert desc classes verdict answer)
-    answer.0 answer.1
+reasons_kept Check (cert ∷ desc ∷ classes) verdict answer =
+    no_reason verdict (judged_not_one (check.Answers cert desc classes) (check_judged cert desc classes) verdict answer) answer.0 answer.1
 reasons_kept (Run fuel) [] verdict answer = absurd answer
 reasons_kept (Run fuel) (state ∷ classes) verdict answer = no_reason verdict
     (λ one. let none = answer.0 in omega (arith, none, one)) answer.1 answer.2
@@ -623,6 +666,25 @@ reasons_kept Asm (listing ∷ []) verdict answer = no_reason verdict (λ one. le
 reasons_kept Asm (listing ∷ more ∷ files) verdict answer = absurd answer
 reasons_kept (Generate n) [] verdict answer = made_reason n verdict answer
 reasons_kept (Generate n) (file ∷ files) verdict answer = absurd answer
+reasons_kept Migrate [] verdict answer = absurd answer
+reasons_kept Migrate (cert ∷ []) verdict answer = absurd answer
+reasons_kept Migrate (cert ∷ desc ∷ classes) verdict answer =
+    no_reason verdict (judged_not_one (migrate.Answers cert desc classes) (migrate_judged cert desc classes) verdict answer) answer.0 answer.1
+reasons_kept Bound [] verdict answer = absurd answer
+reasons_kept Bound (bound ∷ []) verdict answer = absurd answer
+reasons_kept Bound (bound ∷ cert ∷ []) verdict answer = absurd answer
+reasons_kept Bound (bound ∷ cert ∷ desc ∷ classes) verdict answer =
+    no_reason verdict (judged_not_one (bounding.Answers bound cert desc classes) (bound_judged bound cert desc classes) verdict answer)
+    answer.0 answer.1
+reasons_kept Loop [] verdict answer = absurd answer
+reasons_kept Loop (cert ∷ []) verdict answer = absurd answer
+reasons_kept Loop (cert ∷ state ∷ []) verdict answer = absurd answer
+reasons_kept Loop (cert ∷ state ∷ desc ∷ classes) verdict answer =
+    no_reason verdict (judged_not_one (looping.Answers cert state desc classes) (loop_judged cert state desc classes) verdict answer) answer.0 answer.1
+reasons_kept Throws [] verdict answer = absurd answer
+reasons_kept Throws (cert ∷ []) verdict answer = absurd answer
+reasons_kept Throws (cert ∷ desc ∷ classes) verdict answer =
+    no_reason verdict (judged_not_one (throws.Answers cert desc classes) (throws_judged cert desc classes) verdict answer) answer.0 answer.1
 reasons_kept Its [] verdict answer = absurd answer
 reasons_kept Its (text ∷ []) verdict answer = ruled_reason text verdict answer
 reasons_kept Its (text ∷ more ∷ files) verdict answer = absurd answer

@@ -9,7 +9,7 @@ use Rattle.prove_core.specs.declared.found.Reason.TheVariants.{Nodes, Ids, Paths
 use Rattle.prove_call.specs.declared.answer.Answer.{Answer}
 use Rattle.prove_call.specs.Answers as prove
 use Rattle.prove_call.specs.Lines.{yes_text, reason_text}
-use Rattle.prove_call.specs.Said.{yes_with}
+use Rattle.prove_call.specs.Answers.{yes_with}
 use Rattle.check_call.specs.Answers as check
 use Rattle.check_call.specs.Lines as lines
 use Rattle.jterm.specs.GenerateAnswers.{maybe_of}

@@ -14,7 +14,7 @@ use Rattle.prove_call.specs.declared.answer.Answer.{Answer}
 use Rattle.prove_call.specs.Answers as proving
 use Rattle.prove_call.specs.Headline as prove
 use Rattle.prove_call.specs.Lines.{yes_text}
-use Rattle.prove_call.specs.Said.{yes_with}
+use Rattle.prove_call.specs.Answers.{yes_with}
 use Rattle.check_call.specs.declared.outcome.Outcome.{Outcome}
 use Rattle.check_call.specs.Answers as check
 use Rattle.check_call.specs.Lines.{accepted}
@@ -24,7 +24,7 @@ use Rattle.jterm.specs.declared.generate.Generated.{Generated}
 use Rattle.jterm.specs.GenerateAnswers.{Proves, maybe_of, IsYes, IsMaybe, AnswersFiles}
 use Rattle.jterm.specs.GenerateHeadline.{SaysYes, FilesEndIfYes}
 use Rattle.jterm.specs.GenerateLines.{first_line, check_word, blocks_line, yes_begin}
-use Rattle.jterm.specs.GenerateSaid.{generated_of, HasAccepted}
+use Rattle.jterm.specs.inner.GenerateSaid.{generated_of, HasAccepted}
 use Rattle.jterm.proofs.GenerateCertifying.{Certifies, Reasons, certifies_or_reasons}
 
 -- ---- lines

@@ -7,10 +7,13 @@ pub mod GenerateOneAnswer
 pub mod ReadingOrder
 pub mod Proving
 pub mod Ruling
+pub mod CertCommands
 pub mod Checking
 pub mod Answering
 pub mod OneAnswer
 pub mod Deciding
+pub mod Headlines
 pub mod Making
+pub mod Migrating
 pub mod Endings
 pub mod WaysOut

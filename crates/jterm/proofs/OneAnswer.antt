@@ -21,10 +21,18 @@ use Rattle.prove_call.proofs.OneAnswer as proving
 use Rattle.check_call.specs.declared.outcome.Outcome.{Outcome}
 use Rattle.check_call.specs.Answers as check
 use Rattle.check_call.proofs.OneAnswer as checking
+use Rattle.migrate_call.specs.Answers as migrate
+use Rattle.migrate_call.proofs.OneAnswer as migrating
+use Rattle.loop_call.specs.Answers as looping
+use Rattle.bound_call.specs.Answers as bounding
+use Rattle.loop_call.proofs.OneAnswer as loops
+use Rattle.bound_call.proofs.OneAnswer as bounded
+use Rattle.throws_call.specs.Answers as throws
+use Rattle.throws_call.proofs.OneAnswer as reporting
 use Rattle.run_call.specs.Answers as run
 use Rattle.run_call.proofs.OneAnswer as running
 use Rattle.command_rows.specs.declared.table.Request.{Request}
-use Rattle.command_rows.specs.declared.table.Request.TheVariants.{Prove, Check, Run, Asm, Generate, Its}
+use Rattle.command_rows.specs.declared.table.Request.TheVariants.{Prove, Check, Run, Asm, Generate, Migrate, Bound, Loop, Its, Throws}
 use Rattle.jterm.specs.declared.verdict.Verdict.{Verdict}
 use Rattle.jterm.specs.Decision.{Ruled, Proved, DoneWith, Judged, Made, IsAnswer}
 use Rattle.jterm.specs.Laws.{AreAlike, AreOne}
@@ -155,6 +163,24 @@ answers_one Asm (listing ∷ []) a b x y some more = one_is Asm a b (λ v w e. e
 answers_one Asm (listing ∷ other ∷ files) a b x y some more = absurd x
 answers_one (Generate n) [] a b x y some more = made_one n (generate.Answers n) (generating.refusals_one n) a b x y some more
 answers_one (Generate n) (file ∷ files) a b x y some more = absurd x
+answers_one Migrate [] a b x y some more = absurd x
+answers_one Migrate (cert ∷ []) a b x y some more = absurd x
+answers_one Migrate (cert ∷ desc ∷ files) a b x y some more = one_is Migrate a b (λ v w e. e)
+    (judged_one (migrate.Answers cert desc files) (migrating.answers_one cert desc files) a b x y some more)
+answers_one Bound [] a b x y some more = absurd x
+answers_one Bound (bound ∷ []) a b x y some more = absurd x
+answers_one Bound (bound ∷ cert ∷ []) a b x y some more = absurd x
+answers_one Bound (bound ∷ cert ∷ desc ∷ files) a b x y some more = one_is Bound a b (λ v w e. e)
+    (judged_one (bounding.Answers bound cert desc files) (bounded.answers_one bound cert desc files) a b x y some more)
+answers_one Loop [] a b x y some more = absurd x
+answers_one Loop (cert ∷ []) a b x y some more = absurd x
+answers_one Loop (cert ∷ state ∷ []) a b x y some more = absurd x
+answers_one Loop (cert ∷ state ∷ desc ∷ files) a b x y some more = one_is Loop a b (λ v w e. e)
+    (judged_one (looping.Answers cert state desc files) (loops.answers_one cert state desc files) a b x y some more)
+answers_one Throws [] a b x y some more = absurd x
+answers_one Throws (cert ∷ []) a b x y some more = absurd x
+answers_one Throws (cert ∷ desc ∷ files) a b x y some more = one_is Throws a b (λ v w e. e)
+    (judged_one (throws.Answers cert desc files) (reporting.answers_one cert desc files) a b x y some more)
 answers_one Its [] a b x y some more = absurd x
 answers_one Its (text ∷ []) a b x y some more = ruled_one text a b x y some more
 answers_one Its (text ∷ other ∷ files) a b x y some more = absurd x

@@ -8,7 +8,7 @@ use Rattle.io_ports.specs.declared.files.FileFault.{FileFault}
 use Rattle.io_ports.specs.declared.files.FileFault.TheVariants.{Failed, TooLong, Missing, Memory}
 use Rattle.command_rows.specs.declared.table.Request.{Request}
 use Rattle.jterm.specs.Outside.{AreContents, AreRead, behind}
-use Rattle.jterm.specs.Failure.{HasCause, failure_at}
+use Rattle.jterm.specs.inner.Failure.{HasCause, failure_at}
 
 -- one item more, as contents
 pub map_more : {A : Type 0} (f : A → List ℕ) (xs all : List A) (x : A) → all ≡ xs ++ x ∷ [] → map f all ≡ map f xs ++ f x ∷ []

@@ -1,5 +1,5 @@
 -- What `decide` answers, and why.
-use Rattle.std.specs.Prelude.{◌≡◌, ◌⊎◌, ℕ, List, [], ◌∷◌, ◌++◌, Option, Some, None, Result, Ok, Err, ⊤}
+use Rattle.std.specs.Prelude.{◌≡◌, ◌⊎◌, ℕ, List, [], ◌∷◌, ◌++◌, Some, None, Result, Ok, Err, ⊤}
 use Rattle.abs_cells.specs.declared.packed.PackedPairs.{PackedPairs}
 use Rattle.asm_call.specs.Answers as asm
 use Rattle.jterm.specs.declared.generate.Generated.{Generated}
@@ -22,6 +22,16 @@ use Rattle.input_steps.specs.Steps.{IsAt}
 use Rattle.check_call.specs.declared.outcome.Outcome.{Outcome}
 use Rattle.check_call.specs.Answers as check
 use Rattle.check_call.specs.Lines.{accepted_line, refused_line}
+use Rattle.migrate_call.specs.Answers as migrate
+use Rattle.migrate_call.specs.Headline.{IsMigrated}
+use Rattle.loop_call.specs.Answers as looping
+use Rattle.loop_call.specs.Headline.{AllGoOnForEver}
+use Rattle.loop_call.specs.Lines as loops
+use Rattle.throws_call.specs.Answers as throws
+use Rattle.bound_call.specs.Answers as bounding
+use Rattle.bound_call.specs.Headline.{AllEndWithin}
+use Rattle.bound_call.specs.Lines as bounds
+use Rattle.throws_call.specs.Headline.{AllEndAsSaid}
 use Rattle.prove_core.specs.declared.found.Reason.{Reason}
 use Rattle.prove_call.specs.declared.answer.Answer.{Answer}
 use Rattle.prove_call.specs.Answers as prove
@@ -29,10 +39,10 @@ use Rattle.prove_call.specs.Lines.{yes_line}
 use Rattle.desc_steps.specs.Headline.{AllEnd}
 use Rattle.run_call.specs.Answers as run
 use Rattle.command_rows.specs.declared.table.Request.{Request}
-use Rattle.command_rows.specs.declared.table.Request.TheVariants.{Prove, Check, Run, Asm, Generate, Its}
+use Rattle.command_rows.specs.declared.table.Request.TheVariants.{Prove, Check, Run, Asm, Generate, Migrate, Bound, Loop, Its, Throws}
 use Rattle.jterm.specs.declared.verdict.Verdict.{Verdict}
 
--- a line is said: the status is 0, or the output begins with it
+-- a verdict says a line: its status is 0, or its output begins with the line
 abbrev pub Says : List ℕ → Verdict → Type 0
 Says line verdict = (verdict.status ≡ 0) ⊎ ((rest : List ℕ) × (verdict.out ≡ line ++ rest))
 
@@ -42,13 +52,14 @@ Says line verdict = (verdict.status ≡ 0) ⊎ ((rest : List ℕ) × (verdict.ou
 abbrev pub RefusesRules : List ℕ → Place → Fault → Type 0
 RefusesRules text = IsAt {C = ItsFault} (λ fault. places.Its) faults.Its (λ fault. rules_of text ≡ Err fault)
 
--- what is said of the system that a text says: yes, or the rules that are left; else the text's first fault. Want of memory has no cause
+-- what is said of the system that a text says: yes, or the rules that are left; else the text's first fault; want of
+-- memory has no cause
 abbrev pub Ruled : List ℕ → Result Verdict Refused → Type 0
 Ruled text (Ok verdict) = (verdict.reason ≡ None) × IsSaid text (record { status = verdict.status; out = verdict.out; left = verdict.its })
 Ruled text (Err (At place fault)) = RefusesRules text place fault
 Ruled text (Err Memory) = Unit {0}
 
--- what is said of a text that has this fault
+-- what is said of a text of rules that has this fault
 abbrev pub rules_refusal : ItsFault → Refused
 rules_refusal ruled.Memory = Memory
 rules_refusal fault = At places.Its (faults.Its fault)
@@ -79,13 +90,19 @@ abbrev pub DoneWith : (Result (List ℕ) Refused → Type 0) → Result Verdict 
 DoneWith Answers (Ok verdict) = (verdict.status ≡ 0) × (verdict.reason ≡ None) × (verdict.its ≡ None) × Answers (Ok verdict.out)
 DoneWith Answers (Err refused) = Answers (Err refused)
 
--- the verdict that a certificate is accepted
+-- the verdict of `check` that a certificate is accepted
 abbrev pub accepted : Verdict
 accepted = record { status = 0; out = accepted_line; reason = None; its = None }
 
--- the verdict that a certificate is refused at an item for a cause
-abbrev pub refused_at : ℕ → List ℕ → Verdict
-refused_at item cause = record { status = 2; out = refused_line item cause; reason = None; its = None }
+-- the verdict of `check`, and of the commands that check first, that a certificate is refused with this line
+abbrev pub refused_with : List ℕ → Verdict
+refused_with line = record { status = 2; out = line; reason = None; its = None }
+
+-- a line says that something is refused: it names an item of the certificate, or says that a bound or a loop is, and
+-- the cause
+abbrev pub IsRefusedLine : List ℕ → Type 0
+IsRefusedLine line = ((item : ℕ) × ((cause : List ℕ) × (line ≡ refused_line item cause)))
+    ⊎ (((cause : List ℕ) × (line ≡ loops.refused_line cause)) ⊎ ((cause : List ℕ) × (line ≡ bounds.refused_line cause)))
 
 -- the outcome of a check as a verdict; or its refusal
 abbrev pub verdict_of : Result Outcome Refused → Result Verdict Refused
@@ -109,30 +126,41 @@ Made Answers (Ok verdict) = (verdict.status ≡ 0) × (verdict.its ≡ None)
     × Answers (Ok (record { out = verdict.out; reason = verdict.reason }))
 Made Answers (Err refused) = Answers (Err refused)
 
--- the answer to a request for the contents of its files: a certificate, a description or a state, and classes; a listing; none; or a text of rules
+-- The answer to a request for the contents of its files, which stand in the order of the file words: a bound, a
+-- certificate, a state, a description, and classes; or a listing; or none; or a text of rules.
 abbrev pub IsAnswer : Request → List (List ℕ) → Result Verdict Refused → Type 0
 IsAnswer (Prove nodes) (desc ∷ classes) result = Proved (prove.Answers nodes desc classes) result
 IsAnswer Check (cert ∷ desc ∷ classes) result = Judged (check.Answers cert desc classes) result
 IsAnswer (Run fuel) (state ∷ classes) result = DoneWith (run.Answers fuel state classes) result
 IsAnswer Asm (listing ∷ []) result = DoneWith (asm.Answers listing) result
 IsAnswer (Generate n) [] result = Made (generate.Answers n) result
+IsAnswer Migrate (cert ∷ desc ∷ classes) result = Judged (migrate.Answers cert desc classes) result
+IsAnswer Bound (bound ∷ cert ∷ desc ∷ classes) result = Judged (bounding.Answers bound cert desc classes) result
+IsAnswer Loop (cert ∷ state ∷ desc ∷ classes) result = Judged (looping.Answers cert state desc classes) result
 IsAnswer Its (text ∷ []) result = Ruled text result
+IsAnswer Throws (cert ∷ desc ∷ classes) result = Judged (throws.Answers cert desc classes) result
 IsAnswer request files result = ⊥
 
 -- ---- what an answer claims
 
--- Where the answer is yes this is true, of the contents of the files: every state ends that the description fits (`prove` and `check`), also of the class
--- that was made (`generate`); the system of the rules ends (`its`).
+-- Where the answer is yes this is true, of the contents of the files: every state ends that the description fits
+-- (`prove` and `check`), also of the class that was made (`generate`), and ends in a way that the lines say
+-- (`throws`), or within their bound (`bound`); none ends (`loop`); what is put is the certificate in form 2
+-- (`migrate`); the system of the rules ends (`its`).
 abbrev pub HoldsClaim : Request → List (List ℕ) → Verdict → Type 0
 HoldsClaim (Prove nodes) (desc ∷ classes) verdict = Says yes_line verdict → AllEnd classes desc
 HoldsClaim Check (cert ∷ desc ∷ classes) verdict = Says accepted_line verdict → AllEnd classes desc
 HoldsClaim (Generate n) [] verdict = (class : List ℕ) → generate.IsClass n class → SaysYes n verdict.out → AllEnd (class ∷ []) description
+HoldsClaim Migrate (cert ∷ desc ∷ classes) verdict = verdict.status ≡ 0 → IsMigrated classes desc cert verdict.out
+HoldsClaim Bound (bound ∷ cert ∷ desc ∷ classes) verdict = verdict.status ≡ 0 → AllEndWithin classes desc verdict.out
+HoldsClaim Loop (cert ∷ state ∷ desc ∷ classes) verdict = Says loops.no_line verdict → AllGoOnForEver classes desc state
 HoldsClaim Its (text ∷ []) verdict = Says its.yes_line verdict → IsEnding text
+HoldsClaim Throws (cert ∷ desc ∷ classes) verdict = verdict.status ≡ 0 → AllEndAsSaid classes desc verdict.out
 HoldsClaim request files verdict = ⊤
 
 -- ---- where nothing is proved
 
--- it keeps why no certificate is given, or what is left of rules
+-- a verdict keeps why no certificate is given, or what is left of rules
 abbrev pub HasReason : Verdict → Type 0
 HasReason verdict = ((reason : Reason PackedPairs) × (verdict.reason ≡ Some reason)) ⊎ ((left : ItsFound) × (verdict.its ≡ Some left))
 

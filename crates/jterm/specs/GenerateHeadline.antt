@@ -1,5 +1,5 @@
 -- What YES says.
-use Rattle.std.specs.Prelude.{◌≡◌, ℕ, List, [], ◌∷◌, ◌++◌, Result, Ok, Err, IfOk}
+use Rattle.std.specs.Prelude.{◌≡◌, ℕ, List, [], ◌∷◌, ◌++◌, Result, IfOk}
 use Rattle.input_steps.specs.declared.refused.Refused.{Refused}
 use Rattle.desc_steps.specs.Headline.{AllEnd}
 use Rattle.generate_text.specs.Descriptions.{description}

@@ -3,17 +3,22 @@ use Rattle.std.specs.Prelude.{◌≡◌, ◌≢◌, ◌↔◌, ℕ, List, ◌∷
 use Rattle.input_steps.specs.declared.refused.Refused.{Refused}
 use Rattle.input_steps.specs.declared.refused.Refused.TheVariants.{Memory}
 use Rattle.command_rows.specs.declared.table.Request.{Request}
-use Rattle.command_rows.specs.declared.table.Request.TheVariants.{Prove, Check, Run, Asm}
+use Rattle.command_rows.specs.declared.table.Request.TheVariants.{Prove, Check, Run, Asm, Migrate, Bound, Loop, Throws}
 use Rattle.jterm.specs.declared.verdict.Verdict.{Verdict}
 use Rattle.jterm.specs.Decision.{accepted, IsAnswer, HasReason, IsUnproved}
 use Rattle.prove_call.specs.Lines.{yes_text}
 
--- Verdicts for the same contents. Of `check`, `run` and `asm` they are one. What another command finds, which searches for a proof, is free: one
--- certificate or another, or none for a reason; a proof, or rules that are left.
+-- Verdicts for the same contents. Of `check`, `run`, `asm`, `migrate`, `bound`, `loop` and `throws` they are one.
+-- What another command finds, which searches for a proof, is free: one certificate or another, or none for a reason;
+-- a proof, or rules that are left.
 abbrev pub AreAlike : Request → Verdict → Verdict → Type 0
 AreAlike Check a b = a ≡ b
 AreAlike (Run fuel) a b = a ≡ b
 AreAlike Asm a b = a ≡ b
+AreAlike Migrate a b = a ≡ b
+AreAlike Bound a b = a ≡ b
+AreAlike Loop a b = a ≡ b
+AreAlike Throws a b = a ≡ b
 AreAlike request a b = Unit {0}
 
 -- two verdicts that are alike, or one place and fault twice
@@ -29,13 +34,19 @@ AnswersAreOne = (request : Request) (contents : List (List ℕ)) (a b : Result V
     → IsAnswer request contents b
     → a ≢ Err Memory → b ≢ Err Memory → AreOne request a b
 
--- a reason, or what is left, is kept exactly there
+-- a verdict keeps a reason, or what is left, exactly where nothing is proved
 abbrev pub ReasonsAreKept : Type 0
 ReasonsAreKept = (request : Request) (contents : List (List ℕ)) (verdict : Verdict) → IsAnswer request contents (Ok verdict)
     → IsUnproved request verdict ↔ HasReason verdict
 
--- behind YES stands a certificate, which `check` accepts for the same files
+-- behind a YES of `prove` stands a certificate, which `check` accepts for the same files
 abbrev pub CertificatesAreAccepted : Type 0
 CertificatesAreAccepted = (nodes : ℕ) (desc : List ℕ) (classes : List (List ℕ)) (verdict : Verdict)
     → IsAnswer (Prove nodes) (desc ∷ classes) (Ok verdict) → verdict.status ≡ 0
     → (cert : List ℕ) × (verdict.out ≡ yes_text cert) × IsAnswer Check (cert ∷ desc ∷ classes) (Ok accepted)
+
+-- `migrate` gives a certificate exactly where `check` accepts the one that it is given
+abbrev pub AcceptedMigrate : Type 0
+AcceptedMigrate = (cert desc : List ℕ) (classes : List (List ℕ))
+    → ((verdict : Verdict) × ((verdict.status ≡ 0) × IsAnswer Migrate (cert ∷ desc ∷ classes) (Ok verdict)))
+    ↔ IsAnswer Check (cert ∷ desc ∷ classes) (Ok accepted)

@@ -1,11 +1,10 @@
 pub mod GenerateLines
 pub mod GenerateAnswers
 pub mod GenerateHeadline
-pub mod GenerateSaid
 pub mod Decision
 pub mod Laws
 pub mod Words
 pub mod Lines
 pub mod Outside
 pub mod CallEnds
-pub mod Failure
+pub mod inner

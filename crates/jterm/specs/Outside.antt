@@ -1,5 +1,5 @@
 -- What a call of the program comes to: the words, the files that they name, the output and the line of errors.
-use Rattle.std.specs.Prelude.{◌≡◌, ◌⊎◌, ℕ, zero, suc, ◌≤◌, List, [], ◌∷◌, ◌++◌, length, map, take, slice_get, Option, Some, Result, ⊤}
+use Rattle.std.specs.Prelude.{◌≡◌, ◌⊎◌, ℕ, suc, ◌≤◌, List, [], ◌∷◌, ◌++◌, length, map, take, slice_get, Option, Some, Result, ⊤}
 use Rattle.std.specs.Io.KnownBytes.{Appends}
 use Rattle.io_ports.specs.Count.{Rose}
 use Rattle.io_ports.specs.Taken.{AppendsPrefix}
@@ -11,7 +11,7 @@ use Rattle.cert_form.specs.Limits.{most_certificate_bytes}
 use Rattle.class_base.specs.Limits.{most_file_bytes}
 use Rattle.command_rows.specs.declared.table.Request.{Request}
 use Rattle.command_rows.specs.declared.row.FileWord.{FileWord}
-use Rattle.command_rows.specs.declared.row.FileWord.TheVariants.{Cert}
+use Rattle.command_rows.specs.declared.row.FileWord.TheVariants.{Cert, Bounds}
 use Rattle.command_rows.specs.Rows.{row_at, file_at}
 use Rattle.jterm.specs.declared.verdict.Verdict.{Verdict}
 use Rattle.input_steps.specs.declared.refused.Refused.{Refused}
@@ -20,13 +20,14 @@ use Rattle.jterm.specs.Decision.{IsAnswer}
 
 -- ---- files
 
--- what the files tell under these names is these contents
+-- the files tell these contents under these names
 abbrev pub AreTold : (List ℕ → Told) → List (List ℕ) → List (List ℕ) → Type 0
 AreTold held names contents = map held names ≡ map Content contents
 
 -- how many bytes a file may have: so many a certificate, so many each other one
 abbrev pub limit_of : ℕ → ℕ → FileWord → ℕ
 limit_of certificate other Cert = certificate
+limit_of certificate other Bounds = certificate
 limit_of certificate other word = other
 
 -- the file at a place among those of a request
@@ -88,13 +89,14 @@ FirstAreRead leaves names old new = (count : ℕ) × AreRead leaves (take count 
 
 -- ---- the answer
 
--- the words are this command, and what the files tell under the names that it has are these contents, within their limits
+-- the words are a command, and what the files tell under the names that it has are these contents, within their
+-- limits
 pub record AreHanded (words : List (List ℕ)) (held : List ℕ → Told) (request : Request) (names contents : List (List ℕ)) : Type 0 where
   pub is_command : IsCommand words request names
   pub told : AreTold held names contents
   pub within : AreWithin (file_limits request) contents
 
--- this is the answer for the contents of the files that the words of a command name
+-- a result is the answer for the contents of the files that the words of a command name
 pub record Decided (words : List (List ℕ)) (held : List ℕ → Told) (result : Result Verdict Refused) : Type 0 where
   pub request : Request
   pub names : List (List ℕ)
@@ -105,15 +107,15 @@ pub record Decided (words : List (List ℕ)) (held : List ℕ → Told) (result 
 
 -- ---- outputs
 
--- the line is put, unless the count of the sink's faults rose
+-- an output takes this line, unless the count of the sink's faults rises
 abbrev pub Puts : {S : Type 0} → (S → ℕ) → (S → Option (List ℕ)) → S → S → List ℕ → Type 0
 Puts faults taken old new line = (Rose (faults old) (faults new) → ⊥) → Appends (taken old) (taken new) line
 
--- what the call put on the output begins with a line
+-- what a call puts on an output begins with a line
 abbrev pub Begins : {S : Type 0} → List ℕ → (S → Option (List ℕ)) → S → S → Type 0
 Begins line taken old new = (before rest : List ℕ) × (taken old ≡ Some before) × (taken new ≡ Some (before ++ line ++ rest))
 
--- a line is claimed: the status is 0, or what the call put on the output begins with it
+-- a call claims a line: the status is 0, or what the call put on the output begins with it
 abbrev pub Claims : {S : Type 0} → List ℕ → (S → Option (List ℕ)) → S → S → ℕ → Type 0
 Claims line taken old new status = (status ≡ 0) ⊎ Begins line taken old new
 

@@ -3,6 +3,7 @@ ghost use Rattle.std.specs.Prelude.{◌≡◌, length, map, IfOk};
 ghost use Rattle.command_rows.specs.Rows.{Takes};
 ghost use Rattle.jterm.specs.Decision.{HoldsClaim, IsAnswer, done_of, verdict_of, verdict_of_made};
 
+use crate::certs::{bounded, looped, migrated, reported};
 use crate::generate::{Generated, generate_line};
 use crate::rules::rules_verdict;
 use crate::verdict::Verdict;
@@ -30,8 +31,8 @@ fn done(out: Result<Seq<u8>, Refused>) -> Result<Verdict, Refused>
     }
 }
 
-/// The outcome of a check as a verdict.
-fn judged(outcome: Result<Outcome, Refused>) -> Result<Verdict, Refused>
+/// The outcome of a command over a certificate as a verdict.
+pub(crate) fn judged(outcome: Result<Outcome, Refused>) -> Result<Verdict, Refused>
     ensures { result ≡ verdict_of outcome }
 {
     match outcome {
@@ -61,7 +62,7 @@ fn made(generated: Result<Generated, Refused>) -> Result<Verdict, Refused>
 }
 
 /// Does what the request asks for with the bytes of the files that its command names, in the order of the words:
-/// the certificate of a check, the description or the state, and then the classes; or the listing; or none; or the rules.
+/// the certificate, the state, the description, and then the classes; or the listing; or none; or the rules.
 ///
 /// # Errors
 ///
@@ -100,5 +101,9 @@ pub fn decide(alloc: Global, request: &Request, inputs: &[Vec<u8>]) -> Result<Ve
         Request::Asm => done(class_file(alloc, inputs[0].as_slice())),
         Request::Generate { n } => made(generate_line(alloc, *n)),
         Request::Its => rules_verdict(alloc, inputs[0].as_slice()),
+        Request::Migrate => migrated(alloc, inputs),
+        Request::Bound => bounded(alloc, inputs),
+        Request::Loop => looped(alloc, inputs),
+        Request::Throws => reported(alloc, inputs),
     }
 }

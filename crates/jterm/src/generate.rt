@@ -6,7 +6,7 @@ ghost use Rattle.desc_steps.specs.Answers.{AnswersAs};
 ghost use Rattle.generate_text.specs.Listings.{listing_of};
 ghost use Rattle.jterm.specs.GenerateAnswers.{Proves, AnswersFiles, Answers};
 ghost use Rattle.jterm.specs.GenerateHeadline.{FilesEndIfYes, AllEndIfYes};
-ghost use Rattle.jterm.specs.GenerateSaid.{generated_of};
+ghost use Rattle.jterm.specs.inner.GenerateSaid.{generated_of};
 
 use crate::made_cert::is_accepted;
 use crate::made_line::{blocks_line, check_word, first_line};
@@ -83,9 +83,10 @@ fn of_class(alloc: Global, n: u32, class: Seq<u8>) -> Result<Generated, Refused>
     of_files(alloc, n, &files)
 }
 
-/// What `generate` puts on its output: the line `blocks N answer A check C`. A is `YES` where `prove` finds a certificate within 20,000
-/// nodes that every run of the method of so many loops ends, whatever the int and whatever the tree, and C is `ACCEPTED` then, since `check`
-/// accepts the bytes of the certificate. Else A is the first line of what `prove` says, for a reason that holds, and C is `none`.
+/// What `generate` puts on its output: the line `blocks N answer A check C`. A is `YES` where `prove` finds a
+/// certificate within 20,000 nodes that every run of the method of so many loops ends, whatever the int and whatever
+/// the tree, and C is `ACCEPTED` then, since `check` accepts the bytes of the certificate. Else A is the first line
+/// of what `prove` says, for a reason that holds, and C is `none`.
 ///
 /// # Errors
 ///

@@ -1,7 +1,7 @@
 //! The files that a command names, read in the order of its words.
 ghost use Rattle.std.specs.Prelude.{◌≡◌, ◌≤◌, ◌^◌, map, string_bytes, IfOk, IfErr};
 ghost use Rattle.jterm.specs.Outside.{AreContents, FirstAreRead, limit_at};
-ghost use Rattle.jterm.specs.Failure.{HasCause, failure_at};
+ghost use Rattle.jterm.specs.inner.Failure.{HasCause, failure_at};
 ghost use Rattle.jterm.specs.declared.inputs.Failure.TheVariants.{NoMemory};
 
 use command_rows::{Asked, FileWord, Request};
@@ -68,12 +68,12 @@ fn limit_at(request: &Request, place: usize, certificate: usize, other: usize) -
     ensures small { result ≤ 2 ^ 31 }
 {
     match request.command().row().file(place) {
-        FileWord::Cert => certificate,
+        FileWord::Cert | FileWord::Bounds => certificate,
         _ => other,
     }
 }
 
-/// The contents of the files that a command names, in their order: a certificate has at most `certificate` bytes, each other
+/// The contents of the files that a command names, in their order: a certificate or a bound has at most `certificate` bytes, each other
 /// file at most `other`.
 pub(crate) fn read_inputs<'a, F: Files>(
     alloc: Global,

@@ -1,5 +1,7 @@
 //! Laws about the answers, for the proofs of other crates and for readers. They run nothing.
-ghost use Rattle.jterm.specs.Laws.{AnswersAreOne, CertificatesAreAccepted, ReasonsAreKept};
+ghost use Rattle.jterm.specs.Laws.{AcceptedMigrate, AnswersAreOne, CertificatesAreAccepted, ReasonsAreKept};
+
+use migrate_call::what_is_accepted_migrates;
 
 /// For given contents it is determined, up to want of memory, whether a request is refused, with which place and fault,
 /// and, but for the commands that search for a proof, else what its verdict is.
@@ -16,3 +18,10 @@ pub fn reasons_are_kept()
 pub fn certificates_are_accepted()
     ensures { CertificatesAreAccepted }
 {}
+
+/// `migrate` gives a certificate exactly where `check` accepts the one that it has.
+pub fn accepted_migrate()
+    ensures { AcceptedMigrate }
+{
+    what_is_accepted_migrates();
+}

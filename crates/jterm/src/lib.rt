@@ -1,6 +1,7 @@
 //! A prover of termination for Java bytecode: the public calls over the bytes of its input files and over the words of the command line.
 #![tactic(auto)]
 
+mod certs;
 mod decision;
 mod generate;
 mod inputs;
@@ -15,6 +16,6 @@ mod verdict;
 pub use command_rows::Request;
 pub use decision::decide;
 pub use input_steps::{Fault, Place, Refused};
-pub use laws::{answers_are_one, certificates_are_accepted, reasons_are_kept};
+pub use laws::{accepted_migrate, answers_are_one, certificates_are_accepted, reasons_are_kept};
 pub use top::{Done, jterm};
 pub use verdict::Verdict;

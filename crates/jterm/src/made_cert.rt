@@ -3,7 +3,7 @@ ghost use Rattle.std.specs.Prelude.{◌≡◌, ◌≤◌, length, map, List, ℕ
 ghost use Rattle.class_base.specs.Limits.{most_classes};
 ghost use Rattle.desc_steps.specs.Answers.{AnswersAs};
 ghost use Rattle.prove_call.specs.Lines.{yes_text};
-ghost use Rattle.jterm.specs.GenerateSaid.{HasAccepted};
+ghost use Rattle.jterm.specs.inner.GenerateSaid.{HasAccepted};
 
 use check_call::check_line;
 use generate_text::description;

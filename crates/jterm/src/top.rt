@@ -1,11 +1,17 @@
 //! The call behind the program: from the words of the command line to the exit status.
 ghost use Rattle.std.specs.Prelude.{◌≡◌, ◌⊎◌, ◌≤◌, ◌^◌, ℕ, List, ◌∷◌, [], map, string_bytes, Some, IfOk, IfErr};
+ghost use Rattle.std.specs.Io.KnownBytes.{Appends};
 ghost use Rattle.its_call.specs.Answers.{IsEnding};
 ghost use Rattle.its_call.specs.Lines as its;
 ghost use Rattle.command_rows.specs.declared.table.Request.TheVariants.{Generate};
 ghost use Rattle.command_rows.specs.Words.{IsCommand};
-ghost use Rattle.jterm.specs.Words.{IsProve, IsCheck, IsIts};
+ghost use Rattle.jterm.specs.Words.{IsProve, IsCheck, IsMigrate, IsBound, IsLoop, IsIts, IsThrows};
 ghost use Rattle.check_call.specs.Lines.{accepted_line};
+ghost use Rattle.migrate_call.specs.Headline.{IsMigrated};
+ghost use Rattle.loop_call.specs.Headline.{AllGoOnForEver};
+ghost use Rattle.loop_call.specs.Lines.{no_line};
+ghost use Rattle.throws_call.specs.Headline.{AllEndAsSaid};
+ghost use Rattle.bound_call.specs.Headline.{AllEndWithin};
 ghost use Rattle.prove_call.specs.Lines.{yes_line};
 ghost use Rattle.desc_steps.specs.Headline.{AllEnd};
 ghost use Rattle.generate_text.specs.Descriptions.{description};
@@ -14,7 +20,7 @@ ghost use Rattle.jterm.specs.GenerateLines.{yes_begin};
 ghost use Rattle.jterm.specs.Lines.{memory_line, write_line};
 ghost use Rattle.jterm.specs.Outside.{AreTold, FirstAreRead, Puts, Begins, Claims, IsWritten, limit_at};
 ghost use Rattle.jterm.specs.CallEnds.{CallEnds};
-ghost use Rattle.jterm.specs.Failure.{HasCause, AreOfCommand, IsAnswered, HasLine, status_of, line_of};
+ghost use Rattle.jterm.specs.inner.Failure.{HasCause, AreOfCommand, IsAnswered, HasLine, status_of, line_of};
 
 use crate::inputs::{Failure, read_inputs};
 use crate::lines::{memory_text, read_text, write_text};
@@ -132,7 +138,8 @@ fn write_out<O: Sink, E: Sink>(verdict: Verdict, out: &mut O, err: &mut E) -> Do
 /// Reads the words of the command line and the files that they name, decides over their contents, writes the output
 /// to `out` and a line for a call without one to `err`, and gives the exit status:
 ///
-/// - 0: YES and a certificate, ACCEPTED, how a run ended, the class file's bytes, the line of a class that is made, or YES to rules;
+/// - 0: YES and a certificate, ACCEPTED, how a run ended, the class file's bytes, the line of a class that is made, a
+///   certificate in form 2, NO, in which ways runs end, or YES to rules;
 /// - 1: MAYBE, and why no certificate is given, or the rules that are left;
 /// - 2: the certificate is refused;
 /// - 3: the input is refused;
@@ -163,15 +170,50 @@ pub fn jterm<F: Files, O: Sink, E: Sink>(
     ensures headline_of_generate { (n : ℕ) (class : List ℕ) → IsCommand (map string_bytes words.now) (Generate n) [] → IsClass n class
         → Begins (yes_begin n) O.taken out.old out.new → AllEnd (class ∷ []) description }
 
-    // Where YES is claimed for a text of rules, there is no infinite sequence of locations with whole numbers for the variables in which each
-    // neighbours meet all rows of one rule between them.
+    // Where the status is 0 for a certificate whose runs' ends are asked for, every state that the description fits
+    // has a run that ends in a way that the lines say which were put.
+    ensures headline_of_throws { (c d : List ℕ) (cs : List (List ℕ)) (cert desc : List ℕ) (classes : List (List ℕ))
+        → IsThrows (map string_bytes words.now) c d cs → AreTold (F.held files.old) (c ∷ d ∷ cs) (cert ∷ desc ∷ classes)
+        → result.status ≡ 0
+        → (lines : List ℕ) × Appends (O.taken out.old) (O.taken out.new) lines × AllEndAsSaid classes desc lines }
+
+    // Where the status is 0 for a bound, every state that the description fits has a run that ends after at most the
+    // value of the bound that the lines say which were put.
+    ensures headline_of_bound { (b c d : List ℕ) (cs : List (List ℕ)) (bound cert desc : List ℕ) (classes : List (List ℕ))
+        → IsBound (map string_bytes words.now) b c d cs → AreTold (F.held files.old) (b ∷ c ∷ d ∷ cs) (bound ∷ cert ∷ desc ∷ classes)
+        → result.status ≡ 0
+        → (lines : List ℕ) × Appends (O.taken out.old) (O.taken out.new) lines × AllEndWithin classes desc lines }
+
+    // Where NO is claimed, every state that the description fits goes on for ever, and the given state is one.
+    ensures headline_of_loop { (c s d : List ℕ) (cs : List (List ℕ)) (cert state desc : List ℕ) (classes : List (List ℕ))
+        → IsLoop (map string_bytes words.now) c s d cs → AreTold (F.held files.old) (c ∷ s ∷ d ∷ cs) (cert ∷ state ∷ desc ∷ classes)
+        → Claims no_line O.taken out.old out.new result.status → AllGoOnForEver classes desc state }
+
+    // Where the status is 0 for a certificate that is to be written in form 2, it is accepted, and what was put is that.
+    ensures headline_of_migrate { (c d : List ℕ) (cs : List (List ℕ)) (cert desc : List ℕ) (classes : List (List ℕ))
+        → IsMigrate (map string_bytes words.now) c d cs → AreTold (F.held files.old) (c ∷ d ∷ cs) (cert ∷ desc ∷ classes)
+        → result.status ≡ 0
+        → (text : List ℕ) × Appends (O.taken out.old) (O.taken out.new) text × IsMigrated classes desc cert text }
+
+    // Where YES is claimed for a text of rules, there is no infinite sequence of locations with whole numbers for the
+    // variables in which each neighbours meet all rows of one rule between them.
     ensures headline_of_its { (r text : List ℕ)
         → IsIts (map string_bytes words.now) r → AreTold (F.held files.old) (r ∷ []) (text ∷ [])
         → Claims its.yes_line O.taken out.old out.new result.status → IsEnding text }
 
     // How the call ends: a field for each promise.
-    ensures ends { CallEnds F.held F.faults F.leaves O.faults O.taken E.faults E.taken (map string_bytes words.now)
-        (record { old = files.old; new = files.new }) (record { old = out.old; new = out.new }) (record { old = err.old; new = err.new }) result }
+    ensures ends { CallEnds
+        (record {
+          held = F.held;
+          faults = F.faults;
+          leaves = F.leaves;
+          out_faults = O.faults;
+          out_taken = O.taken;
+          err_faults = E.faults;
+          err_taken = E.taken;
+        })
+        (map string_bytes words.now) (record { old = files.old; new = files.new }) (record { old = out.old; new = out.new })
+        (record { old = err.old; new = err.new }) result }
 {
     let Some(command) = Asked::from_words(words) else {
         put_line(err, usage_text());

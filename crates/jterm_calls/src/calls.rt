@@ -13,7 +13,8 @@ pub(crate) const STATE: &[u8] =
 
 /// A certificate of the method that `LISTING` has, up to its cuts and its proof.
 pub(crate) const NODES: &[u8] =
-    b"{\"form\":2,\"nodes\":[{\"by\":[\"expand\",[1]],\"state\":{\"frames\":[[0,0,[],[]]],\"throw\":-1,\"cells\":[],\"eq\":[],\"share\":[]}},{\"by\":[\"end\"]}]";
+    b"{\"form\":2,\"nodes\":[{\"by\":[\"expand\",[1]],\"state\":{\"frames\":[[0,0,[],[]]],\"throw\":-1,\
+      \"cells\":[],\"eq\":[],\"share\":[]}},{\"by\":[\"end\"]}]";
 
 /// Its cuts and its proof.
 pub(crate) const REST: &[u8] = b",\"cuts\":[0],\"proof\":[[\"empty\"]]}";
@@ -69,7 +70,7 @@ pub(crate) fn call(
     failing: &[u64],
     room: usize,
 ) -> Result<Outcome, AllocError> {
-    heard(alloc, words, held, failing, room, 200)
+    heard(alloc, words, held, failing, room, 300)
 }
 
 // The same with so much room for lines of errors.
@@ -152,6 +153,13 @@ pub(crate) fn three_files(
     Ok(held)
 }
 
+// The text of a certificate with these cuts and this proof.
+pub(crate) fn ended(alloc: Global, rest: &[u8]) -> Result<Vec<u8>, AllocError> {
+    let mut text = Vec::from_slice(alloc, NODES)?;
+    text.extend_from_slice(rest)?;
+    Ok(text)
+}
+
 // The class file of a listing.
 pub(crate) fn assembled(alloc: Global, listing: &[u8]) -> Result<Outcome, AllocError> {
     let mut held = Vec::new(alloc);
@@ -166,10 +174,11 @@ pub(crate) fn proved(alloc: Global, failing: &[u64], room: usize) -> Result<Outc
     call(alloc, &["prove", "d", "a"], held, failing, room)
 }
 
-// What is said of a certificate for `A.f()I` in the class of `LISTING` and this description, where the reads with these
+// What a command over certificates says of one for `A.f()I` in the class of `LISTING` and this description, where the reads with these
 // numbers fail, and with so much room on the two outputs.
-pub(crate) fn checked(
+pub(crate) fn certified(
     alloc: Global,
+    word: &str,
     cert: &[u8],
     desc: &[u8],
     failing: &[u64],
@@ -178,7 +187,42 @@ pub(crate) fn checked(
 ) -> Result<Outcome, AllocError> {
     let class = assembled(alloc, LISTING)?;
     let held = three_files(alloc, cert, desc, class.out.bytes())?;
-    heard(alloc, &["check", "c", "d", "a"], held, failing, room, lines)
+    heard(alloc, &[word, "c", "d", "a"], held, failing, room, lines)
+}
+
+// The same of `check`.
+pub(crate) fn checked(
+    alloc: Global,
+    cert: &[u8],
+    desc: &[u8],
+    failing: &[u64],
+    room: usize,
+    lines: usize,
+) -> Result<Outcome, AllocError> {
+    certified(alloc, "check", cert, desc, failing, room, lines)
+}
+
+// What `bound` says of a bound and of a certificate for `A.f()I` in the class of `LISTING`.
+pub(crate) fn bounded(alloc: Global, bound: &[u8], cert: &[u8]) -> Result<Outcome, AllocError> {
+    let class = assembled(alloc, LISTING)?;
+    let mut held = three_files(alloc, cert, DESC, class.out.bytes())?;
+    held.push(file(alloc, "b", bound)?)?;
+    call(alloc, &["bound", "b", "c", "d", "a"], held, &[], 100)
+}
+
+// What `loop` says of a certificate, a state and a description for the class of a listing, where the reads with these numbers fail.
+pub(crate) fn looped(
+    alloc: Global,
+    listing: &[u8],
+    cert: &[u8],
+    state: &[u8],
+    desc: &[u8],
+    failing: &[u64],
+) -> Result<Outcome, AllocError> {
+    let class = assembled(alloc, listing)?;
+    let mut held = three_files(alloc, cert, desc, class.out.bytes())?;
+    held.push(file(alloc, "s", state)?)?;
+    call(alloc, &["loop", "c", "s", "d", "a"], held, failing, 100)
 }
 
 // Whether a certificate is answered with this status and this line.

@@ -1,16 +1,9 @@
 //! What `check` says.
 ghost use Rattle.std.specs.Prelude.{◌<◌};
 
-use crate::calls::{DESC, NODES, Outcome, REST, checked, comes_to, errs, has_status, says};
+use crate::calls::{DESC, NODES, Outcome, REST, checked, comes_to, ended, errs, has_status, says};
 use std::alloc::{AllocError, Global};
 use std::test::Fail;
-
-// The text of a certificate with these cuts and this proof.
-fn ended(alloc: Global, rest: &[u8]) -> Result<Vec<u8>, AllocError> {
-    let mut text = Vec::from_slice(alloc, NODES)?;
-    text.extend_from_slice(rest)?;
-    Ok(text)
-}
 
 // What is said of the certificate of the method that `LISTING` has, where the reads with these numbers fail, and with so much room on the
 // two outputs.

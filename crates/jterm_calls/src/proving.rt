@@ -8,7 +8,8 @@ use std::test::Fail;
 
 /// A description of a method over one int, which may be any.
 const ANY_INT: &[u8] =
-    b"{\"form\":1,\"class\":\"A\",\"method\":\"f\",\"desc\":\"(I)V\",\"params\":[{\"lo\":-2147483648,\"hi\":2147483647}],\"same\":[],\"share\":[]}";
+    b"{\"form\":1,\"class\":\"A\",\"method\":\"f\",\"desc\":\"(I)V\",\"params\":[{\"lo\":-2147483648,\
+      \"hi\":2147483647}],\"same\":[],\"share\":[]}";
 
 // What `prove` says of the class of a listing and this description, with 4,000 nodes at most.
 fn limited(alloc: Global, listing: &[u8], desc: &[u8]) -> Result<Outcome, AllocError> {
@@ -52,7 +53,8 @@ fn what_asm_gives_is_proved(rt: HostRuntime) -> Result<(), Fail> {
     assert!(rt; has_length(assembled(rt.alloc(), LISTING), 99)?);
     let outcome = proved(rt.alloc(), &[], 1000);
     let yes =
-        b"YES\n{\"cuts\":[0],\"form\":2,\"nodes\":[{\"by\":[\"expand\",[1]],\"state\":{\"cells\":[],\"eq\":[],\"frames\":[[0,0,[],[]]],\"share\":[],\"throw\":-1}},{\"by\":[\"end\"]}],\"proof\":[[\"empty\"]]}\n";
+        b"YES\n{\"cuts\":[0],\"form\":2,\"nodes\":[{\"by\":[\"expand\",[1]],\"state\":{\"cells\":[],\"eq\":[],\
+          \"frames\":[[0,0,[],[]]],\"share\":[],\"throw\":-1}},{\"by\":[\"end\"]}],\"proof\":[[\"empty\"]]}\n";
     assert!(rt; is_proved(outcome, yes)?);
     Ok(())
 }
@@ -74,7 +76,9 @@ fn a_limit_of_no_nodes_is_no_command(rt: HostRuntime) -> Result<(), Fail> {
         errs(
             outcome,
             4,
-            b"jterm: usage\nprove DESC CLASS..\ncheck CERT DESC CLASS..\nrun FUEL STATE CLASS..\nasm LISTING\ngenerate N\nits RULES\n"
+            b"jterm: usage\nprove DESC CLASS..\ncheck CERT DESC CLASS..\nrun FUEL STATE CLASS..\nasm LISTING\n\
+              generate N\nmigrate CERT DESC CLASS..\nbound BOUND CERT DESC CLASS..\nloop CERT STATE DESC CLASS..\n\
+              its RULES\nthrows CERT DESC CLASS..\n"
         )?
     );
     Ok(())

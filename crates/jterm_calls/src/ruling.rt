@@ -44,7 +44,10 @@ fn one_text_of_rules_is_named(rt: HostRuntime) -> Result<(), Fail> {
 #[test]
 fn two_counters_end(rt: HostRuntime) -> Result<(), Fail> {
     let text =
-        b"# while (i > 0) { j = n; while (j > 0) j--; i--; }\nvars i j n\nrule outer inner\ngeq -1 1 i\neq 0 1 j' -1 n\neq 0 1 i' -1 i\neq 0 1 n' -1 n\nend\nrule inner inner\ngeq -1 1 j\neq 1 1 j' -1 j\neq 0 1 i' -1 i\neq 0 1 n' -1 n\nend\nrule inner outer\ngeq -1 1 i\ngeq 0 -1 j\neq 0 1 j' -1 j\neq 1 1 i' -1 i\neq 0 1 n' -1 n\nend\n";
+        b"# while (i > 0) { j = n; while (j > 0) j--; i--; }\nvars i j n\nrule outer inner\ngeq -1 1 i\n\
+          eq 0 1 j' -1 n\neq 0 1 i' -1 i\neq 0 1 n' -1 n\nend\nrule inner inner\ngeq -1 1 j\neq 1 1 j' -1 j\n\
+          eq 0 1 i' -1 i\neq 0 1 n' -1 n\nend\nrule inner outer\ngeq -1 1 i\ngeq 0 -1 j\neq 0 1 j' -1 j\n\
+          eq 1 1 i' -1 i\neq 0 1 n' -1 n\nend\n";
     assert!(rt; comes_to(ruled(rt.alloc(), text), 0, b"YES\n", b"")?);
     Ok(())
 }
@@ -60,7 +63,8 @@ fn a_count_up_to_another_number_ends(rt: HostRuntime) -> Result<(), Fail> {
 #[test]
 fn a_count_down_from_below_0_is_left(rt: HostRuntime) -> Result<(), Fail> {
     let text =
-        b"# while (i != 0) i--;  with any i\nvars i\nrule head head\ngeq -1 1 i\neq 1 1 i' -1 i\nend\nrule head head\ngeq -1 -1 i\neq 1 1 i' -1 i\nend\n";
+        b"# while (i != 0) i--;  with any i\nvars i\nrule head head\ngeq -1 1 i\neq 1 1 i' -1 i\nend\n\
+          rule head head\ngeq -1 -1 i\neq 1 1 i' -1 i\nend\n";
     let left = b"MAYBE component\nrule 1 head head\n";
     assert!(rt; comes_to(ruled(rt.alloc(), text), 1, left, b"")?);
     Ok(())

@@ -20,7 +20,8 @@ use Rattle.prove_core.specs.Answers.{IsCertificate, HoldsReason, SearchesOr}
 use Rattle.prove_call.specs.declared.answer.Answer.{Answer}
 use Rattle.prove_call.specs.Answers.{aim_at, SaysOf}
 use Rattle.prove_call.specs.Headline.{IsProved}
-use Rattle.prove_call.specs.Said.{yes_with, maybe_with, Tells}
+use Rattle.prove_call.specs.Answers.{yes_with}
+use Rattle.prove_call.specs.inner.Said.{maybe_with, Tells}
 
 module _ (nodes : ℕ) (p : Program) (typing : ℕ → CodeTypes) (desc : Desc) (names : List (List ℕ)) (are : names ≡ names_of p.world) where
   -- a certificate is found

@@ -19,7 +19,11 @@ use Rattle.prove_call.specs.Lines.{yes_text, reason_text}
 abbrev pub aim_at : Program → (ℕ → CodeTypes) → Desc → Aim
 aim_at p typing desc = record { program = p; typing = typing; root = initial_of p desc }
 
--- yes, with a valid certificate, which names the world's classes
+-- the answer yes, with these bytes of a certificate
+abbrev pub yes_with : List ℕ → Answer
+yes_with cert = record { status = 0; out = yes_text cert; reason = None }
+
+-- the answer is yes: a valid certificate of the program, which names the world's classes, was found and is put
 pub record IsYes (p : Program) (typing : ℕ → CodeTypes) (desc : Desc) (answer : Answer) : Type 0 where
   pub status : answer.status ≡ 0
   pub reason : answer.reason ≡ None
@@ -27,7 +31,7 @@ pub record IsYes (p : Program) (typing : ℕ → CodeTypes) (desc : Desc) (answe
   pub is : IsCertificate (aim_at p typing desc) (names_of p.world) cert
   pub out : answer.out ≡ yes_text cert
 
--- maybe, with a reason that holds for this limit of nodes
+-- the answer is maybe: no certificate was found, for a reason that holds for this limit of nodes and is kept
 pub record IsMaybe (nodes : ℕ) (p : Program) (typing : ℕ → CodeTypes) (desc : Desc) (answer : Answer) : Type 0 where
   pub status : answer.status ≡ 1
   pub reason : Reason PackedPairs
@@ -35,12 +39,13 @@ pub record IsMaybe (nodes : ℕ) (p : Program) (typing : ℕ → CodeTypes) (des
   pub holds : HoldsReason (aim_at p typing desc) (names_of p.world) nodes reason
   pub out : answer.out ≡ reason_text p reason
 
--- of a program with its typing and described inputs: yes or maybe, or want of memory
+-- what `prove` says of a program with its typing and described inputs: yes or maybe, or want of memory
 abbrev pub SaysOf : ℕ → Program → (ℕ → CodeTypes) → Desc → Result Answer Refused → Type 0
 SaysOf nodes p typing desc (Ok answer) = IsYes p typing desc answer ⊎ IsMaybe nodes p typing desc answer
 SaysOf nodes p typing desc (Err (At place fault)) = ⊥
 SaysOf nodes p typing desc (Err Memory) = Unit {0}
 
--- of the bytes: the steps from files and a description to a program with described inputs, in their order, and then this
+-- what `prove` answers for the bytes of a description and of class files: the steps from files and a description to a
+-- program with described inputs, in their order, and then yes or maybe
 abbrev pub Answers : ℕ → List ℕ → List (List ℕ) → Result Answer Refused → Type 0
 Answers nodes desc files = OfFiles {X = Answer} (SaysOf nodes) desc files

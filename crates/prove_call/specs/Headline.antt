@@ -4,7 +4,7 @@ use Rattle.input_steps.specs.declared.refused.Refused.{Refused}
 use Rattle.desc_steps.specs.Headline.{AllEnd}
 use Rattle.prove_call.specs.declared.answer.Answer.{Answer}
 
--- the answer is yes
+-- the result of `prove` is yes
 abbrev pub IsProved : Result Answer Refused → Type 0
 IsProved (Ok answer) = answer.status ≡ 0
 IsProved (Err refused) = ⊥

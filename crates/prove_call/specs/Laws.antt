@@ -5,7 +5,7 @@ use Rattle.input_steps.specs.declared.refused.Refused.TheVariants.{Memory}
 use Rattle.prove_call.specs.declared.answer.Answer.{Answer}
 use Rattle.prove_call.specs.Answers.{Answers}
 
--- how an answer refuses the input, if it does
+-- the place and the fault for which an answer refuses the input, or that memory is wanting, if it does
 abbrev pub refusal_of : {X : Type 0} → Result X Refused → Option Refused
 refusal_of (Ok answer) = None
 refusal_of (Err refused) = Some refused

@@ -2,4 +2,4 @@ pub mod Lines
 pub mod Answers
 pub mod Headline
 pub mod Laws
-pub mod Said
+pub mod inner

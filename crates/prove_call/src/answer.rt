@@ -3,7 +3,8 @@ ghost use Rattle.std.specs.Prelude.{Result, Ok, Some, None};
 ghost use Rattle.class_program.specs.Views.{program_of};
 ghost use Rattle.desc_steps.specs.Answers.{AnswersAs};
 ghost use Rattle.prove_call.specs.Lines.{reason_text};
-ghost use Rattle.prove_call.specs.Said.{yes_with, maybe_with, Tells};
+ghost use Rattle.prove_call.specs.Answers.{yes_with};
+ghost use Rattle.prove_call.specs.inner.Said.{maybe_with, Tells};
 
 use crate::lines::reason_text;
 use abs_cells::PackedPairs;

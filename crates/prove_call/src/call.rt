@@ -45,9 +45,10 @@ fn prove_given(alloc: Global, given: &DescribedProgram<'_>, nodes: u32) -> Resul
     }
 }
 
-/// What `prove` puts on its output, with its exit status: `YES`, a certificate and status 0, where one is found that every run of the method
-/// that the description names ends, from inputs that it describes; else a text that begins with `MAYBE`, status 1, and the reason that it
-/// tells, which holds. The graph that is searched has at most so many nodes, from 1 to 20,000. There are at most 256 class files.
+/// What `prove` puts on its output, with its exit status: `YES`, a certificate and status 0, where one is found that
+/// every run of the method that the description names ends, from inputs that it describes; else a text that begins
+/// with `MAYBE`, status 1, and the reason that it tells, which holds. The graph that is searched has at most so many
+/// nodes, from 1 to 20,000. There are at most 256 class files.
 ///
 /// # Errors
 ///

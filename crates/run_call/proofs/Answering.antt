@@ -13,9 +13,9 @@ use Rattle.input_steps.specs.Classes.{AllSpell, RefusesClasses, IsWorldOf, Refus
 use Rattle.input_steps.specs.Programs.{IsProgramOf, RefusesProgram, IsAcyclic, RefusesCalls, HasTypings, RefusesTypes}
 use Rattle.input_steps.proofs.Steps.{then_refused, then_goes}
 use Rattle.run_call.specs.Answers.{IsStateText, RefusesState, RefusesEntry, IsInput, RefusesInput, AnswersRun}
-use Rattle.run_call.specs.Rest.{AnswersProgram}
+use Rattle.run_call.specs.inner.Rest.{AnswersProgram}
 use Rattle.run_call.specs.Answers.{Answers}
-use Rattle.run_call.specs.Rest.{AnswersEntry, AnswersNamed}
+use Rattle.run_call.specs.inner.Rest.{AnswersEntry, AnswersNamed}
 
 abbrev Answer : Type 0
 Answer = Result (List ℕ) Refused

@@ -21,7 +21,7 @@ use Rattle.input_steps.proofs.OneText.{said_exact, text_exact}
 use Rattle.input_steps.proofs.OneAnswer.{map_some_one, IsExact, IsOne, at_one, then_one, none_some, classes_exact, world_exact}
 use Rattle.input_steps.proofs.OneAnswer.{program_exact, calls_exact, types_exact}
 use Rattle.run_call.specs.Answers.{IsStateText, RefusesState, RefusesEntry, IsInput, input_fault, RefusesInput, AnswersRun}
-use Rattle.run_call.specs.Rest.{AnswersProgram, AnswersEntry, AnswersNamed}
+use Rattle.run_call.specs.inner.Rest.{AnswersProgram, AnswersEntry, AnswersNamed}
 use Rattle.run_call.specs.Laws.{AnswersAreOne}
 use Rattle.run_call.specs.Lines.{ended_line}
 use Rattle.run_call.proofs.Endings.{ends_one}
@@ -35,7 +35,7 @@ input_one p text a b h k =
     let objects : a.heap.objects ≡ b.heap.objects = map_some_one a.heap.objects b.heap.objects (h.1.heap_is ∙ sym k.1.heap_is) in
     λ i. record { args = args i; statics = statics i; heap = record { objects = objects i } }
 
-input_exact : (p : Program) (text : StateText) → IsExact (IsInput p text) (RefusesInput p text)
+pub input_exact : (p : Program) (text : StateText) → IsExact (IsInput p text) (RefusesInput p text)
 input_exact p text = record {
   one = input_one p text;
   apart = λ input place fault h r. none_some (input_fault p text) r.cause h.0 r.holds;

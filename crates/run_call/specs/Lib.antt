@@ -1,4 +1,4 @@
 pub mod Lines
 pub mod Answers
-pub mod Rest
 pub mod Laws
+pub mod inner

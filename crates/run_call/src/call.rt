@@ -7,7 +7,7 @@ ghost use Rattle.class_world.specs.Worlds.{classes_of};
 ghost use Rattle.class_program.specs.Views.{program_of};
 ghost use Rattle.class_base.specs.Limits.{most_classes};
 ghost use Rattle.run_call.specs.Answers.{Answers};
-ghost use Rattle.run_call.specs.Rest.{AnswersProgram, AnswersEntry, AnswersNamed};
+ghost use Rattle.run_call.specs.inner.Rest.{AnswersProgram, AnswersEntry, AnswersNamed};
 
 use crate::running::answer;
 use crate::state::{entry_of, input_of, read_state};

@@ -11,3 +11,4 @@ mod state;
 
 pub use call::run_line;
 pub use laws::answers_are_one;
+pub use state::{input_of, read_state};

@@ -16,7 +16,11 @@ use input_text::StateText;
 use std::alloc::Global;
 
 /// The text that the bytes of a state say.
-pub(crate) fn read_state(alloc: Global, bytes: &[u8]) -> Result<StateText, Refused>
+///
+/// # Errors
+///
+/// At `State` the first fault of the bytes; want of memory.
+pub fn read_state(alloc: Global, bytes: &[u8]) -> Result<StateText, Refused>
     ensures text { IfOk result (IsStateText bytes.now) }
     ensures refused { IfErr result (IsCaused (RefusesState bytes.now)) }
 {
@@ -39,7 +43,11 @@ pub(crate) fn entry_of(world: &World<'_>, text: &StateText) -> Result<MethodRef,
 }
 
 /// What a state gives to a program.
-pub(crate) fn input_of(
+///
+/// # Errors
+///
+/// At `State` the first fault of what it gives; want of memory.
+pub fn input_of(
     alloc: Global,
     program: &Program<'_>,
     text: StateText,

@@ -1,7 +1,7 @@
 use Rattle.std.proofs.Common.{map, string_bytes, sym, subst}
 use Rattle.command_rows.specs.declared.row.Row.{Row}
 use Rattle.command_rows.specs.Rows.{number_of}
-use Rattle.command_rows.specs.Reading.{Reads}
+use Rattle.command_rows.specs.inner.Reading.{Reads}
 use Rattle.command_rows.proofs.Commands.{none_says}
 use Rattle.command_rows.proofs.words.asked_of.Goals as goal
 

@@ -1,6 +1,6 @@
 use Rattle.std.proofs.Common.{◌≡◌, length}
 use Rattle.command_rows.specs.Rows.{commands}
-use Rattle.command_rows.specs.Reading.{command_named}
+use Rattle.command_rows.specs.inner.Reading.{command_named}
 use Rattle.command_rows.proofs.words.command_named.Given as goal
 
 abbrev pub invariant-loop-command : goal.invariant-loop-command

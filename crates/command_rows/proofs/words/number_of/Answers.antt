@@ -1,5 +1,5 @@
 use Rattle.std.proofs.Common.{ap, sym, ◌∙◌}
-use Rattle.command_rows.specs.Reading.{is_plain}
+use Rattle.command_rows.specs.inner.Reading.{is_plain}
 use Rattle.command_rows.proofs.Numbers.{not_plain, not_read, is_read}
 use Rattle.command_rows.proofs.words.number_of.Goals as goal
 

@@ -2,6 +2,8 @@ use Rattle.std.proofs.Common.{map, sym, ap}
 use Rattle.jterm.proofs.Proving.{verdict_of_prove}
 use Rattle.jterm.proofs.Deciding.{least_inputs, no_inputs, one_input, inputs_are, inputs_are_two, prove_answer, prove_claim}
 use Rattle.jterm.proofs.Deciding.{check_answer, check_claim, run_answer, run_claim, asm_claim, its_answer, its_claim}
+use Rattle.command_rows.specs.declared.table.Request.TheVariants.{Migrate, Bound, Loop, Throws}
+use Rattle.jterm.proofs.CertCommands.{asked_takes, asked_answer, asked_claim}
 use Rattle.jterm.proofs.Making.{made_answer, made_claim}
 use Rattle.jterm.proofs.decision.decide.Goals as goal
 
@@ -89,3 +91,47 @@ returns-in-Generate-clause-answer c =
     let none = no_inputs (λ file. file.items) c.args.inputs.now c.args.request.now _ c.in-Generate.is c.requires in
     made_answer c.args.request.now _ (map (λ file. file.items) c.args.inputs.now) c.generate_line.result c.made.result
     c.in-Generate.is none c.made.ensures c.generate_line.ensures.answers
+
+pub migrated-requires : goal.migrated-requires
+migrated-requires c = asked_takes c.args.request.now Migrate _ c.in-Migrate.is c.requires
+
+pub returns-in-Migrate-clause-headline : goal.returns-in-Migrate-clause-headline
+returns-in-Migrate-clause-headline c = asked_claim c.args.request.now Migrate (map (λ file. file.items) c.args.inputs.now) c.migrated.result
+    c.in-Migrate.is c.migrated.ensures.headline
+
+pub returns-in-Migrate-clause-answer : goal.returns-in-Migrate-clause-answer
+returns-in-Migrate-clause-answer c = asked_answer c.args.request.now Migrate (map (λ file. file.items) c.args.inputs.now) c.migrated.result
+    c.in-Migrate.is c.migrated.ensures.answer
+
+pub bounded-requires : goal.bounded-requires
+bounded-requires c = asked_takes c.args.request.now Bound _ c.in-Bound.is c.requires
+
+pub returns-in-Bound-clause-headline : goal.returns-in-Bound-clause-headline
+returns-in-Bound-clause-headline c = asked_claim c.args.request.now Bound (map (λ file. file.items) c.args.inputs.now) c.bounded.result
+    c.in-Bound.is c.bounded.ensures.headline
+
+pub returns-in-Bound-clause-answer : goal.returns-in-Bound-clause-answer
+returns-in-Bound-clause-answer c = asked_answer c.args.request.now Bound (map (λ file. file.items) c.args.inputs.now) c.bounded.result
+    c.in-Bound.is c.bounded.ensures.answer
+
+pub looped-requires : goal.looped-requires
+looped-requires c = asked_takes c.args.request.now Loop _ c.in-Loop.is c.requires
+
+pub returns-in-Loop-clause-headline : goal.returns-in-Loop-clause-headline
+returns-in-Loop-clause-headline c = asked_claim c.args.request.now Loop (map (λ file. file.items) c.args.inputs.now) c.looped.result
+    c.in-Loop.is c.looped.ensures.headline
+
+pub returns-in-Loop-clause-answer : goal.returns-in-Loop-clause-answer
+returns-in-Loop-clause-answer c = asked_answer c.args.request.now Loop (map (λ file. file.items) c.args.inputs.now) c.looped.result
+    c.in-Loop.is c.looped.ensures.answer
+
+pub reported-requires : goal.reported-requires
+reported-requires c = asked_takes c.args.request.now Throws _ c.in-Throws.is c.requires
+
+pub returns-in-Throws-clause-headline : goal.returns-in-Throws-clause-headline
+returns-in-Throws-clause-headline c = asked_claim c.args.request.now Throws (map (λ file. file.items) c.args.inputs.now) c.reported.result
+    c.in-Throws.is c.reported.ensures.headline
+
+pub returns-in-Throws-clause-answer : goal.returns-in-Throws-clause-answer
+returns-in-Throws-clause-answer c = asked_answer c.args.request.now Throws (map (λ file. file.items) c.args.inputs.now) c.reported.result
+    c.in-Throws.is c.reported.ensures.answer

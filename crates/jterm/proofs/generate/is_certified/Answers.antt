@@ -1,5 +1,5 @@
 use Rattle.std.proofs.Common.{List, ℕ, map, sym, subst}
-use Rattle.jterm.specs.GenerateSaid.{HasAccepted}
+use Rattle.jterm.specs.inner.GenerateSaid.{HasAccepted}
 use Rattle.jterm.proofs.GenerateSaying.{has_accepted}
 use Rattle.jterm.proofs.generate.is_certified.Goals as goal
 

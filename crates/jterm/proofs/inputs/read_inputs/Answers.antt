@@ -2,7 +2,7 @@ use Rattle.std.proofs.Common.{◌≤◌, ℕ, suc, map, length, add-one, string_
 use Rattle.input_steps.proofs.Files.{take_files_more, get_file}
 use Rattle.io_ports.specs.Told.{IsPastLimit}
 use Rattle.jterm.specs.Outside.{limit_at}
-use Rattle.jterm.specs.Failure.{HasCause}
+use Rattle.jterm.specs.inner.Failure.{HasCause}
 use Rattle.jterm.proofs.ReadingOrder.{next_limit, first_read_more, first_contents_more, map_more, has_cause}
 use Rattle.jterm.proofs.inputs.read_inputs.Goals as goal
 

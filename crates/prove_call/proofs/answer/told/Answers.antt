@@ -3,7 +3,8 @@ use Rattle.abs_cells.specs.declared.packed.PackedPairs.{PackedPairs}
 use Rattle.class_program.specs.Views.{program_of}
 use Rattle.desc_steps.specs.Answers.{AnswersAs}
 use Rattle.prove_core.specs.declared.found.Found.{Found}
-use Rattle.prove_call.specs.Said.{yes_with, Tells}
+use Rattle.prove_call.specs.Answers.{yes_with}
+use Rattle.prove_call.specs.inner.Said.{Tells}
 use Rattle.prove_call.proofs.answer.told.Goals as goal
 
 pub returns-in-Certificate : goal.returns-in-Certificate

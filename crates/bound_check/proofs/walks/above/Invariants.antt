@@ -1,0 +1,6 @@
+use Rattle.std.proofs.Common.{◌≡◌, drop}
+use Rattle.path_rules.specs.Successors.{most_of}
+use Rattle.bound_check.proofs.walks.above.Given as goal
+
+abbrev pub invariant-loop-rank : goal.invariant-loop-rank
+invariant-loop-rank l = most_of l.most (drop l.rank-index l.ranks) ≡ most_of 0 l.ranks

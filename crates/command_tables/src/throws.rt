@@ -1,0 +1,16 @@
+//! `throws`: the bytes of a certificate, of a description and of class files; the lines of the ways in which runs end, or why there are none.
+use anyhow::Result;
+use line_cases::{files_from, refused_line, without_newline};
+use std::alloc::Global;
+use table_cases::Case;
+use throws_call::throws_line;
+
+pub fn answer(alloc: Global, case: &Case<'_>) -> Result<String> {
+    let cert = case.bytes(alloc, 0)?;
+    let desc = case.bytes(alloc, 1)?;
+    let files = files_from(alloc, case, 2)?;
+    match throws_line(alloc, cert.as_slice(), desc.as_slice(), files.as_slice()) {
+        Ok(outcome) => Ok(without_newline(alloc, &outcome.out)?),
+        Err(refused) => refused_line(alloc, &refused),
+    }
+}

@@ -1,0 +1,9 @@
+pub mod Listing
+pub mod Meeting
+pub mod Rising
+pub mod Marking
+pub mod Pairing
+pub mod Shapes
+pub mod Sharing
+pub mod Starting
+pub mod Told

@@ -1,0 +1,6 @@
+pub mod States
+pub mod Lines
+pub mod Answers
+pub mod Headline
+pub mod Laws
+pub mod inner

@@ -1,0 +1,9 @@
+pub mod Again
+pub mod Claiming
+pub mod FewIds
+pub mod FirstNames
+pub mod OneAnswer
+pub mod SameAsCheck
+pub mod Saying
+pub mod SelfFilled
+pub mod Taken

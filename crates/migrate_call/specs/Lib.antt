@@ -1,0 +1,5 @@
+pub mod Texts
+pub mod Answers
+pub mod Headline
+pub mod Laws
+pub mod inner
