@@ -14,7 +14,7 @@ import sys
 import tempfile
 
 TOP = pathlib.Path(__file__).resolve().parent.parent
-LINKED = ['examples', 'tools', 'jterm', 'describe', 'certs']
+LINKED = ['examples', 'tools', 'jterm', 'describe', 'certs', 'survey']
 
 
 def blocks(text):

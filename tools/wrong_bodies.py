@@ -3,6 +3,7 @@
 
 usage: python3 tools/wrong_bodies.py [CRATE..]
        python3 tools/wrong_bodies.py --fit
+       python3 tools/wrong_bodies.py --list
 
 Wrong bodies (edits) that the gate tries stand in crates/CRATE/must-fail, the others in wrong-bodies/CRATE: an edit takes the gate a check
 of its crate, or a large part of one, so it tries those that tell most. Without `--fit` it tries the others, of all crates or of those
@@ -11,8 +12,10 @@ below them, but for what the gate has passed on this machine, and tries each edi
 of the crates isn't proved.
 
 With `--fit` it proves nothing, and takes a second: each edit can be applied (each old text stands exactly once in its file, and the new
-one is another), docs/EDITS.md lists it under its crate as one that the gate tries or that is asked for, as it is, and each that is
-listed is there. Where all fit it says nothing. The gate ends with this.
+one is another), has words that say what it shows, and docs/EDITS.md is what `--list` writes. Where all fit it says nothing. The gate ends with this.
+
+With `--list` it writes the tables of docs/EDITS.md, crate by crate as in crates.txt. An edit's words are its first line, behind `# `. One without
+such a line keeps the words that the tables have: to change an edit that the gate tries makes the gate try it again.
 """
 import pathlib
 import re
@@ -23,6 +26,7 @@ import tempfile
 
 TOP = pathlib.Path(__file__).resolve().parent.parent
 OTHERS = TOP / 'wrong-bodies'
+LIST = TOP / 'docs/EDITS.md'
 
 
 def edits():
@@ -52,26 +56,43 @@ def misfit(crate, edit):
     return None
 
 
-def listed():
-    """The crate, the name and who tries it, of each edit that docs/EDITS.md lists."""
-    crate = None
-    for line in (TOP / 'docs/EDITS.md').read_text().splitlines():
-        head, row = re.match(r'## `(\w+)`', line), re.match(r'\| `(\w+)` \|.*\| (gate|asked) \|$', line)
+def words_listed():
+    """The words that docs/EDITS.md has, by crate and edit."""
+    crate, words = None, {}
+    for line in LIST.read_text().splitlines():
+        head, row = re.match(r'## `(\w+)`', line), re.match(r'\| `(\w+)` \| (.*) \| (gate|asked) \|$', line)
         if head:
             crate = head[1]
         elif row:
-            yield crate, row[1], row[2]
+            words[crate, row[1]] = row[2]
+    return words
+
+
+def tables():
+    """The text of docs/EDITS.md, its tables made anew, and the edits that have no words."""
+    head, old, rows, lacking = LIST.read_text().partition('\n## `')[0].rstrip('\n'), words_listed(), {}, []
+    for crate, edit, kind in edits():
+        first = edit.read_text().split('\n')[0]
+        words = first[2:].strip() if first.startswith('# ') else old.get((crate, edit.stem))
+        if words:
+            rows.setdefault(crate, []).append('| `%s` | %s | %s |\n' % (edit.stem, words, kind))
+        else:
+            lacking.append('%s/%s: no first line says what it shows' % (crate, edit.stem))
+    lines = (TOP / 'crates.txt').read_text().splitlines()
+    order = dict.fromkeys(line.split(':')[0].split()[0] for line in lines if re.match(r'\w', line))
+    top = '## `%s`\n\n| Edit | What it shows | Tried |\n|---|---|---|\n'
+    parts = [top % crate + ''.join(sorted(rows[crate])) for crate in order if crate in rows]
+    return '\n\n'.join([head, *(part.rstrip('\n') for part in parts)]) + '\n', lacking
 
 
 def fit():
-    """Says each edit that doesn't fit, is not listed as it is, or is listed and not there; whether there is none."""
-    found, rows = edits(), list(listed())
-    names = [(crate, edit.stem) for crate, edit, _ in found]
-    kinds = [(crate, edit.stem, kind) for crate, edit, kind in found]
+    """Says each edit that doesn't fit, or has no words, or is there twice, and whether the list is another one; whether there is none."""
+    found = edits()
+    names = ['%s/%s' % (crate, edit.stem) for crate, edit, _ in found]
     wrong = ['%s/%s: %s' % (crate, edit.stem, why) for crate, edit, _ in found for why in [misfit(crate, edit)] if why]
-    wrong += ['%s/%s: docs/EDITS.md does not list it as one of kind %s' % one for one in kinds if rows.count(one) != 1]
-    wrong += ['%s/%s: docs/EDITS.md lists it as one of kind %s, and it is not there' % one for one in rows if one not in kinds]
-    wrong += ['%s/%s: it is there twice' % one for one in sorted(set(names)) if names.count(one) > 1]
+    text, lacking = tables()
+    wrong += lacking + ['%s: it is there twice' % name for name in sorted(set(names)) if names.count(name) > 1]
+    wrong += ['docs/EDITS.md is not what `python3 tools/wrong_bodies.py --list` writes'] * (text != LIST.read_text())
     print('\n'.join(wrong), end='\n' if wrong else '')
     return not wrong
 
@@ -92,6 +113,10 @@ def attempt(crates):
 def main():
     if sys.argv[1:] == ['--fit']:
         sys.exit(not fit())
+    if sys.argv[1:] == ['--list']:
+        text, lacking = tables()
+        LIST.write_text(text)
+        sys.exit('\n'.join(lacking) or None)
     if any(word.startswith('-') for word in sys.argv[1:]):
         sys.exit(__doc__)
     crates = sorted(set(sys.argv[1:]) or {crate for crate, _, kind in edits() if kind == 'asked'})

@@ -6,7 +6,7 @@ use Rattle.class_world.specs.World.{World}
 use Rattle.input_desc.specs.Fitting.{IsListed}
 use Rattle.describe.specs.declared.inputs.Listed.{Listed}
 use Rattle.describe.specs.Whole.{is_wanted, ListsAll}
-use Rattle.describe.specs.Rows.{AreListedTo, AreListedBelow}
+use Rattle.describe.specs.inner.Rows.{AreListedTo, AreListedBelow}
 
 -- in either order
 pub swapped : (i j : ℕ) (pairs : List (ℕ × ℕ)) → IsListed i j pairs → IsListed j i pairs

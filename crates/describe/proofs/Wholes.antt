@@ -25,7 +25,7 @@ use Rattle.jvm_values.specs.Heaps.{target, HasShape}
 use Rattle.jvm_values.specs.TypedHeaps.{WorldTypes, type_of, Holds}
 use Rattle.class_world.specs.World.{World}
 use Rattle.class_world.specs.WorldTypes.{types_of}
-use Rattle.class_world.specs.WorldLaws.{world_laws}
+use Rattle.class_world.specs.lemmas.WorldLaws.{world_laws}
 use Rattle.class_world.specs.Types.{is_sub, erase}
 use Rattle.class_program.specs.Programs.{Program, IsClosed}
 use Rattle.input_text.specs.Answers.{SaysOf}

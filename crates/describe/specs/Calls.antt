@@ -19,13 +19,13 @@ pub record ListsMethods (files : List (List ℕ)) (lines : List ℕ) : Type 0 wh
   pub first : slice_get classes 0 ≡ Some class
   pub lines_are : lines ≡ method_lines class.methods
 
--- the entry's program has this template
+-- a text is a template of the program of an entry of a world
 pub record DescribesEntry (world : World) (entry : MethodRef) (text : List ℕ) : Type 0 where
   pub p : Program
   pub program : IsProgramOf world entry p
   pub template : IsTemplate p text
 
--- the word names a method of the first class in the world that the classes make, and its program has this template
+-- a word names a method of the first class in the world that the classes make, and its program has this template
 pub record DescribesIn (classes : List ClassContent) (word text : List ℕ) : Type 0 where
   pub world : World
   pub makes : IsWorldOf classes world
@@ -35,7 +35,8 @@ pub record DescribesIn (classes : List ClassContent) (word text : List ℕ) : Ty
   pub found : find_method world names.class.now names.name.now names.desc.now ≡ Some entry
   pub described : DescribesEntry world entry text
 
--- the files spell such classes
+-- what `describe` answers for class files and a word: the files spell classes, in which the word names a method with
+-- this template
 pub record Describes (files : List (List ℕ)) (word text : List ℕ) : Type 0 where
   pub classes : List ClassContent
   pub spelled : AllSpell files classes

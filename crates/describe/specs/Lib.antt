@@ -3,4 +3,4 @@ pub mod Starts
 pub mod Whole
 pub mod Templates
 pub mod Calls
-pub mod Rows
+pub mod inner

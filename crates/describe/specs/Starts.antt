@@ -13,7 +13,7 @@ use Rattle.input_desc.specs.Descs.{has_receiver}
 use Rattle.input_desc.specs.Fitting.{IsStart}
 use Rattle.input_desc.specs.Given.{argument_slot, statics_of}
 
--- the first argument isn't null
+-- the first argument, the object whose method is called, isn't null
 abbrev pub HasReceiver : List Value → Type 0
 HasReceiver [] = ⊥
 HasReceiver (value ∷ args) = value ≢ Null

@@ -5,7 +5,7 @@ ghost use Rattle.class_world.specs.Worlds.{classes_of};
 ghost use Rattle.input_desc.specs.Fitting.{IsListed};
 ghost use Rattle.input_desc.specs.Typed.{first_unfit};
 ghost use Rattle.describe.specs.Whole.{is_any, is_open, is_nullable, behind, is_wanted, ListsAll, IsWhole};
-ghost use Rattle.describe.specs.Rows.{AreListedTo};
+ghost use Rattle.describe.specs.inner.Rows.{AreListedTo};
 
 use crate::inputs::{Listed, is_wanted};
 use class_world::World;

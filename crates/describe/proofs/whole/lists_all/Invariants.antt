@@ -1,5 +1,5 @@
 use Rattle.class_world.specs.Worlds.{classes_of}
-use Rattle.describe.specs.Rows.{AreListedBelow}
+use Rattle.describe.specs.inner.Rows.{AreListedBelow}
 use Rattle.describe.proofs.whole.lists_all.Given as goal
 
 abbrev pub invariant-loop-j : goal.invariant-loop-j

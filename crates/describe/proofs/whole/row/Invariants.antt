@@ -1,5 +1,5 @@
 use Rattle.class_world.specs.Worlds.{classes_of}
-use Rattle.describe.specs.Rows.{AreListedTo}
+use Rattle.describe.specs.inner.Rows.{AreListedTo}
 use Rattle.describe.proofs.whole.row.Given as goal
 
 abbrev pub invariant-loop-i : goal.invariant-loop-i

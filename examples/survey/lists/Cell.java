@@ -1,0 +1,4 @@
+class Cell {
+    int item;
+    Cell next;
+}
