@@ -6,7 +6,8 @@ use Rattle.std.proofs.lemmas.Bool.{false≢true, cases_lt, cases_eq, cases_Bool,
 use Rattle.std.proofs.lemmas.Option.{slice_get_within, get_or_from_slice_get}
 use Rattle.std.proofs.lemmas.List.{drop_all}
 use Rattle.abs_cells.specs.PairLists.{pair_of, is_same, IsRising, has_pair, AreAmong}
-use Rattle.abs_cells.specs.PackedBits.{hit, pairs_in, ArePacked, IsRowAmong}
+use Rattle.abs_cells.specs.PackedBits.{hit, pairs_in, ArePacked}
+use Rattle.abs_cells.specs.inner.PackedRows.{IsRowAmong}
 use Rattle.abs_cells.proofs.PairLaws.{Before, never_both, never_itself, same_is, is_same_from, not_same, or_rest, behind_first}
 use Rattle.abs_cells.proofs.PackedLaws.{packed_rises, past_slots, packed_has, packed_has_two}
 use Rattle.abs_cells.proofs.PackedCalls.{left_no_hit}

@@ -6,7 +6,8 @@ use Rattle.std.proofs.lemmas.Bool.{false≢true, cases_lt, and_parts, and_from, 
 use Rattle.list_views.proofs.Truths.{same_truth}
 use Rattle.abs_cells.specs.PairLists.{pair_of, is_same, is_before, IsFirst, IsRising, has_pair, removed}
 use Rattle.abs_cells.specs.IdSets.{has_id, kept}
-use Rattle.abs_cells.specs.PackedBits.{slot_of, pairs_in, IsCleared, IsKeptTo}
+use Rattle.abs_cells.specs.PackedBits.{slot_of, pairs_in}
+use Rattle.abs_cells.specs.inner.PackedRows.{IsCleared, IsKeptTo}
 use Rattle.abs_cells.proofs.PairLaws.{same_is, is_same_from, is_before_from, before_is, onward}
 use Rattle.abs_cells.proofs.PackedLaws.{is_one_list, has_without, packed_has, no_hit}
 use Rattle.abs_cells.proofs.PackedCalls.{left_no_hit}

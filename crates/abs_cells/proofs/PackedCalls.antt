@@ -10,7 +10,8 @@ use Rattle.std.specs.Int.{bit_at}
 use Rattle.std.proofs.lemmas.Option.{none-some}
 use Rattle.list_views.proofs.Truths.{and_false}
 use Rattle.abs_cells.specs.IdSets.{has_bit}
-use Rattle.abs_cells.specs.PackedBits.{pairs_in, slot_of, slots_in, row_start, place_of, hit, hit_slots, ArePacked, IsGrown}
+use Rattle.abs_cells.specs.PackedBits.{pairs_in, slot_of, slots_in, row_start, place_of, hit, hit_slots, ArePacked}
+use Rattle.abs_cells.specs.inner.PackedRows.{IsGrown}
 use Rattle.abs_cells.proofs.PairLaws.{rising_with, rising_without, without_none}
 use Rattle.abs_cells.proofs.PackedLaws.{is_one_list, has_with, has_without, packed_rises, packed_has, packed_has_two, same_pairs}
 use Rattle.abs_cells.proofs.PackedLaws.{rows_apart, later_row, set_hits, clear_hits, place_turned}

@@ -13,7 +13,7 @@ use Rattle.jvm_values.proofs.Options.{some_is}
 use Rattle.abs_cells.specs.PairLists.{pair_of, is_same, has_pair, has}
 use Rattle.abs_cells.specs.IdSets.{has_bit, has_id, joins, are_touched}
 use Rattle.abs_cells.specs.PackedBits.{row_from, pairs_from, pairs_in, slot_of, row_start, place_of, hit, hit_slots, ArePacked}
-use Rattle.abs_cells.specs.PackedBits.{RowMeets, HasSlot, SideMeets, AreBothSet}
+use Rattle.abs_cells.specs.inner.PackedRows.{RowMeets, HasSlot, SideMeets, AreBothSet}
 use Rattle.abs_cells.proofs.PairLaws.{same_is, or_rest}
 use Rattle.abs_cells.proofs.PackedLaws.{packed_rises, packed_has, packed_has_two, place_turned, row_with, row_without, past_slots}
 use Rattle.abs_cells.proofs.Checking.{none_from}

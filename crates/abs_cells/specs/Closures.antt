@@ -8,23 +8,23 @@ use Rattle.abs_cells.specs.declared.cells.Cell.{Cell}
 use Rattle.abs_cells.specs.AbstractStates.{AbstractState}
 use Rattle.abs_cells.specs.Cells.{is_reference, is_hazy, ids_of, shape_of, cell_at, HasCell, Share}
 
--- a step goes from a known cell to an id that it names
+-- the steps of a walk over the ids of an abstract state: from a known cell to each id that it names, by the id's place
 abbrev pub cell_steps : AbstractState → Steps
 cell_steps state a i = option_and_then (λ cell. slice_get (ids_of cell) i) (cell_at state a)
 
--- `x` itself, and all that known cells lead to from it
+-- an id is in the closure of another one, x: it is x itself, or known cells lead to it from x
 abbrev pub KnownFrom : AbstractState → ℕ → ℕ → Type 0
 KnownFrom state x y = Reaches (cell_steps state) x y
 
--- an id of a reference, if its cell is not `Null`
+-- an id itself, if its cell is a reference's and not `Null`
 abbrev pub counted : AbstractState → ℕ → Option ℕ
 counted state id = option_and_then (λ cell. if is_reference cell then Some id else None) (cell_at state id)
 
--- the steps to such ids alone
+-- the steps of a walk over known cells that lead to ids of references alone, and to none whose cell is `Null`
 abbrev pub counted_steps : AbstractState → Steps
 counted_steps state a i = option_and_then (counted state) (cell_steps state a i)
 
--- ids of `x`'s closure and `y`'s are one id or share
+-- the regions of two ids may meet: in their closures are ids of references that are one id, or that share
 pub record MayMeet (state : AbstractState) (x y : ℕ) : Type 0 where
   pub p : ℕ
   pub q : ℕ
@@ -34,24 +34,27 @@ pub record MayMeet (state : AbstractState) (x y : ℕ) : Type 0 where
   pub q_counts : HasCell is_reference state q
   pub meet : (p ≡ q) ⊎ Share state p q
 
--- `k` shares with a hazy id of `x`'s closure
+-- an id shares with a hazy id of the closure of x
 pub record SharesThere (state : AbstractState) (k x : ℕ) : Type 0 where
   pub q : ℕ
   pub from_x : KnownFrom state x q
   pub hazy : HasCell is_hazy state q
   pub share : Share state k q
 
--- `k` is in `x`'s closure or shares with a hazy id there, and is no int and not null
+-- the object of an id may lie in the region of x: the id is of a reference, and it is in the closure of x or shares with a
+-- hazy id there
 pub record MayBeIn (state : AbstractState) (k x : ℕ) : Type 0 where
   pub counts : HasCell is_reference state k
   pub there : KnownFrom state x k ⊎ SharesThere state k x
 
--- known cells give no cycle from `x`, and no hazy id there may have one in its region
+-- the region of an id is told to have no cycle: the known cells of its closure make none, and no hazy id there has the
+-- shape `Any`
 pub record IsFiniteId (state : AbstractState) (x : ℕ) : Type 0 where
   pub acyclic : IsDagFrom (counted_steps state) x
   pub hazy : (q : ℕ) (cell : Cell) → KnownFrom state x q → cell_at state q ≡ Some cell → shape_of cell ≢ Some Any
 
--- known cells reach each id there by one path, each hazy id there has a tree as its region, and no two ids there share
+-- the region of an id is told to be a tree: known cells lead to each id of its closure along one path, each hazy id there
+-- has the shape `Tree`, and no two ids there share
 pub record IsTreeId (state : AbstractState) (x : ℕ) : Type 0 where
   pub one_path : IsTreeFrom (counted_steps state) x
   pub hazy : (q : ℕ) (cell : Cell) (shape : Shape) → KnownFrom state x q → cell_at state q ≡ Some cell → shape_of cell ≡ Some shape

@@ -20,20 +20,22 @@ use Rattle.abs_cells.specs.declared.cells.Cell.TheVariants.{Int, Null, Obj, Nums
 use Rattle.abs_cells.specs.AbstractStates.{AbstractFrame, AbstractState}
 use Rattle.abs_cells.specs.Cells.{is_known, is_hazy, shape_of, cell_at, HasCell, AreEqual, Share}
 
--- the value that each id stands for; it counts only at ids that have a cell
+-- a map from the ids of an abstract state to values of the machine; it counts only at ids that have a cell
 abbrev pub Meaning : Type 0
 Meaning = ℕ → Value
 
 -- ---- positions
 
--- each local that has an id has its value; one that is unset, or that the abstract frame does not have, takes anything
+-- an abstract frame describes a frame of the machine: method, place and operand stack agree, and each local that has an id
+-- has its value. A local that is unset, or that the abstract frame does not have, takes anything
 pub record FitsFrame (meaning : Meaning) (frame : AbstractFrame) (machine : MachineFrame) : Type 0 where
   pub method : machine.method ≡ frame.method
   pub pc : machine.pc ≡ frame.pc
   pub locals : (n id : ℕ) → slice_get frame.locals n ≡ Some (Some id) → slice_get machine.locals n ≡ Some (Some (meaning id))
   pub stack : machine.stack ≡ map meaning frame.stack
 
--- the frames, where the values of the static fields follow the locals of the bottom frame
+-- the machine's frames with the values of the static fields behind the locals of the bottom frame, as abstract states hold
+-- them
 abbrev pub with_statics : List Value → List MachineFrame → List MachineFrame
 with_statics statics [] = []
 with_statics statics (frame ∷ []) = record frame { locals = frame.locals ++ map Some statics } ∷ []
@@ -41,6 +43,7 @@ with_statics statics (frame ∷ below ∷ rest) = frame ∷ with_statics statics
 
 -- ---- mode
 
+-- the modes agree: no object is thrown in either, or the reference that the machine throws is the value of the thrown id
 abbrev pub FitsMode : Meaning → Option ℕ → Mode → Type 0
 FitsMode meaning None Normal = Unit {0}
 FitsMode meaning None (Throwing r) = ⊥
@@ -49,7 +52,7 @@ FitsMode meaning (Some id) (Throwing r) = meaning id ≡ values.Ref r
 
 -- ---- cells
 
--- a value names an object of the heap of which something holds
+-- a value names an object of the heap, and the object has a property
 pub record IsObject (heap : Heap) (value : Value) (P : Object → Type 0) : Type 0 where
   pub place : ℕ
   pub object : Object
@@ -57,7 +60,7 @@ pub record IsObject (heap : Heap) (value : Value) (P : Object → Type 0) : Type
   pub stands : slice_get heap.objects place ≡ Some object
   pub holds : P object
 
--- an array of references whose element type is below a type
+-- an object is an array of references whose element type is below a type, and an id's value is its length
 pub record IsArrayBelow (types : WorldTypes) (meaning : Meaning) (element : Ty) (len : ℕ) (object : Object) : Type 0 where
   pub item : Ty
   pub items : List Value
@@ -65,12 +68,14 @@ pub record IsArrayBelow (types : WorldTypes) (meaning : Meaning) (element : Ty) 
   pub below : IsTrue (types.sub item element)
   pub length_is : meaning len ≡ values.Int (pos (length items))
 
+-- an object is an array of numbers of a kind, and an id's value is its length
 pub record IsArrayOfNumbers (meaning : Meaning) (kind : Kind) (len : ℕ) (object : Object) : Type 0 where
   pub items : List ℤ
   pub is : object ≡ objects.Nums kind items
   pub length_is : meaning len ≡ values.Int (pos (length items))
 
--- a cell describes a value
+-- a cell describes a value: an int in the interval, null, an instance of the class with the values of the cell's ids, an
+-- array with the value of its length's id, or an object of a type below the bound, or null where the cell allows it
 abbrev pub Describes : WorldTypes → Heap → Meaning → Cell → Value → Type 0
 Describes types heap meaning (Int interval) value = (n : ℤ) × ((value ≡ values.Int n) × IsIn n interval)
 Describes types heap meaning Null value = value ≡ values.Null
@@ -82,6 +87,7 @@ Describes types heap meaning (Unk bound nullable shape) value = ((nullable ≡ t
 
 -- ---- the whole
 
+-- a state of the machine fits an abstract state by a map from ids to values
 pub record Fits (types : WorldTypes) (state : AbstractState) (machine : MachineState) (meaning : Meaning) : Type 0 where
   -- methods, places and stack depths agree, and each position with an id has that id's value
   pub positions : AllZip (FitsFrame meaning) state.frames (with_statics machine.statics machine.frames)
@@ -101,7 +107,7 @@ pub record Fits (types : WorldTypes) (state : AbstractState) (machine : MachineS
   pub shapes : (id : ℕ) (cell : Cell) (shape : Shape) → cell_at state id ≡ Some cell → shape_of cell ≡ Some shape
       → HasShape shape machine.heap (meaning id)
 
--- no reference that an object holds, or that an id stands for, leads past the heap's end
+-- no reference that an object of the heap holds, or that an id stands for, leads past the heap's end
 pub record IsClosedState (machine : MachineState) (state : AbstractState) (meaning : Meaning) : Type 0 where
   pub heap : IsClosed machine.heap
   pub ids : (id : ℕ) → HasCell (λ _. true) state id → IsInHeap (length machine.heap.objects) (meaning id)

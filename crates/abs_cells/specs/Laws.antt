@@ -9,13 +9,13 @@ use Rattle.abs_cells.specs.Sound.{IsWellFormed}
 use Rattle.abs_cells.specs.Fits.{Meaning, Fits}
 use Rattle.abs_cells.specs.Patterns.{Pattern, IsPattern}
 
--- A state that is fitted has as many frames as the machine's.
+-- An abstract state that a state of the machine fits has as many frames as the machine.
 abbrev pub FittingFramesAgree : Type 0
 FittingFramesAgree =
     (types : WorldTypes) (state : AbstractState) (machine : MachineState) (meaning : Meaning)
     → Fits types state machine meaning → length state.frames ≡ length machine.frames
 
--- In a well-formed state that is fitted two known ids stand for different objects.
+-- In a well-formed abstract state that is fitted two different known ids stand for different objects.
 abbrev pub KnownIdsAreApart : Type 0
 KnownIdsAreApart =
     (types : WorldTypes) (state : AbstractState) (machine : MachineState) (meaning : Meaning)
@@ -23,6 +23,6 @@ KnownIdsAreApart =
     → (a b o : ℕ) → HasCell is_known state a → HasCell is_known state b → a ≢ b → target (meaning a) ≡ Some o
     → target (meaning b) ≡ Some o → ⊥
 
--- An id has one pattern.
+-- An id of an abstract state has at most one pattern.
 abbrev pub PatternsAreOne : Type 0
 PatternsAreOne = (state : AbstractState) (id : ℕ) (p q : Pattern) → IsPattern state id p → IsPattern state id q → p ≡ q

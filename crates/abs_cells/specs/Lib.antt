@@ -1,12 +1,19 @@
+-- abstract states and their cells
 pub mod AbstractStates
-pub mod PairLists
 pub mod Cells
-pub mod Closures
-pub mod Sound
+-- which states of the machine an abstract state describes, and which abstract states are in order
 pub mod Fits
+pub mod Sound
+-- what ids lead to, the patterns of ids, and how large abstract states may be
+pub mod Closures
 pub mod Patterns
-pub mod IdSets
-pub mod Replays
-pub mod Laws
 pub mod Limits
+-- what holds of all abstract states
+pub mod Laws
+-- sets of ids, lists of pairs, and pairs as bits
+pub mod IdSets
+pub mod PairLists
 pub mod PackedBits
+pub mod Replays
+-- the words of private calls
+pub mod inner

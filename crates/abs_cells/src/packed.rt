@@ -5,8 +5,9 @@ ghost use Rattle.std.specs.Prelude.{OnOk, OnErr};
 ghost use Rattle.std.specs.Int.{bit_at};
 ghost use Rattle.abs_cells.specs.PairLists.{added, removed, AreAmong};
 ghost use Rattle.abs_cells.specs.IdSets.{has_bit, has_id, are_touched, kept};
-ghost use Rattle.abs_cells.specs.PackedBits.{slot_of, slots_in, row_start, place_of, hit, whole_row, pairs_in, ArePacked, IsGrown};
-ghost use Rattle.abs_cells.specs.PackedBits.{RowMeets, SideMeets, HasSlot, AreBothSet, IsRowAmong, IsCleared};
+ghost use Rattle.abs_cells.specs.PackedBits.{slot_of, slots_in, row_start, place_of, hit, pairs_in, ArePacked};
+ghost use Rattle.abs_cells.specs.inner.PackedRows.{whole_row, IsGrown};
+ghost use Rattle.abs_cells.specs.inner.PackedRows.{RowMeets, SideMeets, HasSlot, AreBothSet, IsRowAmong, IsCleared};
 
 use crate::ids::Id;
 use crate::pairs::Pairs;

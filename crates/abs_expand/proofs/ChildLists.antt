@@ -19,7 +19,7 @@ use Rattle.abs_expand.specs.declared.fault.ExpandFault.{ExpandFault}
 use Rattle.abs_expand.specs.declared.fault.ExpandFault.TheVariants.{BadState, TooManyIds, Memory}
 use Rattle.abs_expand.specs.Children.{IsTurnChild, IsLean}
 use Rattle.abs_expand.specs.Expansions.{plan_of, counts_of, AreFew, IsFirstTooMany, AreExpanded}
-use Rattle.abs_expand.specs.Building.{IsChildOf, turn_counts}
+use Rattle.abs_expand.specs.inner.Building.{IsChildOf, turn_counts}
 use Rattle.abs_turns.specs.declared.plans.Turn.{Turn as TurnSeen}
 use Rattle.abs_turns.specs.PlansSeen.{turn_seen}
 

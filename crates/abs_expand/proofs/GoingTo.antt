@@ -19,7 +19,7 @@ use Rattle.abs_cells.specs.Sound.{AreIdsRising, given_ids, ids_of_frame, ids_use
 use Rattle.abs_turns.specs.Plans.{Goal, nowhere, on_stack, in_local, in_bottom, in_field, is_thrown}
 use Rattle.abs_turns.specs.Table.{bottom_with}
 use Rattle.abs_expand.specs.Children.{gone_to, top_with, set_field, field_with}
-use Rattle.abs_expand.specs.Making.{frames_to, thrown_to, cells_to}
+use Rattle.abs_expand.specs.inner.Making.{frames_to, thrown_to, cells_to}
 use Rattle.abs_plans.proofs.WellFormed.{flat_to, frames_there, thrown_there, cells_there}
 
 pub gone_is : (goal : Goal) (id : ℕ) (state : AbstractState)

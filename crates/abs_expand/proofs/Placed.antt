@@ -34,9 +34,9 @@ use Rattle.frame_types.specs.Tables.{CodeTypes}
 use Rattle.abs_expand.specs.BadStates.{IsOfPlace, IsOfField, HasStackOf, IsPlaced, statics_under, call_at, HasCallersStack}
 use Rattle.abs_expand.specs.BadStates.{IsCallerPlaced, AreCallersPlaced, HasRunningStack, IsRunningPlaced, ArePlaced, below_running}
 use Rattle.abs_expand.specs.BadStates.{AreAtCalls}
-use Rattle.abs_expand.specs.PlaceTests.{is_entry_of, is_of_place, is_of_field, are_of_fields, has_locals, if_locals, placed_at}
-use Rattle.abs_expand.specs.PlaceTests.{is_callers_stack, is_running_stack, caller_test, running_test, fields_under, callers_test}
-use Rattle.abs_expand.specs.PlaceTests.{placed_test}
+use Rattle.abs_expand.specs.inner.PlaceTests.{is_entry_of, is_of_place, is_of_field, are_of_fields, has_locals, if_locals, placed_at}
+use Rattle.abs_expand.specs.inner.PlaceTests.{is_callers_stack, is_running_stack, caller_test, running_test, fields_under, callers_test}
+use Rattle.abs_expand.specs.inner.PlaceTests.{placed_test}
 
 -- ---- one position
 

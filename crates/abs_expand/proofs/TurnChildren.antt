@@ -12,9 +12,9 @@ use Rattle.abs_turns.specs.declared.plans.Turn.{Turn as TurnSeen}
 use Rattle.abs_turns.specs.GoodPlans.{IsGoodAct}
 use Rattle.abs_turns.specs.Plans.{Act, object, Goal, nowhere, on_stack, in_local, in_bottom, in_field, is_thrown, Turn, ids_made}
 use Rattle.abs_turns.specs.PlansSeen.{turn_seen}
-use Rattle.abs_expand.specs.Building.{IsLeanState, IsChildOf, turn_counts}
+use Rattle.abs_expand.specs.inner.Building.{IsLeanState, IsChildOf, turn_counts}
 use Rattle.abs_expand.specs.Expansions.{AreFew}
-use Rattle.abs_expand.specs.Making.{IsTurnState}
+use Rattle.abs_expand.specs.inner.Making.{IsTurnState}
 
 pub turn_child : (types : WorldTypes) (state : AbstractState) (turn : Turn) (changes : List (ℕ × Cell)) (whole part : AbstractState)
     (id : ℕ) (listed : List LinkRow) (made : GraphChild)

@@ -12,8 +12,9 @@ use Rattle.abs_expand.specs.Expansions.{plan_of, counts_of, IsFirstTooMany, AreE
 use Rattle.abs_expand.specs.declared.fault.ExpandFault.{ExpandFault}
 use Rattle.abs_expand.specs.declared.fault.ExpandFault.TheVariants.{BadState, TooManyIds, Memory}
 
--- None where the run ends with the next step, else the children: a list without children says that no state of the machine fits. Or the
--- first clause that the state breaks, or the first child with too many ids. Want of memory says nothing
+-- what the expansion of an abstract state answers. None: the state is good, and the run ends with the machine's next step. Children: the
+-- state is good, and these are its children; no children at all say that no state of the machine fits it. A bad state: the first clause
+-- that it breaks. Too many ids: the first child that would have too many. Want of memory says nothing
 abbrev pub Answers : Program → (ℕ → CodeTypes) → AbstractState → Result (Option (List GraphChild)) ExpandFault → Type 0
 Answers p typing state (Ok None) = IsGoodState p typing state × (plan_of p typing state ≡ ends)
 Answers p typing state (Ok (Some children)) = IsGoodState p typing state × AreExpanded (types_of p.world) state
@@ -23,7 +24,8 @@ Answers p typing state (Err (TooManyIds child)) = IsGoodState p typing state
     × IsFirstTooMany (counts_of (types_of p.world) state (plan_of p typing state)) child
 Answers p typing state (Err Memory) = Unit {0}
 
--- what an expansion answers where a state that has one has this plan, and the run doesn't end
+-- what an expansion answers of a good state with a plan with which the run doesn't end: its children, or the first of them that has too
+-- many ids, or want of memory, which says nothing
 abbrev pub HasPlanChildren : WorldTypes → AbstractState → Plan → Result (Option (List GraphChild)) ExpandFault → Type 0
 HasPlanChildren types state plan (Ok None) = ⊥
 HasPlanChildren types state plan (Ok (Some children)) = AreExpanded types state plan children

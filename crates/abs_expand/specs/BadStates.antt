@@ -21,7 +21,8 @@ use Rattle.code_verify.specs.TypedStates.{argument_count}
 
 -- ---- places
 
--- an id is an int where the typing has an int, and else a reference, null too; a place without a type takes anything
+-- a position holds an id of its place's type: an int where the typing has an int, and where it has a reference or null an id of no int; a
+-- place without a type takes anything, and other places an id
 abbrev pub IsOfPlace : AbstractState → PlaceType → Option ℕ → Type 0
 IsOfPlace state places.Unset local = Unit {0}
 IsOfPlace state places.Int (Some id) = HasCell is_int state id
@@ -29,17 +30,20 @@ IsOfPlace state places.Null (Some id) = HasCell is_no_int state id
 IsOfPlace state (places.Ref t) (Some id) = HasCell is_no_int state id
 IsOfPlace state _ None = ⊥
 
+-- a position of a static field holds an id of the field's type: an int for a field of numbers, and an id of no int for a field of
+-- references
 abbrev pub IsOfField : AbstractState → Slot → Option ℕ → Type 0
 IsOfField state (slots.Num kind) (Some id) = HasCell is_int state id
 IsOfField state (slots.Ref t) (Some id) = HasCell is_no_int state id
 IsOfField state _ None = ⊥
 
+-- a stack has as many entries as the typing's, each of its place's type
 abbrev pub HasStackOf : AbstractState → List PlaceType → List ℕ → Type 0
 HasStackOf state wanted stack = AllZip (λ place id. IsOfPlace state place (Some id)) wanted stack
 
 -- ---- frames
 
--- a call, and how many entries it takes from the stack
+-- how many entries a call takes from the stack; none where the instruction isn't a call
 abbrev pub call_takes : Op → Option ℕ
 call_takes (ops.Invokestatic call) = Some (argument_count (ops.Invokestatic call))
 call_takes (ops.Invokespecial call) = Some (argument_count (ops.Invokespecial call))
@@ -47,11 +51,12 @@ call_takes (ops.Invokevirtual call) = Some (argument_count (ops.Invokevirtual ca
 call_takes (ops.Invokeinterface call) = Some (argument_count (ops.Invokeinterface call))
 call_takes _ = None
 
+-- how many entries the call takes at which a frame stands; none where it stands at no call
 abbrev pub call_at : Program → AbstractFrame → Option ℕ
 call_at p frame = option_map_or call_takes (op_at p.methods frame.method frame.pc) None
 
--- the typing has the frame's place; the method's locals, and after them in the bottom frame the ids of the static fields, are
--- as many as they are and of their kinds
+-- a frame is as the typing has it there: its method is one of the program's, the typing has its place, and its locals, after which the
+-- static fields' ids follow in the bottom frame, are as many and of such types as the method and the typing say
 pub record IsPlaced (p : Program) (typing : ℕ → CodeTypes) (state : AbstractState) (statics : List Slot) (frame : AbstractFrame)
     (there : PlaceTypes) : Type 0 where
   pub method : Method
@@ -61,22 +66,24 @@ pub record IsPlaced (p : Program) (typing : ℕ → CodeTypes) (state : Abstract
   pub locals : AllZip (IsOfPlace state) there.locals (take method.max_locals frame.locals)
   pub fields : AllZip (IsOfField state) statics (drop method.max_locals frame.locals)
 
--- the static fields' slots at the bottom frame
+-- the types of the static fields whose ids follow a frame's locals: all where no frame is below it, and none else
 abbrev pub statics_under : Program → List AbstractFrame → List Slot
 statics_under p [] = map (λ field. field.slot) p.statics
 statics_under p (frame ∷ below) = []
 
--- a caller's stack has the types of its place without the arguments; that of a frame at no call isn't looked at
+-- a caller's stack has the types of its place without the call's arguments; that of a frame at no call isn't looked at
 abbrev pub HasCallersStack : AbstractState → Option ℕ → List PlaceType → List ℕ → Type 0
 HasCallersStack state None wanted stack = Unit {0}
 HasCallersStack state (Some count) wanted stack = HasStackOf state (drop count wanted) stack
 
+-- a frame below the running one is as the typing has it there, and so is its stack but for the arguments of its call
 pub record IsCallerPlaced (p : Program) (typing : ℕ → CodeTypes) (state : AbstractState) (statics : List Slot)
     (frame : AbstractFrame) : Type 0 where
   pub there : PlaceTypes
   pub placed : IsPlaced p typing state statics frame there
   pub stack : HasCallersStack state (call_at p frame) there.stack frame.stack
 
+-- each frame below the running one is as the typing has it there
 abbrev pub AreCallersPlaced : Program → (ℕ → CodeTypes) → AbstractState → List AbstractFrame → Type 0
 AreCallersPlaced p typing state [] = Unit {0}
 AreCallersPlaced p typing state (frame ∷ below) = IsCallerPlaced p typing state (statics_under p below) frame
@@ -87,35 +94,39 @@ abbrev pub HasRunningStack : AbstractState → Option ℕ → List PlaceType →
 HasRunningStack state None wanted stack = HasStackOf state wanted stack
 HasRunningStack state (Some thrown) wanted stack = stack ≡ []
 
+-- the running frame is as the typing has it there, with its stack
 pub record IsRunningPlaced (p : Program) (typing : ℕ → CodeTypes) (state : AbstractState) (statics : List Slot)
     (frame : AbstractFrame) : Type 0 where
   pub there : PlaceTypes
   pub placed : IsPlaced p typing state statics frame there
   pub stack : HasRunningStack state state.throwing there.stack frame.stack
 
+-- all frames of a state are as the typing has them there
 abbrev pub ArePlaced : Program → (ℕ → CodeTypes) → AbstractState → List AbstractFrame → Type 0
 ArePlaced p typing state [] = Unit {0}
 ArePlaced p typing state (frame ∷ below) = IsRunningPlaced p typing state (statics_under p below) frame
     × AreCallersPlaced p typing state below
 
--- each frame below the running one is at a call
+-- the frames below the running one
 abbrev pub below_running : List AbstractFrame → List AbstractFrame
 below_running [] = []
 below_running (frame ∷ below) = below
 
+-- each frame below the running one stands at a call
 abbrev pub AreAtCalls : Program → List AbstractFrame → Type 0
 AreAtCalls p frames = All (λ (frame : AbstractFrame). call_at p frame ≢ None) (below_running frames)
 
 -- ---- clauses
 
--- the state has an expansion
+-- an abstract state has an expansion: it is sound, each of its positions is as the typing has it, and each frame below the running one
+-- stands at a call
 pub record IsGoodState (p : Program) (typing : ℕ → CodeTypes) (state : AbstractState) : Type 0 where
   pub sound : IsSound (types_of p.world) state
   pub placed : ArePlaced p typing state state.frames
   pub called : AreAtCalls p state.frames
 
--- the first clause that a state breaks: 1, it isn't sound; 2, a position isn't as the typing has it; 3, a frame below the running
--- one isn't at a call
+-- the number of the first clause that a state without an expansion breaks: 1, it isn't sound; 2, a position isn't as the typing has it;
+-- 3, a frame below the running one doesn't stand at a call
 pub data IsBadState (p : Program) (typing : ℕ → CodeTypes) (state : AbstractState) : ℕ → Type 0 where
   unsound : (IsSound (types_of p.world) state → ⊥) → IsBadState p typing state 1
   misplaced : IsSound (types_of p.world) state → (ArePlaced p typing state state.frames → ⊥) → IsBadState p typing state 2

@@ -18,7 +18,7 @@ use Rattle.abs_turns.specs.Plans.{Act, nothing, makes, writes, item, object, arr
 use Rattle.abs_turns.specs.Plans.{in_field, is_thrown, Turn}
 use Rattle.abs_turns.specs.Table.{bottom_with}
 
--- an act gives a state from another one, with the id that it makes; one that makes none gives any
+-- an act leads from one abstract state to another, with the id that it makes; an act that makes none may have any number for it
 abbrev pub IsActed : WorldTypes → Act → ℕ → AbstractState → AbstractState → Type 0
 IsActed types nothing id state after = after ≡ state
 IsActed types (makes cell) id state after = AreFresh state (id ∷ []) × IsGiven state.frames state.throwing
@@ -29,19 +29,22 @@ IsActed types (item k) id state after = (element : Ty) × (len : ℕ) × (shape 
 IsActed types (object class) id state after = IsObjectChild types state class id after
 IsActed types (array slot len) id state after = IsNewArrayChild types.erase state slot len id after
 
--- the running frame with an id on its stack, or in a local
+-- frames with a change to the running one
 abbrev pub top_with : (AbstractFrame → AbstractFrame) → List AbstractFrame → List AbstractFrame
 top_with change [] = []
 top_with change (frame ∷ below) = change frame ∷ below
 
+-- the cell of an instance with another id in a field; other cells stay as they are
 abbrev pub set_field : ℕ → ℕ → Cell → Cell
 set_field place id (cells.Obj class ids) = cells.Obj class (slice_set ids place id)
 set_field place id cell = cell
 
+-- a cell under its id, where the instance k gets another id in a field
 abbrev pub field_with : ℕ → ℕ → ℕ → ℕ × Cell → ℕ × Cell
 field_with k place id c = (c.0, if c.0 == k then set_field place id c.1 else c.1)
 
--- an id goes where a goal says
+-- the state in which an id has gone to a goal: nowhere, on the running frame's stack, into a local, into a field of a known instance, or
+-- it is the thrown one
 abbrev pub gone_to : Goal → ℕ → AbstractState → AbstractState
 gone_to nowhere id state = state
 gone_to on_stack id state = record state { frames = top_with (λ frame. record frame { stack = id ∷ frame.stack }) state.frames }
@@ -51,7 +54,8 @@ gone_to (in_bottom n) id state = record state { frames = bottom_with n id state.
 gone_to (in_field k place) id state = record state { cells = map (field_with k place id) state.cells }
 gone_to is_thrown id state = record state { throwing = Some id }
 
--- a child before ids are dropped. The rows of a turn whose act makes no id don't name one
+-- the child of a step before ids are dropped: the frames, the thrown id and the cells become those of the step, then its act is done, the
+-- act's id goes to the goal, and the link has the step's rows. Rows of a step whose act makes no id name none
 pub record IsTurnChild (types : WorldTypes) (state : AbstractState) (turn : Turn) (child : GraphChild) : Type 0 where
   pub changed : AbstractState
   pub is_changed : IsGiven turn.frames turn.throwing (with_cells turn.changed state) (AreEqual state) (Share state) changed
@@ -63,7 +67,7 @@ pub record IsTurnChild (types : WorldTypes) (state : AbstractState) (turn : Turn
 
 -- ---- dropping
 
--- a child without the ids that nothing reaches
+-- a child without the ids that nothing reaches: those of the whole child are dropped, its ids and pairs rise, and its link stays as it is
 pub record IsLean (whole child : GraphChild) : Type 0 where
   pub rising : AreIdsRising 0 child.state.cells
   pub eq_rise : IsRising child.state.eq

@@ -19,9 +19,8 @@ use Rattle.abs_expand.specs.Children.{IsTurnChild, IsLean}
 
 -- ---- the children of a plan
 
--- the children of a plan in their order, before ids are dropped. A plan splits by null an id whose cell may be null, and by class one
--- whose cell
--- is `Unk` and not nullable, as the splits of the abstract heap ask
+-- the children of a plan in their order, before ids are dropped: one for each step; or those of a split by null of an id that may be
+-- null, by class of an object of unknown class, or by whether two ids are one object, as the abstract heap splits them
 abbrev pub AreChildren : WorldTypes → AbstractState → Plan → List GraphChild → Type 0
 AreChildren types state ends children = ⊥
 AreChildren types state (steps turns) children = AllZip (IsTurnChild types state) turns children
@@ -31,16 +30,19 @@ AreChildren types state (by_equal x y) children = AreEqualAnswers types.sub stat
 
 -- ---- too many ids
 
--- how many ids each child has before ids are dropped
+-- how many ids each child of a split by class has before ids are dropped; an id whose class isn't open has no such children
 abbrev pub class_counts : WorldTypes → AbstractState → Ty → Option Cell → List ℕ
 class_counts types state wanted (Some (cells.Unk bound nullable shape)) = case_counts types state (cases_of types bound wanted)
 class_counts types state wanted _ = []
 
+-- how many ids each child has of a split by whether two ids are one object: one less where they are, if their cells can be of one object,
+-- and all where they are not
 abbrev pub equal_counts : WorldTypes → AbstractState → Option Cell → Option Cell → List ℕ
 equal_counts types state (Some c) (Some d) = if are_compatible types.sub c d then (length state.cells - 1) ∷ length state.cells
     ∷ [] else length state.cells ∷ []
 equal_counts types state _ _ = []
 
+-- how many ids each child of a plan has before ids are dropped
 abbrev pub counts_of : WorldTypes → AbstractState → Plan → List ℕ
 counts_of types state ends = []
 counts_of types state (steps turns) = map (λ (turn : Turn). length state.cells + ids_made types turn.act) turns
@@ -50,7 +52,7 @@ counts_of types state (by_equal x y) = equal_counts types state (cell_at state x
 
 -- ---- the expansion
 
--- the children of a state that has few enough ids in each
+-- the children of a state by its plan, without the ids that nothing reaches, none of which has too many ids before that
 pub record AreExpanded (types : WorldTypes) (state : AbstractState) (plan : Plan) (children : List GraphChild) : Type 0 where
   pub few : AreFew (counts_of types state plan)
   pub wholes : List GraphChild

@@ -19,12 +19,12 @@ use Rattle.abs_expand.specs.BadStates.{IsGoodState}
 use Rattle.class_program.specs.Widths.{HasWidths}
 use Rattle.abs_expand.specs.Expansions.{plan_of, AreExpanded}
 
--- the machine's state at a child: the same where the machine makes no step, else the one after its step
+-- the machine's state at a child: as it was where the child's link is no step of the machine, else the one after the machine's step
 abbrev pub IsAfter : Program → Bool → MachineState → MachineState → Type 0
 IsAfter p false machine after = after ≡ machine
 IsAfter p true machine after = step p machine ≡ Going after
 
--- a child fits a state of the machine, and the edge to it holds
+-- one of some children fits the machine's state there, with a meaning of its ids, and its edge holds
 pub record GoesToChild (p : Program) (state : AbstractState) (machine : MachineState) (meaning : Meaning)
     (children : List GraphChild) : Type 0 where
   pub n : ℕ
@@ -36,7 +36,8 @@ pub record GoesToChild (p : Program) (state : AbstractState) (machine : MachineS
   pub fits : Fits (types_of p.world) child.state after meaning_after
   pub edge : Edge state machine meaning child.link child.state after meaning_after
 
--- a good state, a typing of the program, and a typed state of the machine that fits
+-- a state of the machine is met by an abstract one: the program is good, the typing is the program's, the abstract state is good, and the
+-- machine's state is typed and fits it
 pub record IsMet (p : Program) (typing : ℕ → CodeTypes) (state : AbstractState) (machine : MachineState) (meaning : Meaning) : Type 0 where
   pub program : IsGood p
   pub typing_is : IsTypingOf p typing
@@ -44,11 +45,15 @@ pub record IsMet (p : Program) (typing : ℕ → CodeTypes) (state : AbstractSta
   pub typed : IsTypedState p typing machine
   pub fits : Fits (types_of p.world) state machine meaning
 
+-- A run ends with the machine's next step where the plan of an abstract state that fits says so, in every closed program whose
+-- instructions hold numbers of their fields' widths.
 abbrev pub EndsEnd : Type 0
 EndsEnd =
     (p : Program) (typing : ℕ → CodeTypes) (state : AbstractState) (machine : MachineState) (meaning : Meaning)
     → IsClosed p → HasWidths p → IsMet p typing state machine meaning → plan_of p typing state ≡ ends → IsEnd (step p machine)
 
+-- A state of the machine that fits an abstract one fits a child of it, by an edge: as it is where the abstract state is split, else after
+-- the machine's step; in every closed program whose instructions hold numbers of their fields' widths.
 abbrev pub StepsFitChildren : Type 0
 StepsFitChildren =
     (p : Program) (typing : ℕ → CodeTypes) (state : AbstractState) (machine : MachineState) (meaning : Meaning)

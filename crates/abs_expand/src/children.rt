@@ -11,7 +11,7 @@ ghost use Rattle.abs_turns.specs.OperandsSeen.{operand_seen};
 ghost use Rattle.abs_turns.specs.PlansSeen.{rows_seen, turn_seen};
 ghost use Rattle.abs_turns.specs.ShortRows.{is_small_factor, is_short_row, are_short};
 ghost use Rattle.abs_turns.specs.Turns.{term_of, terms_of, constant_of, row_over, rows_over};
-ghost use Rattle.abs_expand.specs.Building.{IsLeanState, IsChildOf};
+ghost use Rattle.abs_expand.specs.inner.Building.{IsLeanState, IsChildOf};
 ghost use Rattle.abs_expand.specs.Children.{IsLean};
 
 use crate::making::whole_state;

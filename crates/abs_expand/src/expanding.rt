@@ -11,7 +11,7 @@ ghost use Rattle.abs_turns.specs.Plans.{ids_made, steps};
 ghost use Rattle.abs_turns.specs.GoodPlans.{IsGoodTurn};
 ghost use Rattle.abs_turns.specs.PlansSeen.{turn_seen};
 ghost use Rattle.abs_expand.specs.Answers.{Answers, HasPlanChildren};
-ghost use Rattle.abs_expand.specs.Building.{IsChildOf, turn_counts};
+ghost use Rattle.abs_expand.specs.inner.Building.{IsChildOf, turn_counts};
 ghost use Rattle.abs_expand.specs.declared.fault.ExpandFault.TheVariants.{Memory};
 ghost use Rattle.abs_expand.specs.Expansions.{AreFew, IsFirstTooMany};
 

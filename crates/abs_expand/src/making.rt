@@ -15,8 +15,8 @@ ghost use Rattle.abs_turns.specs.Plans.{ids_made, nowhere, item, object, array};
 ghost use Rattle.abs_turns.specs.PlansSeen.{act_seen, goal_seen, write_seen};
 ghost use Rattle.abs_turns.specs.GoodPlans.{IsThere, HoldsIds, IsChange, IsGoodAct};
 ghost use Rattle.abs_expand.specs.Children.{IsActed, gone_to, set_field, field_with};
-ghost use Rattle.abs_expand.specs.Making.{IsLeastFree, changed_cell, changed_cells, inserted, frames_to, thrown_to, cells_to};
-ghost use Rattle.abs_expand.specs.Making.{is_at_bottom, GoesSomewhere, IsTurnState};
+ghost use Rattle.abs_expand.specs.inner.Making.{IsLeastFree, changed_cell, changed_cells, inserted, frames_to, thrown_to, cells_to};
+ghost use Rattle.abs_expand.specs.inner.Making.{is_at_bottom, GoesSomewhere, IsTurnState};
 
 use abs_cells::{
     AbsFrame, AbsState, Cell, Id, IdSet, Ids, Pairs, copied_cell, copied_cells, copied_frames,

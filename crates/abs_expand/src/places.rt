@@ -9,8 +9,8 @@ ghost use Rattle.abs_sound.specs.Zips.{all_zip};
 ghost use Rattle.class_program.specs.Views.{program_of};
 ghost use Rattle.code_verify.specs.Typings.{typing_at};
 ghost use Rattle.abs_expand.specs.BadStates.{call_takes, call_at, below_running};
-ghost use Rattle.abs_expand.specs.PlaceTests.{is_of_place, is_entry_of, is_of_field, are_of_fields, has_locals, placed_at, is_stack_at};
-ghost use Rattle.abs_expand.specs.PlaceTests.{caller_test, running_test, fields_under, callers_test, placed_test};
+ghost use Rattle.abs_expand.specs.inner.PlaceTests.{is_of_place, is_entry_of, is_of_field, are_of_fields, has_locals, placed_at};
+ghost use Rattle.abs_expand.specs.inner.PlaceTests.{is_stack_at, caller_test, running_test, fields_under, callers_test, placed_test};
 
 use abs_cells::{AbsFrame, AbsState, Cell, Id, Pairs};
 use abs_sound::{has_int, has_no_int};

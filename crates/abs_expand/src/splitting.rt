@@ -11,7 +11,7 @@ ghost use Rattle.jvm_values.specs.TypedHeaps.{WorldTypes};
 ghost use Rattle.term_graph.specs.Graphs.{GraphChild};
 ghost use Rattle.abs_turns.specs.Plans.{by_null, by_class, by_equal};
 ghost use Rattle.abs_expand.specs.Answers.{HasPlanChildren};
-ghost use Rattle.abs_expand.specs.Building.{fault_of_split};
+ghost use Rattle.abs_expand.specs.inner.Building.{fault_of_split};
 ghost use Rattle.abs_expand.specs.Children.{IsLean};
 
 use crate::children::lean_child;

@@ -17,7 +17,7 @@ use Rattle.abs_cells.proofs.Checking.{has_cell_from, has_cell_to, id_is_low}
 use Rattle.abs_reach.proofs.Walks.{some_cell}
 use Rattle.abs_heap.specs.Given.{IsBelowFirst, AreRising, AreFresh}
 use Rattle.abs_heap.specs.Names.{name_in}
-use Rattle.abs_heap.specs.Renaming.{ids_among, if_in, AreNamesOf}
+use Rattle.abs_heap.specs.inner.Renaming.{ids_among, if_in, AreNamesOf}
 use Rattle.abs_heap.specs.Writing.{is_array_of_references, IsAffected}
 use Rattle.abs_heap.proofs.Placing.{cell_later}
 use Rattle.abs_heap.proofs.Renamed.{named_here, named_later}

@@ -16,9 +16,9 @@ use Rattle.abs_cells.specs.IdSets.{has_id}
 use Rattle.abs_cells.specs.PairLists.{has, pair_of, is_same, IsRising}
 use Rattle.abs_cells.proofs.PairLaws.{is_same_from}
 use Rattle.abs_cells.proofs.Checking.{low_pair}
-use Rattle.abs_heap.specs.Building.{Gains}
+use Rattle.abs_heap.specs.inner.Building.{Gains}
 use Rattle.abs_heap.specs.Names.{name_in, cell_named}
-use Rattle.abs_heap.specs.Renaming.{IsBeside, is_beside, is_named, shape_if, written_cell, field_at}
+use Rattle.abs_heap.specs.inner.Renaming.{IsBeside, is_beside, is_named, shape_if, written_cell, field_at}
 use Rattle.abs_heap.specs.Writing.{Write, shape_after, with_shape, with_field, is_renamed, reshaped, cell_after}
 use Rattle.abs_heap.proofs.Choosing.{any_joined}
 use Rattle.abs_heap.proofs.PairGains.{same_pair, pair_turned, gain_as, gain_nothing}

@@ -10,8 +10,8 @@ use Rattle.abs_cells.specs.declared.cells.Cell.{Cell}
 use Rattle.abs_cells.specs.Cells.{is_reference, is_of_sort, cell_in, are_compatible}
 use Rattle.abs_cells.specs.IdSets.{has_id}
 use Rattle.abs_cells.specs.Sound.{AreIdsRising}
-use Rattle.abs_heap.specs.Building.{Gains, may_be_one}
-use Rattle.abs_heap.specs.Splitting.{WantsOne}
+use Rattle.abs_heap.specs.inner.Building.{Gains, may_be_one}
+use Rattle.abs_heap.specs.inner.Splitting.{WantsOne}
 use Rattle.abs_heap.proofs.PairGains.{gain_as, gain_both, gain_nothing, is_listed, listed_next, listed_there, joins_left}
 use Rattle.abs_heap.proofs.Placing.{cell_here, cell_later}
 

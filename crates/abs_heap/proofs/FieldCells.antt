@@ -4,7 +4,7 @@ use Rattle.std.proofs.lemmas.List.{take_all, get_or_default}
 use Rattle.std.proofs.lemmas.Slice.Zip.{get_or-zip}
 use Rattle.jvm_values.specs.declared.types.Slot.{Slot}
 use Rattle.abs_cells.specs.declared.cells.Cell.{Cell}
-use Rattle.abs_heap.specs.Building.{IsOver}
+use Rattle.abs_heap.specs.inner.Building.{IsOver}
 use Rattle.abs_heap.proofs.Placing.{over_next, same_entry, entry_of}
 
 abbrev pub entry_by : (Slot → Cell) → ℕ × Slot → ℕ × Cell

@@ -22,9 +22,9 @@ use Rattle.abs_cells.specs.Sound.{AreIdsRising}
 use Rattle.abs_heap.specs.Given.{IsGiven, MayBeOne, with_cells}
 use Rattle.abs_heap.specs.Names.{name_in, frame_named, IsImage}
 use Rattle.abs_heap.specs.Refining.{cell_of_slot, IsReferenceField, JoinsFields}
-use Rattle.abs_heap.specs.Building.{Gains, IsOver}
+use Rattle.abs_heap.specs.inner.Building.{Gains, IsOver}
 use Rattle.jvm_values.specs.Slots.{is_reference_slot}
-use Rattle.abs_heap.specs.Splitting.{IsFieldBefore, IsGivenInstance, WantsOne}
+use Rattle.abs_heap.specs.inner.Splitting.{IsFieldBefore, IsGivenInstance, WantsOne}
 use Rattle.abs_heap.proofs.PairGains.{gain_both, gain_as, gains_on}
 use Rattle.abs_heap.proofs.Placing.{over_more, over_cell}
 use Rattle.abs_heap.proofs.Giving.{image_unnamed, pairs_given, over_state, state_of, frames_unnamed, given_unnamed}

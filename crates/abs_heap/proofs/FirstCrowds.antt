@@ -15,7 +15,7 @@ use Rattle.abs_heap.specs.declared.fault.SplitFault.{SplitFault}
 use Rattle.abs_heap.specs.declared.fault.SplitFault.TheVariants.{TooManyIds, Memory}
 use Rattle.abs_heap.specs.Counts.{case_counts, IsFirstTooMany, new_ids}
 use Rattle.abs_heap.specs.Refining.{Case}
-use Rattle.abs_heap.specs.Splitting.{crowds, first_crowd}
+use Rattle.abs_heap.specs.inner.Splitting.{crowds, first_crowd}
 use Rattle.abs_heap.proofs.Listing.{among_joined, among_more, has_room_for}
 
 pub ok_no_err : {A E : Type 0} (x : A) (y : E) → Ok x ≡ Err y → ⊥

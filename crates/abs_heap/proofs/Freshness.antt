@@ -13,7 +13,7 @@ use Rattle.abs_cells.specs.Cells.{is_of_sort, cell_in}
 use Rattle.abs_cells.specs.Sound.{AreIdsRising}
 use Rattle.abs_cells.proofs.Checking.{has_cell_from}
 use Rattle.abs_heap.specs.Given.{AreRising, AreFresh}
-use Rattle.abs_heap.specs.Building.{IsIdAt}
+use Rattle.abs_heap.specs.inner.Building.{IsIdAt}
 use Rattle.abs_heap.proofs.Placing.{cell_here, cell_later, absent}
 
 -- the ids found so far, when all numbers below `next` are settled and so many cells are behind

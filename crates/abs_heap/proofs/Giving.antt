@@ -13,7 +13,7 @@ use Rattle.abs_cells.specs.PairLists.{has}
 use Rattle.abs_cells.specs.Sound.{AreIdsRising}
 use Rattle.abs_heap.specs.Given.{IsPair, IsGiven, first_cell, with_cells}
 use Rattle.abs_heap.specs.Names.{name_in, frame_named, cell_named, IsImage}
-use Rattle.abs_heap.specs.Building.{Gains, IsOver, named_entry}
+use Rattle.abs_heap.specs.inner.Building.{Gains, IsOver, named_entry}
 use Rattle.abs_heap.proofs.PairGains.{pair_as, gains_on}
 
 -- ---- no names

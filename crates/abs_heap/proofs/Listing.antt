@@ -29,7 +29,7 @@ use Rattle.abs_heap.specs.declared.fault.SplitFault.{SplitFault}
 use Rattle.abs_heap.specs.declared.fault.SplitFault.TheVariants.{TooManyIds}
 use Rattle.list_views.specs.Lists.{numbers_from}
 use Rattle.abs_heap.specs.Refining.{Case, instance, numbers, references, IsCase, IsArrayChild, lower_of, listed, cases_below, cases_of}
-use Rattle.abs_heap.specs.Splitting.{instances_among, numbers_among, crowds, plain_child, AddsCases, IsCaseAnswer, IsArrayAnswer}
+use Rattle.abs_heap.specs.inner.Splitting.{instances_among, numbers_among, crowds, plain_child, AddsCases, IsCaseAnswer, IsArrayAnswer}
 
 -- ---- some of a list
 

@@ -21,7 +21,7 @@ use Rattle.term_graph.specs.declared.links.Link.{Link}
 use Rattle.term_graph.specs.Graphs.{GraphChild}
 use Rattle.abs_heap.specs.Answers.{IsMergedAnswer, IsApartAnswer, AreEqualAnswers}
 use Rattle.abs_heap.specs.Laws.{plain_link}
-use Rattle.abs_heap.specs.Building.{Gains, IsOver, IsThis, named_entry}
+use Rattle.abs_heap.specs.inner.Building.{Gains, IsOver, IsThis, named_entry}
 use Rattle.abs_heap.specs.Refining.{merged_cell, rank_of, stays_before, IsMergedChild, IsApartChild, IsEqualChild, both, alone}
 use Rattle.jvm_values.specs.declared.types.Ty.{Ty}
 use Rattle.abs_heap.proofs.PairGains.{pair_as, same_pair, pair_same, gains_on}

@@ -23,7 +23,7 @@ use Rattle.abs_cells.proofs.RisingPairs.{no_pair}
 use Rattle.abs_reach.proofs.Room.{has_cell_low}
 use Rattle.abs_heap.specs.Given.{IsPair}
 use Rattle.abs_heap.specs.Names.{IsImage}
-use Rattle.abs_heap.specs.Building.{Gains, IsThis}
+use Rattle.abs_heap.specs.inner.Building.{Gains, IsThis}
 
 -- ---- booleans
 

@@ -14,7 +14,7 @@ use Rattle.abs_cells.specs.Sound.{AreIdsRising}
 use Rattle.abs_cells.proofs.Checking.{id_is_low}
 use Rattle.abs_heap.specs.Names.{name_in}
 use Rattle.abs_heap.specs.Given.{first_cell}
-use Rattle.abs_heap.specs.Building.{place_in, IsIdAt, IsOver}
+use Rattle.abs_heap.specs.inner.Building.{place_in, IsIdAt, IsOver}
 
 -- ---- looks
 

@@ -16,7 +16,7 @@ use Rattle.abs_cells.specs.Sound.{AreIdsRising}
 use Rattle.abs_heap.specs.Given.{MayBeOne}
 use Rattle.abs_heap.specs.Names.{name_in, frame_named, IsImage}
 use Rattle.abs_heap.specs.Writing.{JoinsItem}
-use Rattle.abs_heap.specs.Building.{Gains, IsOver, IsThis, IsGivenItem, may_be_one}
+use Rattle.abs_heap.specs.inner.Building.{Gains, IsOver, IsThis, IsGivenItem, may_be_one}
 use Rattle.abs_heap.proofs.PairGains.{gain_both, gain_as, gains_on}
 use Rattle.abs_heap.proofs.Giving.{image_unnamed, pairs_given, over_state, state_of, frames_unnamed, given_unnamed}
 

@@ -5,7 +5,7 @@ use Rattle.jvm_values.specs.declared.types.Ty.{Ty}
 use Rattle.jvm_values.specs.declared.types.Slot.{Slot}
 use Rattle.jvm_values.specs.Subtyping.{SubtypeLaws}
 use Rattle.abs_cells.specs.Cells.{are_compatible_types}
-use Rattle.abs_heap.specs.Building.{IsUntold}
+use Rattle.abs_heap.specs.inner.Building.{IsUntold}
 
 module _ (sub : Ty → Ty → Bool) (erase : Ty → Ty) (classes : ℕ) (fields : ℕ → List Slot) (can_be_made : ℕ → Bool)
     (laws : SubtypeLaws sub erase classes fields can_be_made) where

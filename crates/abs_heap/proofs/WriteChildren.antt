@@ -19,8 +19,8 @@ use Rattle.abs_cells.specs.Sound.{IsWellFormed}
 use Rattle.abs_reach.proofs.Answering.{share_counts}
 use Rattle.abs_reach.proofs.Walks.{named_has_cell, some_cell}
 use Rattle.abs_heap.specs.Names.{name_in, frame_named, IsImage}
-use Rattle.abs_heap.specs.Building.{Gains, IsOver}
-use Rattle.abs_heap.specs.Renaming.{IsBeside, is_named, AreNamesOf, IsWritten}
+use Rattle.abs_heap.specs.inner.Building.{Gains, IsOver}
+use Rattle.abs_heap.specs.inner.Renaming.{IsBeside, is_named, AreNamesOf, IsWritten}
 use Rattle.abs_heap.specs.Writing.{Write, IsAffected, IsMet, IsNullId, MakesNoCycle, shape_after, cell_after, GainsPair, IsWriteChild}
 use Rattle.abs_heap.proofs.Affected.{affected_there}
 use Rattle.abs_heap.proofs.After.{any_named, named_any}

@@ -6,11 +6,13 @@ use Rattle.abs_cells.specs.AbstractStates.{AbstractFrame, AbstractState}
 use Rattle.abs_cells.specs.Cells.{cell_in, cell_at, HasCell, AreEqual, Share, are_compatible}
 use Rattle.abs_cells.specs.Sound.{AreIdsRising, may_join}
 
--- the wanted pairs that may stand are the pairs: two ids that differ, both of references, and not both known
+-- two ids are one of the wanted pairs, and may be a pair by their cells: they differ, both are of references, and not both
+-- are known
 abbrev pub IsPair : (ℕ → ℕ → Type 0) → List (ℕ × Cell) → ℕ → ℕ → Type 0
 IsPair wanted cells a b = (a ≢ b) × ((may_join cells a b ≡ true) × (wanted a b ⊎ wanted b a))
 
--- a state has these frames, this thrown id, these cells, and of the wanted pairs all that may stand
+-- an abstract state is given by its parts: it has these frames, this thrown id, these cells, rising, and of the wanted
+-- pairs all that may stand by the cells
 pub record IsGiven (frames : List AbstractFrame) (throwing : Option ℕ) (cell : ℕ → Option Cell) (equal : ℕ → ℕ → Type 0)
     (sharing : ℕ → ℕ → Type 0) (child : AbstractState) : Type 0 where
   pub frames_are : child.frames ≡ frames
@@ -20,31 +22,33 @@ pub record IsGiven (frames : List AbstractFrame) (throwing : Option ℕ) (cell :
   pub eq : (a b : ℕ) → AreEqual child a b ↔ IsPair equal child.cells a b
   pub share : (a b : ℕ) → Share child a b ↔ IsPair sharing child.cells a b
 
--- each stands before the next
+-- a number is below the first of a list, if there is one
 abbrev pub IsBelowFirst : ℕ → List ℕ → Type 0
 IsBelowFirst n [] = Unit {0}
 IsBelowFirst n (m ∷ rest) = n < m
 
+-- the numbers of a list rise
 abbrev pub AreRising : List ℕ → Type 0
 AreRising [] = Unit {0}
 AreRising (n ∷ rest) = IsBelowFirst n rest × AreRising rest
 
--- ids, rising, that are the least numbers which are no ids of a state
+-- ids are fresh for an abstract state: they rise, and are the least numbers which are no ids of the state
 pub record AreFresh (state : AbstractState) (ids : List ℕ) : Type 0 where
   pub rise : AreRising ids
   pub free : All (λ id. cell_at state id ≡ None) ids
   pub least : (id m : ℕ) → Contains ids id → m < id → HasCell (λ _. true) state m ⊎ Contains ids m
 
--- the cells of a list in the place of others
+-- the first of two cells that is there
 abbrev pub first_cell : Option Cell → Option Cell → Option Cell
 first_cell None other = other
 first_cell (Some cell) other = Some cell
 
+-- the cells of an abstract state with others in their place: the cell that a list gives to an id, or else the state's
 abbrev pub with_cells : List (ℕ × Cell) → AbstractState → ℕ → Option Cell
 with_cells cells state id = first_cell (cell_in cells id) (cell_at state id)
 
--- two ids join: they share, and may be one object where their cells allow it. Of the ids that join in a child so many are
--- wanted as one object
+-- two ids join, as a relation says, and their cells are compatible: of the ids that share in a child these are wanted as
+-- pairs that may be one object
 pub record MayBeOne (sub : Ty → Ty → Bool) (join : ℕ → ℕ → Type 0) (cells : List (ℕ × Cell)) (a b : ℕ) : Type 0 where
   pub joins : join a b
   pub left : Cell

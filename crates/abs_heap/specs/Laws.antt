@@ -29,18 +29,18 @@ use Rattle.abs_heap.specs.Given.{with_cells}
 use Rattle.abs_heap.specs.Refining.{IsCase, cases_of, IsWithCell, AreEqualChildren}
 use Rattle.abs_heap.specs.Writing.{Write, IsWriteChild, IsItemChild, IsObjectChild, IsNewArrayChild}
 
--- an edge without rows, of no step or one, with a merged pair or none
+-- the link of an edge without rows, which is a step or none, and merges one id into another or none
 abbrev pub plain_link : Bool → Option (ℕ × ℕ) → Link
 plain_link step merged = record { rows = []; merged = merged; step = step }
 
--- a child fits a state of the machine by some map, and the edge to it holds
+-- a state of the machine fits a child of an abstract state by some map, and the edge to the child holds
 pub record Goes (types : WorldTypes) (state : AbstractState) (machine : MachineState) (meaning : Meaning) (link : Link)
     (child : AbstractState) (machine_after : MachineState) : Type 0 where
   pub meaning_after : Meaning
   pub fits : Fits types child machine_after meaning_after
   pub edge : Edge state machine meaning link child machine_after meaning_after
 
--- null, or not
+-- Whatever fits a state in which an id is nullable fits the child in which it is null, or the one in which it is an object.
 abbrev pub NullSplits : Type 0
 NullSplits =
     (types : WorldTypes) (state first second : AbstractState) (machine : MachineState) (meaning : Meaning) (x : ℕ) (bound : Ty)
@@ -50,7 +50,7 @@ NullSplits =
     → Goes types state machine meaning (plain_link false None) first machine
     ⊎ Goes types state machine meaning (plain_link false None) second machine
 
--- a child of a case, among the children of all of them
+-- a state of the machine fits some child of a list, to which the edge of no step and no merged ids holds
 pub record GoesToCase (types : WorldTypes) (state : AbstractState) (machine : MachineState) (meaning : Meaning)
     (children : List AbstractState) : Type 0 where
   pub n : ℕ
@@ -58,7 +58,8 @@ pub record GoesToCase (types : WorldTypes) (state : AbstractState) (machine : Ma
   pub is : slice_get children n ≡ Some child
   pub goes : Goes types state machine meaning (plain_link false None) child machine
 
--- the same where each child has its merged pair, or none
+-- a state of the machine fits some child of a list in which each child has the pair of ids that it merged, or none; and the
+-- edge to it holds
 pub record GoesToMerged (types : WorldTypes) (state : AbstractState) (machine : MachineState) (meaning : Meaning)
     (children : List (Option (ℕ × ℕ) × AbstractState)) : Type 0 where
   pub n : ℕ
@@ -67,7 +68,8 @@ pub record GoesToMerged (types : WorldTypes) (state : AbstractState) (machine : 
   pub is : slice_get children n ≡ Some (merged, child)
   pub goes : Goes types state machine meaning (plain_link false merged) child machine
 
--- by class. The object's own type is below the wanted one, and no known id stands for the object
+-- Whatever fits a state in which an id's object is below a bound fits the child of some case, if the object is of the
+-- wanted type and no known id may stand for it.
 abbrev pub ClassesSplit : Type 0
 ClassesSplit =
     (types : WorldTypes) (state : AbstractState) (children : List AbstractState) (machine : MachineState) (meaning : Meaning)
@@ -80,7 +82,8 @@ ClassesSplit =
     → AllZip (IsCase types state x shape) (cases_of types bound wanted) children
     → GoesToCase types state machine meaning children
 
--- one object, or two
+-- Whatever fits a state in which two ids may be one object fits the child in which they are one, or the one in which they
+-- are two.
 abbrev pub EqualSplits : Type 0
 EqualSplits =
     (types : WorldTypes) (state : AbstractState) (children : List (Option (ℕ × ℕ) × AbstractState)) (machine : MachineState)
@@ -90,15 +93,18 @@ EqualSplits =
     → AreEqual state x y → x ≢ y → AreEqualChildren types.sub state x y children
     → GoesToMerged types state machine meaning children
 
--- a write into a field, or of an item of an array of references
+-- a state of the machine with another heap
 abbrev pub with_heap : MachineState → Heap → MachineState
 with_heap machine heap = record machine { heap = heap }
 
+-- what a write of an abstract state changes in the heap: the field of an instance, at the same place, or an item of an
+-- array of references, at any place
 pub record IsWriteOf (state : AbstractState) (write : Write) (place : ℕ) (cell : Cell) : Type 0 where
   pub field_is : (field : ℕ) → write.field ≡ Some field
       → (place ≡ field) × ((class : ℕ) × (ids : List ℕ) × ((cell ≡ cells.Obj class ids) × (field < length ids)))
   pub array_is : write.field ≡ None → (element : Ty) × (len : ℕ) × (shape : Shape) × (cell ≡ cells.Refs element len shape)
 
+-- What fits a state fits, after a reference was written into a field or an item, the child of that write.
 abbrev pub WritesGoOn : Type 0
 WritesGoOn =
     (types : WorldTypes) (state child : AbstractState) (machine : MachineState) (meaning : Meaning) (write : Write) (cell : Cell)
@@ -110,11 +116,12 @@ WritesGoOn =
     → IsWriteChild state write child
     → Goes types state machine meaning (plain_link true None) child (with_heap machine heap)
 
--- each cell is of the world, but those of ints, of which nothing is asked
+-- each cell of an abstract state is sound for a world's types, but for those of ints, of which nothing is asked
 abbrev pub AreSoundReferences : WorldTypes → AbstractState → Type 0
 AreSoundReferences types state = (id : ℕ) (cell : Cell) → cell_at state id ≡ Some cell → is_int cell ≡ false → IsSoundCell types state cell
 
--- an item of an array of references: the child fits with its id standing for the item
+-- a state of the machine fits a child of an abstract state by a map in which one id has a given value and the other ids
+-- have their old values, and the edge of one step to the child holds
 pub record GoesWith (types : WorldTypes) (state : AbstractState) (machine : MachineState) (meaning : Meaning)
     (child : AbstractState) (machine_after : MachineState) (id : ℕ) (value : Value) : Type 0 where
   pub meaning_after : Meaning
@@ -123,6 +130,8 @@ pub record GoesWith (types : WorldTypes) (state : AbstractState) (machine : Mach
   pub others : (other : ℕ) → HasCell (λ _. true) state other → meaning_after other ≡ meaning other
   pub edge : Edge state machine meaning (plain_link true None) child machine_after meaning_after
 
+-- What fits a state fits the child in which an item of an array of references is read, and the item's id has the item's
+-- value.
 abbrev pub ItemsGoOn : Type 0
 ItemsGoOn =
     (types : WorldTypes) (state child : AbstractState) (machine : MachineState) (meaning : Meaning) (k item o n : ℕ)
@@ -134,10 +143,12 @@ ItemsGoOn =
     → IsItemChild types.sub state k element shape item child
     → GoesWith types state machine meaning child machine item value
 
--- a new object at the heap's end
+-- a heap with a new object at its end
 abbrev pub heap_with : Heap → Object → Heap
 heap_with heap object = record { objects = heap.objects ++ (object ∷ []) }
 
+-- What fits a state fits, with a new instance at the heap's end, the child that makes it, and its id has the reference to
+-- it as value.
 abbrev pub ObjectsGoOn : Type 0
 ObjectsGoOn =
     (types : WorldTypes) (state child : AbstractState) (machine : MachineState) (meaning : Meaning) (class id : ℕ)
@@ -148,16 +159,19 @@ ObjectsGoOn =
     (with_heap machine (heap_with machine.heap (objects.Instance class (map initial_value (types.fields class))))) id
     (values.Ref (length machine.heap.objects))
 
--- a new array of so many items, whose length is an id's int
+-- a new array of so many items, which are 0 or null (JVM specification 2.3 and 2.4)
 abbrev pub zeros_of : Slot → ℕ → Object
 zeros_of (slots.Num kind) count = objects.Nums kind (replicate count (pos 0))
 zeros_of (slots.Ref t) count = objects.Refs t (replicate count values.Null)
 
--- an array may have items of it
+-- an array may have items of a type: of any kind of numbers, or of a reference type of the world with fewer than 255
+-- dimensions
 abbrev pub IsItemSlot : WorldTypes → Slot → Type 0
 IsItemSlot types (slots.Num kind) = Unit {0}
 IsItemSlot types (slots.Ref t) = IsReference types.classes t × (t.dims < 255)
 
+-- What fits a state fits, with a new array at the heap's end whose length is an id's int, the child that makes it, and its
+-- id has the reference to it as value.
 abbrev pub ArraysGoOn : Type 0
 ArraysGoOn =
     (types : WorldTypes) (state child : AbstractState) (machine : MachineState) (meaning : Meaning) (element : Slot) (len id count : ℕ)
@@ -169,7 +183,8 @@ ArraysGoOn =
 
 -- ---- ints
 
--- an int, or null, that gets a fresh id
+-- What fits a state fits the child in which a fresh id has a cell of an int or of null, with any value that the cell
+-- describes.
 abbrev pub ValuesGoOn : Type 0
 ValuesGoOn =
     (types : WorldTypes) (state child : AbstractState) (machine : MachineState) (meaning : Meaning) (id : ℕ) (cell : Cell) (value : Value)
@@ -178,13 +193,13 @@ ValuesGoOn =
     → cell_at state id ≡ None → IsWithCell state id cell child
     → GoesWith types state machine meaning child machine id value
 
--- a child fits a state of the machine by the same map, and the edge to it holds
+-- a state of the machine fits a child of an abstract state by the map of its parent, and the edge of one step to it holds
 pub record GoesAlike (types : WorldTypes) (state : AbstractState) (machine : MachineState) (meaning : Meaning)
     (child : AbstractState) (machine_after : MachineState) : Type 0 where
   pub fits : Fits types child machine_after meaning
   pub edge : Edge state machine meaning (plain_link true None) child machine_after meaning
 
--- a state differs from another one in its cells alone
+-- an abstract state differs from another one in its cells alone
 pub record HasOtherCells (state : AbstractState) (cell : ℕ → Option Cell) (child : AbstractState) : Type 0 where
   pub frames_are : child.frames ≡ state.frames
   pub throwing_is : child.throwing ≡ state.throwing
@@ -192,7 +207,8 @@ pub record HasOtherCells (state : AbstractState) (cell : ℕ → Option Cell) (c
   pub share_is : child.share ≡ state.share
   pub cells : (id : ℕ) → cell_at child id ≡ cell id
 
--- a write of an int into a field: the known instance `k` names the written id there, and nothing else changes
+-- What fits a state fits, after an int was written into a field of a known instance, the child in which the instance names
+-- the written id there; nothing else changes.
 abbrev pub IntWritesGoOn : Type 0
 IntWritesGoOn =
     (types : WorldTypes) (state child : AbstractState) (machine : MachineState) (meaning : Meaning) (k class place old value o : ℕ)
@@ -203,7 +219,7 @@ IntWritesGoOn =
     → HasOtherCells state (with_cells ((k, cells.Obj class (slice_set ids place value)) ∷ []) state) child
     → GoesAlike types state machine meaning child (with_heap machine heap)
 
--- items of an array of numbers that change, as many as before: the state fits as it is
+-- What fits a state still fits it after items of an array of numbers changed, if the array has as many as before.
 abbrev pub NumberWritesGoOn : Type 0
 NumberWritesGoOn =
     (types : WorldTypes) (state : AbstractState) (machine : MachineState) (meaning : Meaning) (o : ℕ) (heap : Heap)

@@ -1,10 +1,12 @@
-pub mod Given
-pub mod Names
+-- what the calls answer, and how many ids a child may have
+pub mod Answers
+pub mod Counts
+-- the children of a split, of a write, and of new objects
 pub mod Refining
 pub mod Writing
+pub mod Given
+pub mod Names
+-- what holds of the children
 pub mod Laws
-pub mod Counts
-pub mod Answers
-pub mod Building
-pub mod Splitting
-pub mod Renaming
+-- the words of private calls
+pub mod inner

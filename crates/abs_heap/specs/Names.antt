@@ -5,19 +5,20 @@ use Rattle.abs_cells.specs.declared.cells.Cell.{Cell}
 use Rattle.abs_cells.specs.declared.cells.Cell.TheVariants as cells
 use Rattle.abs_cells.specs.AbstractStates.{AbstractFrame}
 
--- one number for another
+-- the new number of an id where one number stands for another; all others stay
 abbrev pub one_name : ℕ → ℕ → ℕ → ℕ
 one_name old new id = if id == old then new else id
 
--- each number of a list for another; the others stay
+-- the new number of an id, as a list of old and new numbers says; an id that is not listed stays
 abbrev pub name_in : List (ℕ × ℕ) → ℕ → ℕ
 name_in [] id = id
 name_in (entry ∷ entries) id = if entry.0 == id then entry.1 else name_in entries id
 
--- the ids that a frame and a cell name, under their new numbers
+-- an abstract frame with its ids under their new numbers
 abbrev pub frame_named : (ℕ → ℕ) → AbstractFrame → AbstractFrame
 frame_named name frame = record frame { locals = map (option_map name) frame.locals; stack = map name frame.stack }
 
+-- a cell with the ids that it names under their new numbers
 abbrev pub cell_named : (ℕ → ℕ) → Cell → Cell
 cell_named name (cells.Int interval) = cells.Int interval
 cell_named name cells.Null = cells.Null
@@ -26,7 +27,7 @@ cell_named name (cells.Nums kind len) = cells.Nums kind (name len)
 cell_named name (cells.Refs element len shape) = cells.Refs element (name len) shape
 cell_named name (cells.Unk bound nullable shape) = cells.Unk bound nullable shape
 
--- two ids have a pair behind them
+-- two ids are the new numbers of two others that are related
 pub record IsImage (name : ℕ → ℕ) (pairs : ℕ → ℕ → Type 0) (a b : ℕ) : Type 0 where
   pub x : ℕ
   pub y : ℕ

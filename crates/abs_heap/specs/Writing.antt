@@ -18,7 +18,7 @@ use Rattle.abs_heap.specs.Names.{name_in, frame_named, cell_named, IsImage}
 
 -- ---- a write of w into k
 
--- an array of references
+-- a cell is that of an array of references
 abbrev pub is_array_of_references : Cell → Bool
 is_array_of_references (cells.Int interval) = false
 is_array_of_references cells.Null = false
@@ -27,26 +27,29 @@ is_array_of_references (cells.Nums kind len) = false
 is_array_of_references (cells.Refs element len shape) = true
 is_array_of_references (cells.Unk bound nullable shape) = false
 
--- an id's region may have the object of k: a hazy id that shares with it; or k itself, if it is hazy
+-- the region of an id may have the object that is written into, whose id is k: a hazy id that shares with k, or k itself if
+-- it is an array of references
 abbrev pub IsAffected : AbstractState → ℕ → ℕ → Type 0
 IsAffected state k x = (Share state k x × HasCell is_hazy state x) ⊎ ((x ≡ k) × HasCell is_array_of_references state k)
 
--- an id's region may meet that of w, or it is of w's closure: it is known from w, or shares with an id that is
+-- the region of an id may meet that of the written value, whose id is w: it is in the closure of w, or shares with an id
+-- that is
 pub record IsMet (state : AbstractState) (w z : ℕ) : Type 0 where
   pub from : ℕ
   pub known : KnownFrom state w from
   pub meets : (z ≡ from) ⊎ Share state from z
 
--- nothing is written but null
+-- an id stands for null alone, so that a write of it joins nothing
 abbrev pub IsNullId : AbstractState → ℕ → Type 0
 IsNullId state w = cell_at state w ≡ Some cells.Null
 
--- w's region has no cycle, and the write makes none in an affected region: w can't reach k
+-- a write makes no cycle in an affected region: the written value's region has none, and the written object cannot be in it
 pub record MakesNoCycle (state : AbstractState) (k w : ℕ) : Type 0 where
   pub finite : IsFiniteId state w
   pub apart : MayBeIn state k w → ⊥
 
--- the shape of an affected region after the write
+-- the shape of an affected region after a write: a write of null keeps it, one that makes no cycle may make it no tree, and
+-- else it may be any
 abbrev pub shape_after : Bool → Bool → Shape → Shape
 shape_after null no_cycle Any = Any
 shape_after true no_cycle Tree = Tree
@@ -56,7 +59,7 @@ shape_after false true Dag = Dag
 shape_after false false Tree = Any
 shape_after false false Dag = Any
 
--- a hazy cell with another shape
+-- a hazy cell with another shape; a cell that tells none stays
 abbrev pub with_shape : (Shape → Shape) → Cell → Cell
 with_shape change (cells.Int interval) = cells.Int interval
 with_shape change cells.Null = cells.Null
@@ -65,7 +68,7 @@ with_shape change (cells.Nums kind len) = cells.Nums kind len
 with_shape change (cells.Refs element len shape) = cells.Refs element len (change shape)
 with_shape change (cells.Unk bound nullable shape) = cells.Unk bound nullable (change shape)
 
--- an instance with another id in one field; a write into an array changes no cell
+-- a known instance with another id in one field; a write into an array changes no cell
 abbrev pub with_field : Option ℕ → ℕ → Cell → Cell
 with_field None w cell = cell
 with_field (Some field) w (cells.Int interval) = cells.Int interval
@@ -75,28 +78,29 @@ with_field (Some field) w (cells.Nums kind len) = cells.Nums kind len
 with_field (Some field) w (cells.Refs element len shape) = cells.Refs element len shape
 with_field (Some field) w (cells.Unk bound nullable shape) = cells.Unk bound nullable shape
 
--- an id has a new number
+-- an id has a new number in a list of old and new numbers
 abbrev pub is_renamed : List (ℕ × ℕ) → ℕ → Bool
 is_renamed [] id = false
 is_renamed (entry ∷ entries) id = (entry.0 == id) || is_renamed entries id
 
--- the affected ids, rising, each with its new number: the least free ones, in this order
+-- the affected ids of a write, rising, each with its new number, which are the least free ones in this order
 pub record AreRenamed (state : AbstractState) (k : ℕ) (names : List (ℕ × ℕ)) : Type 0 where
   pub old_rise : AreRising (map (λ entry. entry.0) names)
   pub affected : (x : ℕ) → Contains (map (λ entry. entry.0) names) x ↔ IsAffected state k x
   pub fresh : AreFresh state (map (λ entry. entry.1) names)
 
--- what is written, and where: the id of the object, its field or none for an item of an array, and the id of the value
+-- a write of a reference: the id of the object, its field or none for an item of an array, and the id of the value
 pub record Write : Type 0 where
   pub object : ℕ
   pub field : Option ℕ
   pub value : ℕ
 
--- the cell of an id, with its new shape where it is affected
+-- the cell of an id after a write: with its new shape if the id is affected, and so has a new number
 abbrev pub reshaped : List (ℕ × ℕ) → (Shape → Shape) → ℕ × Cell → Cell
 reshaped names change c = if is_renamed names c.0 then with_shape change c.1 else c.1
 
--- the cells after it: an affected id has its new number and its new shape, and the field has the written id
+-- the cell of an id, with the id, after a write: an affected id has its new number and its new shape, and the written field
+-- has the id of the value
 abbrev pub cell_after : List (ℕ × ℕ) → (Shape → Shape) → Write → ℕ × Cell → ℕ × Cell
 cell_after names change write c = (
   name_in names c.0,
@@ -104,7 +108,8 @@ cell_after names change write c = (
       (if c.0 == write.object then with_field write.field write.value (reshaped names change c) else reshaped names change c),
 )
 
--- an affected id shares after it with what the value's region may meet
+-- two ids share after a write that did not need to before: an affected one, and one that the written value's region may
+-- meet
 pub record GainsPair (state : AbstractState) (names : List (ℕ × ℕ)) (write : Write) (a b : ℕ) : Type 0 where
   pub x : ℕ
   pub z : ℕ
@@ -114,7 +119,8 @@ pub record GainsPair (state : AbstractState) (names : List (ℕ × ℕ)) (write 
   pub left : name_in names x ≡ a
   pub right : name_in names z ≡ b
 
--- the child of a write
+-- a state is the child of a write of a reference: the affected ids have new numbers and the shapes that the write leaves,
+-- the field has the id of the value, and affected ids share with what the value's region may meet
 pub record IsWriteChild (state : AbstractState) (write : Write) (child : AbstractState) : Type 0 where
   pub names : List (ℕ × ℕ)
   pub renamed : AreRenamed state write.object names
@@ -130,11 +136,14 @@ pub record IsWriteChild (state : AbstractState) (write : Write) (child : Abstrac
 
 -- ---- an item of an array of references
 
--- what an item of the array k joins: what shares with k; and k itself where its region may have cycles
+-- what the id of an item of an array k joins: each id that shares with k, and k itself where the array's region may have
+-- cycles
 pub record JoinsItem (state : AbstractState) (k item : ℕ) (shape : Shape) (a b : ℕ) : Type 0 where
   pub is_item : a ≡ item
   pub why : Share state k b ⊎ ((shape ≡ Any) × (b ≡ k))
 
+-- a child in which an item of an array of references is read under a fresh id, which shares with the array and joins what
+-- it may share with
 pub record IsItemChild (sub : Ty → Ty → Bool) (state : AbstractState) (k : ℕ) (element : Ty) (shape : Shape) (item : ℕ)
     (child : AbstractState) : Type 0 where
   pub fresh : AreFresh state (item ∷ [])
@@ -145,12 +154,12 @@ pub record IsItemChild (sub : Ty → Ty → Bool) (state : AbstractState) (k : �
 
 -- ---- new objects
 
--- what a field of a new object holds (JVM specification, section 2.3 and 2.4)
+-- the cell of a field of a new object, which is 0 or null (JVM specification 2.3 and 2.4)
 abbrev pub zero_cell : Slot → Cell
 zero_cell (slots.Num kind) = cells.Int (record { lo = pos 0; hi = pos 0 })
 zero_cell (slots.Ref t) = cells.Null
 
--- the object's id, and after it those of its fields
+-- a child in which a new instance of a class is made: it has a fresh id, and its fields have the fresh ids after that
 pub record IsObjectChild (types : WorldTypes) (state : AbstractState) (class id : ℕ) (child : AbstractState) : Type 0 where
   pub ids : List ℕ
   pub count : length ids ≡ length (types.fields class)
@@ -158,11 +167,12 @@ pub record IsObjectChild (types : WorldTypes) (state : AbstractState) (class id 
   pub is : IsGiven state.frames state.throwing
       (with_cells ((id, cells.Obj class ids) ∷ zip ids (map zero_cell (types.fields class))) state) (AreEqual state) (Share state) child
 
--- an array that holds zeros, or null
+-- the cell of a new array, whose items are 0 or null
 abbrev pub array_cell : (Ty → Ty) → Slot → ℕ → Cell
 array_cell erase (slots.Num kind) len = cells.Nums kind len
 array_cell erase (slots.Ref t) len = cells.Refs (erase t) len Tree
 
+-- a child in which a new array is made under a fresh id; its length is the int of an id that is there
 pub record IsNewArrayChild (erase : Ty → Ty) (state : AbstractState) (element : Slot) (len id : ℕ) (child : AbstractState) : Type 0 where
   pub fresh : AreFresh state (id ∷ [])
   pub is : IsGiven state.frames state.throwing (with_cells ((id, array_cell erase element len) ∷ []) state) (AreEqual state)

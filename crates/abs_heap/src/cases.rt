@@ -8,7 +8,7 @@ ghost use Rattle.abs_cells.specs.Sound.{IsWellFormed};
 ghost use Rattle.abs_heap.specs.Answers.{IsObjectBelow, AreClassChildren, IsFirstTooManyChild};
 ghost use Rattle.abs_heap.specs.Counts.{case_counts, IsFirstTooMany};
 ghost use Rattle.abs_heap.specs.Refining.{element_below, instances_below, listed, cases_below};
-ghost use Rattle.abs_heap.specs.Splitting.{instances_among, numbers_among, crowds, AddsCases};
+ghost use Rattle.abs_heap.specs.inner.Splitting.{instances_among, numbers_among, crowds, AddsCases};
 ghost use Rattle.abs_heap.specs.declared.fault.SplitFault.TheVariants.{TooManyIds};
 
 use crate::below::{element_below, is_comparable, is_instance_below, is_numbers_below, lower_of};

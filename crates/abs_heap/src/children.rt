@@ -5,7 +5,7 @@ ghost use Rattle.abs_cells.specs.Cells.{cell_in, AreEqual, Share};
 ghost use Rattle.abs_cells.specs.PairLists.{IsRising, has};
 ghost use Rattle.abs_cells.specs.Sound.{AreIdsRising, IsWellFormed};
 ghost use Rattle.abs_cells.specs.Limits.{most_ids};
-ghost use Rattle.abs_heap.specs.Building.{Gains, IsOver};
+ghost use Rattle.abs_heap.specs.inner.Building.{Gains, IsOver};
 ghost use Rattle.abs_heap.specs.Given.{IsGiven};
 ghost use Rattle.abs_heap.specs.Laws.{plain_link};
 ghost use Rattle.abs_heap.specs.Names.{name_in, frame_named, IsImage};

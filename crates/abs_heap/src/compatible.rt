@@ -4,8 +4,8 @@ ghost use Rattle.jvm_values.specs.Subtyping.{array_of};
 ghost use Rattle.abs_cells.specs.Cells.{type_of_cell, are_compatible, are_compatible_types, is_of_sort, cell_in};
 ghost use Rattle.abs_cells.specs.IdSets.{has_id};
 ghost use Rattle.abs_cells.specs.Sound.{AreIdsRising};
-ghost use Rattle.abs_heap.specs.Building.{Gains, IsUntold, may_be_one};
-ghost use Rattle.abs_heap.specs.Splitting.{WantsOne};
+ghost use Rattle.abs_heap.specs.inner.Building.{Gains, IsUntold, may_be_one};
+ghost use Rattle.abs_heap.specs.inner.Splitting.{WantsOne};
 
 use crate::gaining::put_with;
 use abs_cells::{Cell, Id, IdSet, Pairs};

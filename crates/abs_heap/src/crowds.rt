@@ -3,7 +3,7 @@ ghost use Rattle.std.specs.Prelude.{◌≡◌, ◌<◌, ◌≤◌, ◌+◌, nat_
 ghost use Rattle.jvm_values.specs.TypedHeaps.{world_types};
 ghost use Rattle.abs_cells.specs.Limits.{most_ids};
 ghost use Rattle.abs_heap.specs.Refining.{element_below, instances_below, listed, cases_below};
-ghost use Rattle.abs_heap.specs.Splitting.{instances_among, numbers_among, crowds, first_crowd};
+ghost use Rattle.abs_heap.specs.inner.Splitting.{instances_among, numbers_among, crowds, first_crowd};
 
 use crate::below::{element_below, is_instance_below, is_numbers_below};
 use crate::children::has_room;

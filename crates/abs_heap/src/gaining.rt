@@ -4,7 +4,7 @@ ghost use Rattle.abs_cells.specs.Cells.{is_known, is_of_sort, cell_in};
 ghost use Rattle.abs_cells.specs.IdSets.{has_id};
 ghost use Rattle.abs_cells.specs.PairLists.{IsRising, has};
 ghost use Rattle.abs_cells.specs.Sound.{AreIdsRising, may_join};
-ghost use Rattle.abs_heap.specs.Building.{Gains, IsThis};
+ghost use Rattle.abs_heap.specs.inner.Building.{Gains, IsThis};
 ghost use Rattle.abs_heap.specs.Names.{name_in, IsImage};
 
 use crate::compatible::put_if;

@@ -7,10 +7,10 @@ ghost use Rattle.abs_cells.specs.Cells.{AreEqual, Share};
 ghost use Rattle.abs_cells.specs.IdSets.{has_id};
 ghost use Rattle.abs_cells.specs.Sound.{IsWellFormed, AreIdsRising};
 ghost use Rattle.abs_cells.specs.Limits.{most_ids};
-ghost use Rattle.abs_heap.specs.Building.{IsOver};
+ghost use Rattle.abs_heap.specs.inner.Building.{IsOver};
 ghost use Rattle.abs_heap.specs.Given.{IsGiven, with_cells};
 ghost use Rattle.abs_heap.specs.Refining.{instance, cell_of_slot, length_cell, IsReferenceField};
-ghost use Rattle.abs_heap.specs.Splitting.{IsGivenInstance, IsCaseAnswer, IsArrayAnswer};
+ghost use Rattle.abs_heap.specs.inner.Splitting.{IsGivenInstance, IsCaseAnswer, IsArrayAnswer};
 
 use crate::children::{child_of, named_pairs, plain_link, put_state, whole};
 use crate::compatible::{put_compatible_between, put_if};

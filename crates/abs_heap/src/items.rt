@@ -5,7 +5,7 @@ ghost use Rattle.abs_cells.specs.Cells.{HasCell, Share};
 ghost use Rattle.abs_cells.specs.IdSets.{has_id};
 ghost use Rattle.abs_cells.specs.Sound.{IsWellFormed};
 ghost use Rattle.abs_heap.specs.Answers.{IsLoaded};
-ghost use Rattle.abs_heap.specs.Building.{IsGivenItem};
+ghost use Rattle.abs_heap.specs.inner.Building.{IsGivenItem};
 ghost use Rattle.abs_heap.specs.Counts.{HasTooMany};
 ghost use Rattle.abs_heap.specs.Laws.{plain_link};
 ghost use Rattle.abs_heap.specs.Writing.{is_array_of_references, IsItemChild};

@@ -3,7 +3,7 @@ ghost use Rattle.std.specs.Prelude.{◌≡◌, ◌+◌, ◌<◌, ◌≤◌, ◌�
 ghost use Rattle.jvm_values.specs.TypedHeaps.{world_types};
 ghost use Rattle.abs_cells.specs.Cells.{AreEqual, Share};
 ghost use Rattle.abs_cells.specs.Sound.{AreIdsRising, IsWellFormed};
-ghost use Rattle.abs_heap.specs.Building.{IsOver};
+ghost use Rattle.abs_heap.specs.inner.Building.{IsOver};
 ghost use Rattle.abs_heap.specs.Counts.{HasTooMany};
 ghost use Rattle.abs_heap.specs.Given.{IsGiven, with_cells};
 ghost use Rattle.abs_heap.specs.Laws.{plain_link};

@@ -1,7 +1,7 @@
 //! Cells put at their places among others that rise.
 ghost use Rattle.std.specs.Prelude.{◌≡◌, ◌↔◌, ◌<◌, ◌∷◌, [], IsTrue, OnOk, map, All};
 ghost use Rattle.abs_cells.specs.Sound.{AreIdsRising};
-ghost use Rattle.abs_heap.specs.Building.{place_in, IsIdAt, IsOver, named_entry};
+ghost use Rattle.abs_heap.specs.inner.Building.{place_in, IsIdAt, IsOver, named_entry};
 ghost use Rattle.abs_heap.specs.Names.{name_in};
 
 use crate::naming::{name_of, named_cell};

@@ -5,7 +5,7 @@ ghost use Rattle.abs_cells.specs.IdSets.{has_id};
 ghost use Rattle.abs_cells.specs.Sound.{AreIdsRising, IsWellFormed};
 ghost use Rattle.abs_cells.specs.Limits.{most_ids};
 ghost use Rattle.abs_heap.specs.Names.{name_in};
-ghost use Rattle.abs_heap.specs.Renaming.{ids_among, if_in, AreNamesOf};
+ghost use Rattle.abs_heap.specs.inner.Renaming.{ids_among, if_in, AreNamesOf};
 ghost use Rattle.abs_heap.specs.Writing.{is_array_of_references, IsAffected};
 
 use crate::compatible::put_if;

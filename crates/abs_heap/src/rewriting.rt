@@ -4,9 +4,9 @@ ghost use Rattle.std.specs.List.{list_any};
 ghost use Rattle.abs_cells.specs.IdSets.{has_id};
 ghost use Rattle.abs_cells.specs.PairLists.{IsRising};
 ghost use Rattle.abs_cells.specs.Sound.{AreIdsRising};
-ghost use Rattle.abs_heap.specs.Building.{Gains, IsOver};
+ghost use Rattle.abs_heap.specs.inner.Building.{Gains, IsOver};
 ghost use Rattle.abs_heap.specs.Names.{name_in};
-ghost use Rattle.abs_heap.specs.Renaming.{is_beside, IsBeside, is_named, ids_written, shape_if, written_cell, field_at, write_of};
+ghost use Rattle.abs_heap.specs.inner.Renaming.{is_beside, IsBeside, is_named, ids_written, shape_if, written_cell, field_at, write_of};
 ghost use Rattle.abs_heap.specs.Writing.{shape_after, is_renamed, cell_after};
 
 use crate::compatible::put_if;

@@ -7,7 +7,7 @@ ghost use Rattle.abs_cells.specs.Limits.{most_ids};
 ghost use Rattle.abs_heap.specs.Counts.{HasTooMany};
 ghost use Rattle.abs_heap.specs.Laws.{plain_link};
 ghost use Rattle.abs_heap.specs.Names.{name_in};
-ghost use Rattle.abs_heap.specs.Renaming.{IsWritten, write_of};
+ghost use Rattle.abs_heap.specs.inner.Renaming.{IsWritten, write_of};
 ghost use Rattle.abs_heap.specs.Writing.{IsAffected, IsNullId, IsWriteChild, MakesNoCycle};
 ghost use Rattle.abs_heap.specs.declared.fault.HeapFault.TheVariants.{TooManyIds};
 

@@ -18,13 +18,15 @@ value_of row left right result = row.left *ℤ left +ℤ row.right *ℤ right +�
 abbrev pub IsTrueOf : ℤ → ℤ → ℤ → ShortRow → Type 0
 IsTrueOf left right result row = IsOfKind row.kind (value_of row left right result)
 
+-- all rows of a list are true of these numbers
 abbrev pub AllTrueOf : ℤ → ℤ → ℤ → List ShortRow → Type 0
 AllTrueOf left right result rows = All (λ (row : ShortRow). IsTrueOf left right result row) rows
 
--- the row that says that a number is at least 0, and the one that says that it is 0
+-- the row that says that the sum of these multiples of the operands and the result, and of a constant, is at least 0
 abbrev pub at_least_zero : ℤ → ℤ → ℤ → ℤ → ShortRow
 at_least_zero left right result constant = record { kind = AtLeastZero; left = left; right = right; result = result; constant = constant }
 
+-- the row that says that the sum of these multiples of the operands and the result, and of a constant, is 0
 abbrev pub is_zero : ℤ → ℤ → ℤ → ℤ → ShortRow
 is_zero left right result constant = record { kind = IsZero; left = left; right = right; result = result; constant = constant }
 
@@ -39,10 +41,10 @@ case_with way left right result rows = option_and_then
     (λ a. option_and_then (λ b. option_map (λ r. record { left = a; right = b; result = Some r; rows = rows; way = way }) result)
     right) left
 
--- the case of an operator that leaves its operands as they are
+-- the case of an operator that has a result and leaves its operands as they are
 abbrev pub inside : Bounds → Bounds → Option Bounds → List ShortRow → Option IntCase
 inside a b result rows = case_with Inside (Some a) (Some b) result rows
 
--- the list of a case that is there
+-- the list of one case, or of none
 abbrev pub only : Option IntCase → List IntCase
 only case = cons_option case []

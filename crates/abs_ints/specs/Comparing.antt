@@ -14,7 +14,7 @@ use Rattle.abs_ints.specs.declared.cases.Way.TheVariants.{Inside, Over, Under, Z
 use Rattle.abs_ints.specs.declared.relations.Relation.{Relation}
 use Rattle.abs_ints.specs.declared.relations.Relation.TheVariants.{Equal, Below, AtMost, Above, AtLeast}
 
--- the ints of `a` that stand so to some int of `b`
+-- the ints of `a` that stand in a relation to some int of `b`, if there are any
 abbrev pub standing_so : Relation → Bounds → Bounds → Option Bounds
 standing_so Equal a b = meet_of a b
 standing_so Below a b = below_of a b
@@ -22,7 +22,7 @@ standing_so AtMost a b = up_to_of a b
 standing_so Above a b = above_of a b
 standing_so AtLeast a b = from_of a b
 
--- how the right int stands to the left one
+-- the relation in which the right int stands to the left one
 abbrev pub exchanged : Relation → Relation
 exchanged Equal = Equal
 exchanged Below = Above
@@ -30,7 +30,8 @@ exchanged AtMost = AtLeast
 exchanged Above = Below
 exchanged AtLeast = AtMost
 
--- the row that says a relation: of two equal ints the left one minus the right one
+-- the row that says a relation between two ints: the left one minus the right one is 0, or the greater one minus the lesser
+-- one is at least 0, or at least 1
 abbrev pub row_of : Relation → ShortRow
 row_of Equal = is_zero (pos 1) (negsuc 0) (pos 0) (pos 0)
 row_of Below = at_least_zero (negsuc 0) (pos 1) (pos 0) (negsuc 0)
@@ -46,7 +47,7 @@ related relation way a b = case_between way (standing_so relation a b) (standing
 abbrev pub both_of : Option IntCase → Option IntCase → List IntCase
 both_of first second = cons_option first (cons_option second [])
 
--- the cases of a condition between two ints: where it is taken, then where it is not; a difference has two sides
+-- the cases of a condition between two ints: where it holds, then where it does not; two ints differ by being below or above
 abbrev pub cases_between : Cond → Bounds → Bounds → List IntCase
 cases_between Eq a b = cons_option (related Equal Taken a b) (both_of (related Below Next a b) (related Above Next a b))
 cases_between Ne a b = cons_option (related Below Taken a b) (both_of (related Above Taken a b) (related Equal Next a b))
@@ -66,11 +67,12 @@ cases_of_one cond a b = record {
       else Next;
 } ∷ []
 
--- the cases of a condition between two ints, which may be one
+-- the cases of a condition between two ints, which may be one (JVM specification, 6.5.if_icmp<cond>, 6.5.if<cond>)
 abbrev pub compared : Cond → Bool → Bounds → Bounds → List IntCase
 compared cond same a b = if same then cases_of_one cond a b else cases_between cond a b
 
--- a way is taken between two ints
+-- a way is the one on which the machine goes on from a condition between two ints: the condition holds, or it does not. The
+-- ways of operators are no condition's
 abbrev pub GoesBetween : Way → Cond → ℤ → ℤ → Type 0
 GoesBetween Taken cond left right = cond_holds cond left right ≡ true
 GoesBetween Next cond left right = cond_holds cond left right ≡ false
@@ -79,7 +81,8 @@ GoesBetween Over cond left right = ⊥
 GoesBetween Under cond left right = ⊥
 GoesBetween Zero cond left right = ⊥
 
--- two ints fall in a case of a condition between them
+-- two ints fall in a case of a condition between them: they lie in its intervals, its rows are true of them, and its way is
+-- taken
 pub record FallsBetween (cond : Cond) (left right : ℤ) (case : IntCase) : Type 0 where
   pub left_in : IsIn left case.left
   pub right_in : IsIn right case.right

@@ -10,7 +10,7 @@ use Rattle.abs_ints.specs.declared.cases.IntCase.{IntCase}
 use Rattle.abs_ints.specs.declared.cases.Way.{Way}
 use Rattle.abs_ints.specs.declared.cases.Way.TheVariants.{Inside, Over, Under, Zero, Taken, Next}
 
--- the exact result of the operators whose cases tell how it is wrapped
+-- the result of a sum or a difference before it is wrapped to 32 bits. The cases of the other operators tell of no exact result
 abbrev pub exact_result : IntOp → ℤ → ℤ → Option ℤ
 exact_result Add left right = Some (left +ℤ right)
 exact_result Sub left right = Some (left -ℤ right)
@@ -25,7 +25,9 @@ exact_result Or left right = None
 exact_result Xor left right = None
 exact_result (Narrow kind) left right = None
 
--- a way is taken on two ints
+-- a way is the one on which the machine goes on with two ints: there is a result, and the exact one, where it is told, is an
+-- int, is above all ints, or is below all ints; or there is no result, since the divisor is 0. The two ways of conditions are
+-- no operator's
 abbrev pub GoesOn : Way → IntOp → ℤ → ℤ → Type 0
 GoesOn Inside op left right = IsSome (int_result op left right) × IfSome (exact_result op left right) (λ n. IsIn n all_ints)
 GoesOn Over op left right = IsSome (int_result op left right) × IsSomeAnd (exact_result op left right) (λ n. all_ints.hi <ℤ n)
@@ -35,12 +37,13 @@ GoesOn Taken op left right = ⊥
 GoesOn Next op left right = ⊥
 
 -- the machine's own result, if there is one, lies where the case says, and the rows are true of it. Without an interval
--- of its own it is the left operand
+-- of its own it is the left operand. Where the machine has no result, the case has none
 abbrev pub IsAnswered : ℤ → ℤ → IntCase → Option ℤ → Type 0
 IsAnswered left right case None = case.result ≡ None
 IsAnswered left right case (Some n) = MatchOption case.result (n ≡ left) (λ interval. IsIn n interval) × AllTrueOf left right n case.rows
 
--- two ints fall in a case of an operator
+-- two ints fall in a case of an operator: they lie in its intervals, the machine's own result lies where it says, and its way
+-- is taken
 pub record FallsUnder (op : IntOp) (left right : ℤ) (case : IntCase) : Type 0 where
   pub left_in : IsIn left case.left
   pub right_in : IsIn right case.right

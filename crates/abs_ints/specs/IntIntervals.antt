@@ -12,30 +12,35 @@ all_ints = record { lo = negsuc 2147483647; hi = pos 2147483647 }
 abbrev pub just : ℤ → Bounds
 just n = record { lo = n; hi = n }
 
+-- an interval has one number alone
 abbrev pub is_single : Bounds → Bool
 is_single a = int_eq a.lo a.hi
 
--- the numbers that both intervals have, if any
+-- the numbers that both intervals have, if there are any
 abbrev pub meet_of : Bounds → Bounds → Option Bounds
 meet_of a b = interval_of (int_max a.lo b.lo) (int_min a.hi b.hi)
 
--- the numbers of `a` that are below, at most, above or at least some number of `b`, if any
+-- the numbers of `a` that are below some number of `b`, if there are any
 abbrev pub below_of : Bounds → Bounds → Option Bounds
 below_of a b = interval_of a.lo (int_min a.hi (b.hi -ℤ pos 1))
 
+-- the numbers of `a` that are at most some number of `b`, if there are any
 abbrev pub up_to_of : Bounds → Bounds → Option Bounds
 up_to_of a b = interval_of a.lo (int_min a.hi b.hi)
 
+-- the numbers of `a` that are above some number of `b`, if there are any
 abbrev pub above_of : Bounds → Bounds → Option Bounds
 above_of a b = interval_of (int_max a.lo (b.lo +ℤ pos 1)) a.hi
 
+-- the numbers of `a` that are at least some number of `b`, if there are any
 abbrev pub from_of : Bounds → Bounds → Option Bounds
 from_of a b = interval_of (int_max a.lo b.lo) a.hi
 
--- the sums and the differences of the numbers of two intervals
+-- the exact sums of a number of `a` and a number of `b`
 abbrev pub sum_of : Bounds → Bounds → Bounds
 sum_of a b = record { lo = a.lo +ℤ b.lo; hi = a.hi +ℤ b.hi }
 
+-- the exact differences of a number of `a` and a number of `b`
 abbrev pub difference_of : Bounds → Bounds → Bounds
 difference_of a b = record { lo = a.lo -ℤ b.hi; hi = a.hi -ℤ b.lo }
 

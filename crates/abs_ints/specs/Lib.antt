@@ -1,11 +1,11 @@
-pub mod IntIntervals
-pub mod Cases
+pub mod Operating
 pub mod Comparing
+pub mod Falling
+pub mod Cases
+pub mod IntIntervals
 pub mod Sums
 pub mod Products
 pub mod Divisions
 pub mod Shifts
 pub mod Bits
 pub mod Narrowings
-pub mod Operating
-pub mod Falling

@@ -11,7 +11,8 @@ use Rattle.abs_ints.specs.declared.cases.Way.TheVariants.{Inside}
 abbrev pub are_of_kind : Kind → Bounds → Bool
 are_of_kind kind a = int_le (least_of kind) a.lo && int_le a.hi (greatest_of kind)
 
--- an operand of the kind stays as it is; else the result is some number of the kind. The right operand plays no part
+-- the case of a narrowing (JVM specification, 6.5.i2b, 6.5.i2c, 6.5.i2s): an operand of the kind stays as it is; else the
+-- result is some number of the kind. The right operand plays no part
 abbrev pub narrow_cases : Kind → Bounds → Bounds → List IntCase
 narrow_cases kind a b = only (if are_of_kind kind a then case_between Inside (Some a) (Some b) [] else inside a b
     (interval_of (least_of kind) (greatest_of kind)) [])

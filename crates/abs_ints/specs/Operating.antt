@@ -23,6 +23,7 @@ single_case a b (Some n) = inside a b (Some (just n)) []
 abbrev pub single_or : IntOp → Bounds → Bounds → List IntCase → List IntCase
 single_or op a b cases = if is_single a && is_single b then only (single_case a b (int_result op a.lo b.lo)) else cases
 
+-- the table of cases: those of each operator on an int of `a` and one of `b` (JVM specification, section 6.5)
 abbrev pub operated : IntOp → Bounds → Bounds → List IntCase
 operated Add a b = sum_cases a b
 operated Sub a b = difference_cases a b

@@ -6,21 +6,23 @@ use Rattle.abs_ints.specs.IntIntervals.{is_single, hull_of, are_ints, ints_or_al
 use Rattle.abs_ints.specs.declared.cases.IntCase.{IntCase}
 use Rattle.abs_ints.specs.declared.cases.ShortRow.{ShortRow}
 
--- the rows that say that the result is n times the left operand, or n times the right one
+-- the row that says that the result is n times the left operand
 abbrev pub times_left : ℤ → ShortRow
 times_left n = is_zero (neg_ℤ n) (pos 0) (pos 1) (pos 0)
 
+-- the row that says that the result is n times the right operand
 abbrev pub times_right : ℤ → ShortRow
 times_right n = is_zero (pos 0) (neg_ℤ n) (pos 1) (pos 0)
 
--- the row where one operand is a single number
+-- the row of a product one of whose operands is a single number: the result is that many times the other one
 abbrev pub factor_rows : Bounds → Bounds → List ShortRow
 factor_rows a b = if is_single b then times_left b.lo ∷ [] else if is_single a then times_right a.lo ∷ [] else []
 
--- the row is there where no product is wrapped
+-- the rows of a product: those of a single number, where no product is wrapped
 abbrev pub product_rows : Bounds → Bounds → List ShortRow
 product_rows a b = if are_ints (hull_of a b) then factor_rows a b else []
 
--- the case of a product: from the least to the greatest product of the ends, if all of these are ints
+-- the one case of `imul` (JVM specification, 6.5.imul): from the least to the greatest product of the ends, if all of these are
+-- ints; else nothing is known of the result
 abbrev pub product_cases : Bounds → Bounds → List IntCase
 product_cases a b = only (inside a b (ints_or_all (hull_of a b)) (product_rows a b))

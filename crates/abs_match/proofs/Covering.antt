@@ -4,7 +4,7 @@ use Rattle.std.proofs.Common.{inr, ◌↔◌, ℤ, refl, sym, ap, subst, ◌∙�
 use Rattle.std.proofs.lemmas.Bool.{false≢true, not-true, eqb-true, eq-eqb, and_parts, and_from, or_cases, or_left, or_right}
 use Rattle.std.proofs.lemmas.Bool.{not_from_false, cases_Bool}
 use Rattle.std.specs.Prelude.{int_le}
-use Rattle.abs_match.specs.Matching.{image_is}
+use Rattle.abs_match.specs.inner.Matching.{image_is}
 
 pub image_is_true : (found : Option ℕ) (image : ℕ) → image_is found image ≡ true → found ≡ Some image
 image_is_true None image e = absurd (false≢true e)

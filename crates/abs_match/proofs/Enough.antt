@@ -13,7 +13,7 @@ use Rattle.abs_cells.specs.Cells.{is_known, is_hazy, is_int, cell_at, HasCell, A
 use Rattle.abs_cells.specs.Closures.{MayMeet, MayBeIn}
 use Rattle.abs_reach.specs.Instances.{image_in, is_no_int, AreMapped, MayBeOne, SharesEnough}
 use Rattle.abs_reach.specs.Known.{MayMeetSome, SomeMayBeIn, MayBeInSome}
-use Rattle.abs_match.specs.Matching.{IsApartImage, AllMapped, PairsEnough}
+use Rattle.abs_match.specs.inner.Matching.{IsApartImage, AllMapped, PairsEnough}
 
 -- a test that fails where something holds
 pub denied : (b : Bool) (P Q : Type 0) → ((b ≡ true) ↔ P) → ((P → ⊥) ↔ Q) → ((not b ≡ true) ↔ Q)

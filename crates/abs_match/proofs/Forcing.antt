@@ -14,9 +14,9 @@ use Rattle.abs_cells.specs.AbstractStates.{AbstractFrame}
 use Rattle.abs_cells.specs.Sound.{given_ids, ids_of_frame}
 use Rattle.abs_cells.proofs.Checking.{all_reversed, all_flat}
 use Rattle.abs_reach.specs.Instances.{image_in}
-use Rattle.abs_match.specs.Matching.{HasImage, local_at}
-use Rattle.abs_match.specs.Forced.{Gives, waits, ArePut, AreFirstPut, NoneDoes, stacked, place_asks, locals_ask, entries_ask}
-use Rattle.abs_match.specs.Forced.{frame_asks, frames_ask}
+use Rattle.abs_match.specs.inner.Matching.{HasImage, local_at}
+use Rattle.abs_match.specs.inner.Forced.{Gives, waits, ArePut, AreFirstPut, NoneDoes, stacked, place_asks, locals_ask, entries_ask}
+use Rattle.abs_match.specs.inner.Forced.{frame_asks, frames_ask}
 use Rattle.abs_match.proofs.Leasts.{local_is, entry_is}
 
 -- a weaker test

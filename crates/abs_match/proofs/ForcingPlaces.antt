@@ -17,8 +17,8 @@ use Rattle.abs_cells.specs.Cells.{ids_in}
 use Rattle.abs_cells.specs.Sound.{given_ids, ids_of_frame}
 use Rattle.abs_reach.specs.Instances.{image_in, head_of}
 use Rattle.abs_reach.specs.Reached as reached
-use Rattle.abs_match.specs.Forced.{ArePut, NoneDoes, stacked, fields_of, numbers_length, array_length, place_asks, frames_ask}
-use Rattle.abs_match.specs.Forced.{state_asks, fields_ask, cell_asks}
+use Rattle.abs_match.specs.inner.Forced.{ArePut, NoneDoes, stacked, fields_of, numbers_length, array_length, place_asks, frames_ask}
+use Rattle.abs_match.specs.inner.Forced.{state_asks, fields_ask, cell_asks}
 use Rattle.abs_match.proofs.Forcing.{none_put, put_more, put_both, none_more, positions_flat, all_put, all_few}
 use Rattle.abs_match.proofs.Leasts.{lengths_agree}
 use Rattle.abs_match.proofs.Testing.{heads_from, heads_of, places_from}

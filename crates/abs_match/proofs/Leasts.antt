@@ -9,8 +9,8 @@ use Rattle.jvm_values.proofs.Options.{some_is}
 use Rattle.abs_cells.specs.declared.cells.Cell.{Cell}
 use Rattle.abs_cells.specs.AbstractStates.{AbstractFrame}
 use Rattle.abs_cells.specs.Cells.{cell_in, is_of_sort}
-use Rattle.abs_match.specs.Matching.{IsLeastOf, lower_of, HasImage, PlacesMeet, FirstMeet, FirstSame, local_at, FrameMeets}
-use Rattle.abs_match.specs.Matching.{FramesMeet, EntryMeets}
+use Rattle.abs_match.specs.inner.Matching.{IsLeastOf, lower_of, HasImage, PlacesMeet, FirstMeet, FirstSame, local_at, FrameMeets}
+use Rattle.abs_match.specs.inner.Matching.{FramesMeet, EntryMeets}
 
 -- the same of what holds of the same ids
 pub turned : (M N : ℕ → Type 0) (r : Option ℕ) → ((id : ℕ) → M id → N id) → ((id : ℕ) → N id → M id) → IsLeastOf M r → IsLeastOf N r

@@ -19,7 +19,7 @@ use Rattle.abs_reach.specs.Instances.{image_in}
 use Rattle.abs_reach.proofs.Finding as finding
 use Rattle.abs_match.specs.declared.clauses.OtherSort.{OtherSort}
 use Rattle.abs_reach.specs.Keys.{AreKeysRising}
-use Rattle.abs_match.specs.Matching.{is_wanted, is_other, IsApartAt, IsApartImage}
+use Rattle.abs_match.specs.inner.Matching.{is_wanted, is_other, IsApartAt, IsApartImage}
 use Rattle.abs_match.proofs.Entries.{image_is_there}
 
 abbrev pub key : ℕ × ℕ → ℕ

@@ -14,7 +14,7 @@ use Rattle.abs_reach.specs.Instances.{image_in, MayBeOne}
 use Rattle.abs_reach.proofs.Room.{has_cell_low}
 use Rattle.abs_reach.proofs.Answering.{touch_from, touch_of, touched_of}
 use Rattle.abs_reach.specs.Keys.{AreKeysRising}
-use Rattle.abs_match.specs.Matching.{AreMatched, IsApartImage}
+use Rattle.abs_match.specs.inner.Matching.{AreMatched, IsApartImage}
 use Rattle.abs_match.proofs.Entries.{image_is_there}
 use Rattle.abs_match.proofs.Partners.{keys_rise}
 

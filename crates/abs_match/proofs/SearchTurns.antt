@@ -24,10 +24,10 @@ use Rattle.abs_cells.specs.Sound.{AreIdsRising}
 use Rattle.abs_reach.specs.Instances.{image_in, InstanceOf, FailsAt, IsFirstFault, whole_map, mode, cells}
 use Rattle.abs_reach.specs.Instances as clauses
 use Rattle.abs_reach.specs.Reached.{named_steps, positions, IsReached}
-use Rattle.abs_reach.specs.Turns.{still, IsWith}
+use Rattle.abs_reach.specs.inner.Turns.{still, IsWith}
 use Rattle.abs_reach.proofs.Room.{one_fewer, has_cell_low}
 use Rattle.abs_reach.specs.Keys.{AreKeysRising}
-use Rattle.abs_match.specs.Forced.{waits, ArePut, NoneDoes, state_asks, cell_asks, names_count, IsSearching, NoneMatches, IsOnlyMatch}
+use Rattle.abs_match.specs.inner.Forced.{waits, ArePut, NoneDoes, state_asks, cell_asks, names_count, IsSearching, NoneMatches, IsOnlyMatch}
 use Rattle.abs_match.proofs.Entries.{entry_of, image_is_there}
 use Rattle.abs_match.proofs.Forcing.{weaker}
 use Rattle.abs_match.proofs.Keys.{stands}

@@ -16,7 +16,7 @@ use Rattle.abs_cells.specs.Sound.{AreIdsRising, IsWellFormed}
 use Rattle.abs_reach.specs.Instances.{image_in, local, entry, frame_at, FrameHead, head_of, ListsIds, Clause, whole_map, positions}
 use Rattle.abs_reach.specs.Instances.{mode, cells, aliases, sharing, shapes, number_of, Agrees, Meets, HoldsClause, InstanceOf}
 use Rattle.abs_reach.specs.Instances.{HasImageUnder, FailsAt, IsFirstFault}
-use Rattle.abs_match.specs.Matching.{IsLeastOf, lower_of, FramesMeet, FirstMeet, CellMeets, AreMatched, Tested, clause_of}
+use Rattle.abs_match.specs.inner.Matching.{IsLeastOf, lower_of, FramesMeet, FirstMeet, CellMeets, AreMatched, Tested, clause_of}
 use Rattle.abs_match.specs.declared.clauses.IdClause.{IdClause}
 use Rattle.abs_match.specs.declared.clauses.IdClause.TheVariants.{Cells, Aliases, Sharing, Shapes}
 use Rattle.abs_match.proofs.Leasts.{turned, next_asked}

@@ -29,7 +29,7 @@ abbrev pub HasArraysOfWorld : WorldTypes → Heap → Type 0
 HasArraysOfWorld types heap = (place : ℕ) (element : Ty) (items : List Value)
     → slice_get heap.objects place ≡ Some (objects.Refs element items) → IsReference types.classes (array_of element)
 
--- What is left without the ids that positions don't reach has none of them.
+-- What is left of a state without the ids that its positions don't reach has only ids that its positions reach.
 abbrev pub DroppedStatesReachAll : Type 0
 DroppedStatesReachAll = (whole part : AbstractState) → IsDropped whole part → (id : ℕ) → HasCell (λ _. true) part id → IsReached part id
 

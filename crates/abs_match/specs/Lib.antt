@@ -1,4 +1,3 @@
-pub mod Laws
-pub mod Matching
-pub mod Forced
 pub use Rattle.abs_reach.specs.Instances
+pub mod Laws
+pub mod inner

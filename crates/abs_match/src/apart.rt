@@ -3,7 +3,7 @@ ghost use Rattle.std.specs.Prelude.{◌≡◌, ◌<◌, ◌==◌, ◌&&◌, ◌|
 ghost use Rattle.abs_cells.specs.IdSets.{has_id};
 ghost use Rattle.abs_cells.specs.Sound.{AreIdsRising};
 ghost use Rattle.abs_reach.specs.Keys.{AreKeysRising};
-ghost use Rattle.abs_match.specs.Matching.{is_wanted, is_other, IsApartImage};
+ghost use Rattle.abs_match.specs.inner.Matching.{is_wanted, is_other, IsApartImage};
 
 use crate::clauses::OtherSort;
 use abs_cells::{Cell, Id, IdSet, Pairs};

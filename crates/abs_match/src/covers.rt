@@ -7,7 +7,7 @@ ghost use Rattle.jvm_values.specs.Subtyping.{array_of};
 ghost use Rattle.abs_cells.specs.Sound.{AreIdsRising};
 ghost use Rattle.abs_reach.specs.Instances.{image_in, IsOver, IsArrayUnder, HasImageUnder};
 ghost use Rattle.abs_reach.specs.Keys.{AreKeysRising};
-ghost use Rattle.abs_match.specs.Matching.{image_is, over_int, is_type_below, over_unknown};
+ghost use Rattle.abs_match.specs.inner.Matching.{image_is, over_int, is_type_below, over_unknown};
 
 use crate::maps::image_of;
 use abs_cells::{AbsState, Cell, Id, Ids, Pairs};

@@ -5,9 +5,9 @@ ghost use Rattle.abs_cells.specs.IdSets.{has_id};
 ghost use Rattle.abs_cells.specs.Cells.{HasCell};
 ghost use Rattle.abs_cells.specs.Sound.{AreIdsRising, IsWellFormed};
 ghost use Rattle.abs_reach.specs.Reached.{IsReached};
-ghost use Rattle.abs_reach.specs.Turns.{still};
+ghost use Rattle.abs_reach.specs.inner.Turns.{still};
 ghost use Rattle.abs_reach.specs.Instances.{InstanceOf};
-ghost use Rattle.abs_match.specs.Forced.{IsSearching, NoneMatches, IsOnlyMatch, names_count};
+ghost use Rattle.abs_match.specs.inner.Forced.{IsSearching, NoneMatches, IsOnlyMatch, names_count};
 
 use crate::forced::{Todo, put_named, put_positions};
 use crate::matching::instance;

@@ -6,8 +6,8 @@ ghost use Rattle.jvm_values.specs.declared.types.Ty.{Ty};
 ghost use Rattle.abs_cells.specs.Cells.{ids_in};
 ghost use Rattle.abs_cells.specs.Sound.{given_ids, ids_of_frame};
 ghost use Rattle.abs_reach.specs.Reached.{positions};
-ghost use Rattle.abs_match.specs.Forced.{ArePut, NoneDoes, fields_of, stacked, numbers_length, array_length, place_asks, locals_ask};
-ghost use Rattle.abs_match.specs.Forced.{entries_ask, frame_asks, frames_ask, state_asks, fields_ask, cell_asks};
+ghost use Rattle.abs_match.specs.inner.Forced.{ArePut, NoneDoes, fields_of, stacked, numbers_length, array_length, place_asks, locals_ask};
+ghost use Rattle.abs_match.specs.inner.Forced.{entries_ask, frame_asks, frames_ask, state_asks, fields_ask, cell_asks};
 
 use crate::places::{entry_at, local_at};
 use abs_cells::{AbsFrame, AbsState, Cell, Id, Ids, Pairs};

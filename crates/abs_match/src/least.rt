@@ -1,6 +1,6 @@
 //! The least of ids.
 ghost use Rattle.std.specs.Prelude.{◌≡◌};
-ghost use Rattle.abs_match.specs.Matching.{lower_of};
+ghost use Rattle.abs_match.specs.inner.Matching.{lower_of};
 
 use abs_cells::Id;
 

@@ -4,7 +4,7 @@ ghost use Rattle.abs_cells.specs.Cells.{cell_in, is_of_sort};
 ghost use Rattle.abs_cells.specs.Sound.{AreIdsRising};
 ghost use Rattle.abs_reach.specs.Instances.{image_in};
 ghost use Rattle.abs_reach.specs.Keys.{AreKeysRising};
-ghost use Rattle.abs_match.specs.Matching.{HasImage, IsLeastOf};
+ghost use Rattle.abs_match.specs.inner.Matching.{HasImage, IsLeastOf};
 
 use crate::least::lower_of;
 use abs_cells::{Cell, Id, ids_rise};

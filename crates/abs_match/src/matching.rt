@@ -5,7 +5,7 @@ ghost use Rattle.abs_cells.specs.Cells.{cell_at};
 ghost use Rattle.abs_cells.specs.Sound.{IsWellFormed};
 ghost use Rattle.abs_reach.specs.Instances.{Meets, InstanceOf, IsFirstFault, whole_map, positions, mode};
 ghost use Rattle.abs_reach.specs.Keys.{AreKeysRising};
-ghost use Rattle.abs_match.specs.Matching.{AreMatched, IsLeastOf, Tested, clause_of};
+ghost use Rattle.abs_match.specs.inner.Matching.{AreMatched, IsLeastOf, Tested, clause_of};
 
 use crate::clauses::{IdClause, MatchFault};
 use crate::covers::is_covered;

@@ -5,7 +5,7 @@ ghost use Rattle.abs_cells.specs.Cells.{is_known, is_hazy, is_reference, cell_at
 ghost use Rattle.abs_cells.specs.Closures.{MayMeet, MayBeIn};
 ghost use Rattle.abs_cells.specs.Sound.{AreIdsRising, IsWellFormed};
 ghost use Rattle.abs_reach.specs.Instances.{image_in, AreMapped, MayBeOne, HasIdShape, SharesEnough};
-ghost use Rattle.abs_match.specs.Matching.{AreMatched, PairsEnough, IsShaped};
+ghost use Rattle.abs_match.specs.inner.Matching.{AreMatched, PairsEnough, IsShaped};
 
 use crate::apart::apart_images;
 use crate::clauses::OtherSort;

@@ -1,7 +1,7 @@
 //! Whether the places of frames have the images of ids.
 ghost use Rattle.std.specs.Prelude.{◌≡◌, length, slice_get};
 ghost use Rattle.abs_reach.specs.Keys.{AreKeysRising};
-ghost use Rattle.abs_match.specs.Matching.{IsLeastOf, PlacesMeet, FrameMeets, FirstMeet, FramesMeet, local_at};
+ghost use Rattle.abs_match.specs.inner.Matching.{IsLeastOf, PlacesMeet, FrameMeets, FirstMeet, FramesMeet, local_at};
 
 use crate::least::lower_of;
 use crate::maps::unmet;

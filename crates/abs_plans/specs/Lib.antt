@@ -1,3 +1,2 @@
-pub mod Casts
-pub mod TestsSeen
 pub mod Planning
+pub mod inner

@@ -12,8 +12,8 @@ use Rattle.abs_turns.specs.Plans.{Plan, no_child}
 use Rattle.abs_turns.specs.Table.{plan_of_form}
 use Rattle.abs_turns.specs.Throwing.{throwing_plan}
 
--- in normal mode by the form of the instruction, with the typing's types there and the place of the next instruction. Where none
--- comes after it, which no place of a typing leads to, its own place stands for that
+-- the plan of a state whose running frame has an instruction to do: by the instruction's form, the typing's types at its place and the
+-- place of the next instruction. Where none comes after it, to which no place of a typing leads on, its own place stands for that one
 abbrev pub plan_here : Program → (ℕ → CodeTypes) → AbstractState → AbstractFrame → List AbstractFrame → Option Form → Option ℕ
     → Option PlaceTypes → Plan
 plan_here p typing state frame below (Some form) next (Some there) = plan_of_form
@@ -28,6 +28,8 @@ plan_here p typing state frame below (Some form) next (Some there) = plan_of_for
     }) form
 plan_here p typing state frame below _ next _ = no_child
 
+-- the plan of a state by its mode: where an object is thrown, the running frame looks for a handler; else it does its instruction; a
+-- state without frames has no child
 abbrev pub plan_in : Program → (ℕ → CodeTypes) → AbstractState → Option ℕ → List AbstractFrame → Plan
 plan_in p typing state thrown [] = no_child
 plan_in p typing state (Some x) (frame ∷ below) = throwing_plan (types_of p.world) state x frame below
@@ -36,5 +38,6 @@ plan_in p typing state None (frame ∷ below) = plan_here p typing state frame b
     (option_map_or (λ found. form_of found.0) (insn_at p.methods frame.method frame.pc) None)
     (option_map_or (λ found. found.1) (insn_at p.methods frame.method frame.pc) None) (typing frame.method frame.pc)
 
+-- the plan of an abstract state: what becomes of it in the machine's next step, or how it is split before that
 abbrev pub plan_of : Program → (ℕ → CodeTypes) → AbstractState → Plan
 plan_of p typing state = plan_in p typing state state.throwing state.frames

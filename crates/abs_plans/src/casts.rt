@@ -4,7 +4,7 @@ ghost use Rattle.std.specs.Option.{option_map, option_and_then, option_to_list};
 ghost use Rattle.abs_turns.specs.Turns.{pushes};
 ghost use Rattle.abs_turns.specs.Table.{types_here, number_cell, with_bound, undecided, cell_here, cell_bound, is_bound_below};
 ghost use Rattle.abs_turns.specs.Table.{may_be_below, is_known_cell, bounded, cast_plan, checkcast_plan, instanceof_plan};
-ghost use Rattle.abs_plans.specs.Casts.{cast_of, asks, verdict_of, verdict_plan};
+ghost use Rattle.abs_plans.specs.inner.Casts.{cast_of, asks, verdict_of, verdict_plan};
 ghost use Rattle.abs_turns.specs.PlansSeen.{turn_seen, plan_seen};
 
 use abs_cells::{Cell, Id, Pairs};

@@ -4,7 +4,7 @@ ghost use Rattle.std.specs.Option.{option_map};
 ghost use Rattle.abs_turns.specs.Needs.{is_below_place, is_comparable_place, passes_if, passing_id, operands_of};
 ghost use Rattle.abs_turns.specs.Table.{types_here, taken_by, shuffle_count};
 ghost use Rattle.abs_turns.specs.Stops.{stop_of, first_stop};
-ghost use Rattle.abs_plans.specs.TestsSeen.{passing_seen};
+ghost use Rattle.abs_plans.specs.inner.TestsSeen.{passing_seen};
 ghost use Rattle.op_forms.specs.Forms.{form_seen};
 ghost use Rattle.abs_turns.specs.PlansSeen.{plan_seen};
 

@@ -21,7 +21,7 @@ use Rattle.abs_cells.specs.Sound.{AreIdsRising, IsWellFormed}
 use Rattle.abs_cells.proofs.PairLaws.{has_swapped, same_is, is_same_from}
 use Rattle.abs_cells.proofs.Checking.{low_pair, is_here, sort_is, has_cell_from, has_cell_to}
 use Rattle.abs_reach.specs.declared.find.Names.TheVariants.{Known, All}
-use Rattle.abs_reach.specs.Steps.{steps_in, counted_steps_in, AreNamedThere, IsIn, IsReachedInside}
+use Rattle.abs_reach.specs.inner.Steps.{steps_in, counted_steps_in, AreNamedThere, IsIn, IsReachedInside}
 use Rattle.abs_reach.specs.Known.{IsKnownFromSome}
 use Rattle.abs_reach.proofs.Walks.{named_has_cell, counted_is_known}
 use Rattle.abs_reach.proofs.Walked.{counted_path}

@@ -11,7 +11,7 @@ use Rattle.abs_cells.specs.Closures.{KnownFrom}
 use Rattle.abs_cells.specs.Sound.{IsWellFormed}
 use Rattle.abs_cells.proofs.Checking.{has_cell_from, has_cell_to}
 use Rattle.abs_reach.specs.Known.{IsKnownFromSome, MayMeetSome, SomeMayBeIn, MayBeInSome}
-use Rattle.abs_reach.specs.Steps.{IsIn}
+use Rattle.abs_reach.specs.inner.Steps.{IsIn}
 use Rattle.abs_reach.proofs.Answering.{in_both, IsInBoth, both_from, Touch, touch_from, share_counts}
 
 module _ (state : AbstractState) (good : IsWellFormed state) where

@@ -13,8 +13,8 @@ use Rattle.abs_cells.specs.Cells.{is_of_sort, cell_in}
 use Rattle.abs_cells.specs.Sound.{AreIdsRising}
 use Rattle.abs_reach.specs.declared.find.Names.{Names}
 use Rattle.abs_reach.specs.declared.walk.Found.{Found}
-use Rattle.abs_reach.specs.Steps.{steps_in, IsIn, IsReachedFrom, IsReachedInside}
-use Rattle.abs_reach.specs.Turns.{IsWith, one, IsBegun}
+use Rattle.abs_reach.specs.inner.Steps.{steps_in, IsIn, IsReachedFrom, IsReachedInside}
+use Rattle.abs_reach.specs.inner.Turns.{IsWith, one, IsBegun}
 use Rattle.abs_reach.proofs.Finding.{rises, stands}
 use Rattle.abs_reach.proofs.Room.{one_fewer, not_none, at_most_all, count_low, the_cell}
 use Rattle.abs_reach.proofs.Searching.{put_here, put_keeps, put_only}

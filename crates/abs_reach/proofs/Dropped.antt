@@ -23,7 +23,7 @@ use Rattle.abs_cells.specs.Sound.{AreIdsRising, given_ids, ids_of_frame, IsWellF
 use Rattle.abs_cells.proofs.KeepLaws.{has_filter}
 use Rattle.abs_cells.proofs.Checking.{has_cell_from, has_cell_to}
 use Rattle.abs_reach.specs.declared.find.Names.TheVariants.{All as AllNames}
-use Rattle.abs_reach.specs.Steps.{IsIn, IsReachedInside}
+use Rattle.abs_reach.specs.inner.Steps.{IsIn, IsReachedInside}
 use Rattle.abs_reach.specs.Reached.{named_steps, positions, IsReached, IsDropped}
 use Rattle.abs_reach.proofs.Finding.{stands}
 use Rattle.abs_reach.proofs.Room.{has_cell_low, reached_there}

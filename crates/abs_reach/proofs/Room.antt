@@ -12,9 +12,9 @@ use Rattle.abs_cells.specs.declared.cells.Cell.{Cell}
 use Rattle.abs_cells.specs.IdSets.{has_id}
 use Rattle.abs_cells.specs.Cells.{is_of_sort, cell_in}
 use Rattle.abs_cells.specs.Sound.{AreIdsRising}
-use Rattle.abs_reach.specs.Steps.{names_by, steps_in, AreNamedThere, IsIn}
+use Rattle.abs_reach.specs.inner.Steps.{names_by, steps_in, AreNamedThere, IsIn}
 use Rattle.abs_reach.specs.declared.find.Names.{Names}
-use Rattle.abs_reach.specs.Turns.{still, one, IsWith}
+use Rattle.abs_reach.specs.inner.Turns.{still, one, IsWith}
 use Rattle.abs_reach.proofs.Searching.{put_here, put_keeps}
 
 -- ---- cells that were not met

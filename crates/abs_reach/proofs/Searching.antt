@@ -12,8 +12,8 @@ use Rattle.jvm_values.proofs.Options.{some_is}
 use Rattle.jvm_values.proofs.PathLaws.{here, one_more, onward, joined}
 use Rattle.jvm_heaps.proofs.TreePaths.{nil_is_not_last, tree_from}
 use Rattle.abs_cells.specs.IdSets.{has_id}
-use Rattle.abs_reach.specs.Steps.{IsIn, IsReachedFrom}
-use Rattle.abs_reach.specs.Turns.{IsWith, IsOpen, IsPassed, AreApart}
+use Rattle.abs_reach.specs.inner.Steps.{IsIn, IsReachedFrom}
+use Rattle.abs_reach.specs.inner.Turns.{IsWith, IsOpen, IsPassed, AreApart}
 
 pub put_here : (now set : List ℕ) (c : ℕ) → IsWith now set c → IsIn now c
 put_here now set c w = w c ∙ or_left (eqb c c) (has_id set c) (eq-eqb c c refl)

@@ -16,8 +16,8 @@ use Rattle.abs_cells.specs.Sound.{AreIdsRising}
 use Rattle.abs_reach.specs.declared.find.Names.{Names}
 use Rattle.abs_reach.specs.declared.find.Names.TheVariants as ways
 use Rattle.abs_reach.specs.declared.walk.Found.{Found}
-use Rattle.abs_reach.specs.Steps.{names_by, steps_in, counted_in, counted_steps_in, AreNamedThere, IsIn, IsReachedFrom}
-use Rattle.abs_reach.specs.Turns.{IsOpen, IsWith, still, one, IsBegun, Leaves, Meets, Enters}
+use Rattle.abs_reach.specs.inner.Steps.{names_by, steps_in, counted_in, counted_steps_in, AreNamedThere, IsIn, IsReachedFrom}
+use Rattle.abs_reach.specs.inner.Turns.{IsOpen, IsWith, still, one, IsBegun, Leaves, Meets, Enters}
 use Rattle.abs_reach.proofs.Searching.{IsSearch, HasNoCycle, IsOnce, begin, no_cycle_yet, once_yet, leave, meet, enter, leave_dag}
 use Rattle.abs_reach.proofs.Searching.{meet_dag, enter_dag, closes, leave_once, meet_once, enter_once, clashes, exact, all_left}
 use Rattle.abs_reach.proofs.Searching.{one_way}

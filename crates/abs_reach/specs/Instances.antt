@@ -16,49 +16,51 @@ use Rattle.abs_cells.specs.Sound.{AreIdsRising}
 
 -- ---- maps
 
--- the image of an id, if the map lists the id
+-- the image of an id of the target, if the map lists the id
 abbrev pub image_in : List (ℕ × ℕ) → ℕ → Option ℕ
 image_in [] id = None
 image_in (entry ∷ entries) id = if entry.0 == id then Some entry.1 else image_in entries id
 
--- the map lists each id of the target once, and they rise
+-- a map lists each id of the target once, and the ids rise
 pub record ListsIds (target : AbstractState) (entries : List (ℕ × ℕ)) : Type 0 where
   pub each : map (λ entry. entry.0) entries ≡ map (λ c. c.0) target.cells
   pub rise : AreIdsRising 0 target.cells
 
 -- ---- positions
 
--- a local of a frame, or an entry of its operand stack. Frames and entries are numbered from the bottom, from 0
+-- a place of an abstract state: a local of a frame, or an entry of its operand stack. Frames and entries are numbered from
+-- the bottom, from 0
 pub data Place : Type 0 where
   local : ℕ → ℕ → Place
   entry : ℕ → ℕ → Place
 
--- the frame of a number
+-- the frame of an abstract state with a number, counted from the bottom
 abbrev pub frame_at : AbstractState → ℕ → Option AbstractFrame
 frame_at state n = slice_get (reverse state.frames) n
 
--- the id at a place, if there is such a place and it has one
+-- the id at a place of an abstract state, if there is such a place and it has an id
 abbrev pub id_at : AbstractState → Place → Option ℕ
 id_at state (local f n) = option_and_then (λ frame. option_and_then (λ id. id) (slice_get frame.locals n)) (frame_at state f)
 id_at state (entry f n) = option_and_then (λ frame. slice_get (reverse frame.stack) n) (frame_at state f)
 
--- the method, the place of the instruction, and the depth of the operand stack
+-- what two frames must agree in: the method, the place of the instruction, and the depth of the operand stack
 pub record FrameHead : Type 0 where
   pub method : ℕ
   pub pc : ℕ
   pub depth : ℕ
 
+-- the head of an abstract frame: its method, its place, and the depth of its operand stack
 abbrev pub head_of : AbstractFrame → FrameHead
 head_of frame = record { method = frame.method; pc = frame.pc; depth = length frame.stack }
 
--- an object is thrown
+-- an abstract state throws an object
 abbrev pub is_thrown : Option ℕ → Bool
 is_thrown None = false
 is_thrown (Some id) = true
 
 -- ---- cells
 
--- an array of references whose element type is below another one
+-- a cell is of an array of references whose element type is below a type, and whose length's id is the image of an id
 pub record IsArrayUnder (sub : Ty → Ty → Bool) (entries : List (ℕ × ℕ)) (element : Ty) (len : ℕ) (cell : Cell) : Type 0 where
   pub item : Ty
   pub image : ℕ
@@ -67,12 +69,12 @@ pub record IsArrayUnder (sub : Ty → Ty → Bool) (entries : List (ℕ × ℕ))
   pub below : IsTrue (sub item element)
   pub length_is : image_in entries len ≡ Some image
 
--- null, or an object of a type below a bound
+-- a cell stands for null alone, or for an object of a type below a bound
 abbrev pub IsNullOrBelow : (Ty → Ty → Bool) → Ty → Cell → Type 0
 IsNullOrBelow sub bound cell = (cell ≡ Null) ⊎ ((t : Ty) × ((type_of_cell cell ≡ Some t) × IsTrue (sub t bound)))
 
--- a cell of the target describes whatever a cell of the state does; the ids that it names have the images that the other
--- one names. Shapes are not compared here
+-- a cell of the target is over a cell of the state: whatever the state's cell describes it describes too, and the ids that
+-- it names have as images the ids that the state's cell names. Shapes are not compared here
 abbrev pub IsOver : (Ty → Ty → Bool) → List (ℕ × ℕ) → Cell → Cell → Type 0
 IsOver sub entries (Int outer) cell = (inner : _) × ((cell ≡ Int inner) × ((outer.lo ≤ℤ inner.lo) × (inner.hi ≤ℤ outer.hi)))
 IsOver sub entries Null cell = cell ≡ Null
@@ -81,7 +83,7 @@ IsOver sub entries (Nums kind len) cell = (image : ℕ) × ((cell ≡ Nums kind 
 IsOver sub entries (Refs element len shape) cell = IsArrayUnder sub entries element len cell
 IsOver sub entries (Unk bound nullable shape) cell = (can_be_null cell ≡ true → nullable ≡ true) × IsNullOrBelow sub bound cell
 
--- the image of an id has a cell under the id's own
+-- the image of an id is an id of the state whose cell is under a cell of the target
 pub record HasImageUnder (sub : Ty → Ty → Bool) (state : AbstractState) (entries : List (ℕ × ℕ)) (id : ℕ) (cell : Cell) : Type 0 where
   pub image : ℕ
   pub below : Cell
@@ -91,15 +93,16 @@ pub record HasImageUnder (sub : Ty → Ty → Bool) (state : AbstractState) (ent
 
 -- ---- pairs and shapes
 
--- two ids may stand for one object: they are one id whose cell is not `Null`, or a pair with one object
+-- two ids of an abstract state may stand for one object: they are one id of a reference, or a pair of ids that may be one
+-- object
 abbrev pub MayBeOne : AbstractState → ℕ → ℕ → Type 0
 MayBeOne state a b = ((a ≡ b) × HasCell is_reference state a) ⊎ AreEqual state a b
 
--- a reference, `Null` too
+-- a cell is of a reference, or is `Null`
 abbrev pub is_no_int : Cell → Bool
 is_no_int cell = not (is_int cell)
 
--- two different ids of the target whose cells are of these sorts, with their images
+-- two different ids of the target have cells of two sorts, and have these images
 pub record AreMapped (target : AbstractState) (entries : List (ℕ × ℕ)) (sort other_sort : Cell → Bool)
     (id other image other_image : ℕ) : Type 0 where
   pub differ : id ≢ other
@@ -108,8 +111,9 @@ pub record AreMapped (target : AbstractState) (entries : List (ℕ × ℕ)) (sor
   pub maps : image_in entries id ≡ Some image
   pub other_maps : image_in entries other ≡ Some other_image
 
--- what an id shares: a hazy one with each hazy one whose image its own may meet, and with each known one whose image may
--- be in the region of its own; a known one with each hazy one in whose region it may be so
+-- an id of the target shares with all ids that its image's region asks for: a hazy id with each hazy one whose image its
+-- own image may meet, and with each known one whose image may lie in the region of its own; a known id with each hazy one
+-- in whose image's region its own image may lie
 pub record SharesEnough (state target : AbstractState) (entries : List (ℕ × ℕ)) (id : ℕ) : Type 0 where
   pub meets : (other image other_image : ℕ) → AreMapped target entries is_hazy is_hazy id other image other_image
       → MayMeet state image other_image → Share target id other
@@ -118,7 +122,7 @@ pub record SharesEnough (state target : AbstractState) (entries : List (ℕ × �
   pub holds : (other image other_image : ℕ) → AreMapped target entries is_hazy is_known id other image other_image
       → MayBeIn state other_image image → Share target id other
 
--- an id's closure is of a shape
+-- the region of an id of an abstract state is told to be of a shape
 abbrev pub HasIdShape : Shape → AbstractState → ℕ → Type 0
 HasIdShape Tree state id = IsTreeId state id
 HasIdShape Dag state id = IsFiniteId state id
@@ -126,11 +130,12 @@ HasIdShape Any state id = Unit {0}
 
 -- ---- the clauses
 
--- what the clauses speak of, in their order
+-- what makes a state an instance of a target, clause by clause: a map of all ids, positions, the mode, cells, ids of one
+-- object, sharing ids, and shapes
 pub data Clause : Type 0 where
   whole_map positions mode cells aliases sharing shapes : Clause
 
--- the number of a clause
+-- the number of a clause, from 0 on in their order
 abbrev pub number_of : Clause → ℕ
 number_of whole_map = 0
 number_of positions = 1
@@ -140,8 +145,8 @@ number_of aliases = 4
 number_of sharing = 5
 number_of shapes = 6
 
--- what a clause asks of no id alone: the map lists the target's ids; both have as many frames, with the same methods,
--- places and depths of stacks; in both an object is thrown, or in none
+-- what a clause asks of the two states as a whole: the map lists the target's ids; both have as many frames, with the same
+-- methods, places and depths of stacks; in both an object is thrown, or in none. The other clauses ask nothing of that kind
 abbrev pub Agrees : AbstractState → AbstractState → List (ℕ × ℕ) → Clause → Type 0
 Agrees state target entries whole_map = ListsIds target entries
 Agrees state target entries positions = map head_of state.frames ≡ map head_of target.frames
@@ -151,9 +156,9 @@ Agrees state target entries aliases = Unit {0}
 Agrees state target entries sharing = Unit {0}
 Agrees state target entries shapes = Unit {0}
 
--- what a clause asks of an id of the target: its image is an id of the state; it stands at each place of the target at
--- which the id does; it is thrown where the id is; its cell is under the id's; the id is a pair with each other one whose
--- image may have its image's object; it shares enough; its image is of its shape
+-- what a clause asks of one id of the target: its image is an id of the state; the image stands at each place of the target
+-- at which the id does; it is thrown where the id is; its cell is under the id's; the id is a pair with each other one
+-- whose image may be one object with its own; it shares enough; its image is of its shape
 abbrev pub Meets : (Ty → Ty → Bool) → AbstractState → AbstractState → List (ℕ × ℕ) → Clause → ℕ → Type 0
 Meets sub state target entries whole_map id = (image : ℕ) → image_in entries id ≡ Some image → HasCell (λ _. true) state image
 Meets sub state target entries positions id = (place : Place) → id_at target place ≡ Some id
@@ -167,28 +172,29 @@ Meets sub state target entries sharing id = SharesEnough state target entries id
 Meets sub state target entries shapes id = (cell : Cell) (shape : Shape) (image : ℕ) → cell_at target id ≡ Some cell
     → shape_of cell ≡ Some shape → image_in entries id ≡ Some image → HasIdShape shape state image
 
+-- a clause holds: as a whole, and of each id
 abbrev pub HoldsClause : (Ty → Ty → Bool) → AbstractState → AbstractState → List (ℕ × ℕ) → Clause → Type 0
 HoldsClause sub state target entries clause = Agrees state target entries clause × ((id : ℕ) → Meets sub state target entries clause id)
 
--- every clause holds
+-- a state is an instance of a target by a map: every clause holds
 abbrev pub InstanceOf : (Ty → Ty → Bool) → AbstractState → AbstractState → List (ℕ × ℕ) → Type 0
 InstanceOf sub state target entries = (clause : Clause) → HoldsClause sub state target entries clause
 
 -- ---- the first fault
 
--- the least id of which a clause does not hold
+-- an id is the least one of which a clause does not hold, where the clause holds as a whole
 pub record IsLeastFailing (sub : Ty → Ty → Bool) (state target : AbstractState) (entries : List (ℕ × ℕ)) (clause : Clause)
     (id : ℕ) : Type 0 where
   pub agrees : Agrees state target entries clause
   pub fails : Meets sub state target entries clause id → ⊥
   pub least : (lower : ℕ) → lower < id → Meets sub state target entries clause lower
 
--- the clause fails, and this is the id that is named: 0 where it fails for no id alone
+-- a clause fails at an id: at the least one of which it does not hold, or at 0 where it does not hold as a whole
 abbrev pub FailsAt : (Ty → Ty → Bool) → AbstractState → AbstractState → List (ℕ × ℕ) → Clause → ℕ → Type 0
 FailsAt sub state target entries clause id = ((Agrees state target entries clause → ⊥) × (id ≡ 0))
     ⊎ IsLeastFailing sub state target entries clause id
 
--- the first clause that fails, by its number, and the id that is named
+-- the first fault of a map for an instance: the number of the first clause that fails, and the id at which it fails
 pub record IsFirstFault (sub : Ty → Ty → Bool) (state target : AbstractState) (entries : List (ℕ × ℕ)) (number id : ℕ) : Type 0 where
   pub clause : Clause
   pub is : number ≡ number_of clause

@@ -1,9 +1,14 @@
+-- the closures of ids over known cells, which lie in abs_cells
+pub use Rattle.abs_cells.specs.Closures
+-- what sets of ids lead to, and the ids that are reached
 pub mod Known
 pub mod Reached
+-- when an abstract state is an instance of another one
 pub mod Instances
-pub mod Keys
+-- what holds of closures and the regions of heaps
 pub mod Ways
 pub mod Laws
-pub mod Steps
-pub mod Turns
-pub use Rattle.abs_cells.specs.Closures
+-- lists whose keys rise
+pub mod Keys
+-- the words of private calls
+pub mod inner

@@ -9,22 +9,25 @@ use Rattle.abs_cells.specs.Closures.{IsFiniteId}
 use Rattle.abs_cells.specs.Patterns.{Pattern, IsPattern}
 use Rattle.abs_cells.specs.Cells.{ids_in, cell_at, HasCell, AreEqual, Share}
 
--- a step goes from a cell to an id that it names, the length of an array of references too
+-- the steps of a walk over the ids of an abstract state: from a cell to each id that it names, to the length of an array of
+-- references as well
 abbrev pub named_steps : AbstractState → Steps
 named_steps state a i = option_and_then (λ cell. slice_get (ids_in cell) i) (cell_at state a)
 
--- the ids at a state's positions, and the thrown one
+-- the ids at the places of an abstract state's frames, and then the thrown one
 abbrev pub positions : AbstractState → List ℕ
 positions state = flat_map ids_of_frame state.frames ++ given_ids (state.throwing ∷ [])
 
--- an id stands at a position, or cells lead to it from there
+-- an id of an abstract state is reached: it stands at a place of a frame or is the thrown one, or cells lead to it from
+-- such an id
 pub record IsReached (state : AbstractState) (id : ℕ) : Type 0 where
   pub place : ℕ
   pub start : ℕ
   pub stands : slice_get (positions state) place ≡ Some start
   pub reaches : Reaches (named_steps state) start id
 
--- one state has the frames and the thrown id of another, and of its cells some, and between these all pairs
+-- one abstract state is another one with fewer ids: it has the same frames and the same thrown id, some of the cells, and
+-- of the pairs of their ids all
 pub record IsRestricted (whole part : AbstractState) : Type 0 where
   pub frames : part.frames ≡ whole.frames
   pub throwing : part.throwing ≡ whole.throwing
@@ -32,7 +35,8 @@ pub record IsRestricted (whole part : AbstractState) : Type 0 where
   pub eq : (a b : ℕ) → HasCell (λ _. true) part a → HasCell (λ _. true) part b → AreEqual whole a b → AreEqual part a b
   pub share : (a b : ℕ) → HasCell (λ _. true) part a → HasCell (λ _. true) part b → Share whole a b → Share part a b
 
--- one state is what another one is without the ids that its positions don't reach
+-- one abstract state is what another one is without the ids that are not reached: what is reached keeps its cell, nothing
+-- else has one, and the pairs are those of two reached ids
 pub record IsDropped (whole part : AbstractState) : Type 0 where
   pub frames : part.frames ≡ whole.frames
   pub throwing : part.throwing ≡ whole.throwing
@@ -41,7 +45,8 @@ pub record IsDropped (whole part : AbstractState) : Type 0 where
   pub eq : (a b : ℕ) → AreEqual part a b ↔ (AreEqual whole a b × (IsReached whole a × IsReached whole b))
   pub share : (a b : ℕ) → Share part a b ↔ (Share whole a b × (IsReached whole a × IsReached whole b))
 
--- an id is finite in one state exactly where it is in another, and has the same pattern there; so it is sized in both or in none
+-- an id is told to have no cycle in one abstract state exactly where it is in another, and has the same pattern there; so
+-- it has a size in both or in none
 pub record IsSizedAlike (one other : AbstractState) (id : ℕ) : Type 0 where
   pub finite : IsFiniteId one id ↔ IsFiniteId other id
   pub pattern : (pattern : Pattern) → IsPattern one id pattern ↔ IsPattern other id pattern

@@ -3,7 +3,7 @@ ghost use Rattle.std.specs.Prelude.{◌≡◌, ◌+◌, ◌^◌, ◌<◌, true, 
 ghost use Rattle.abs_cells.specs.Cells.{cell_in, ids_of, ids_in, is_of_sort, is_reference, HasCell};
 ghost use Rattle.abs_cells.specs.Sound.{AreIdsRising, IsWellFormed};
 ghost use Rattle.abs_reach.specs.Keys.{AreKeysRising, IsKeyAt, IsNoKey};
-ghost use Rattle.abs_reach.specs.Steps.{names_by, steps_in};
+ghost use Rattle.abs_reach.specs.inner.Steps.{names_by, steps_in};
 
 use abs_cells::{AbsState, Cell, Id, Pairs};
 

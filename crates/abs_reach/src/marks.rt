@@ -6,7 +6,7 @@ ghost use Rattle.abs_cells.specs.Cells.{HasCell};
 ghost use Rattle.abs_cells.specs.Closures.{cell_steps, counted_steps, KnownFrom};
 ghost use Rattle.abs_cells.specs.Sound.{IsWellFormed};
 ghost use Rattle.abs_reach.specs.Known.{IsKnownFromSome};
-ghost use Rattle.abs_reach.specs.Steps.{IsReachedInside};
+ghost use Rattle.abs_reach.specs.inner.Steps.{IsReachedInside};
 ghost use Rattle.abs_reach.specs.declared.find.Names.TheVariants.{All};
 
 use crate::find::Names;

@@ -4,8 +4,8 @@ ghost use Rattle.jvm_values.specs.Paths.{Reaches, IsTreeFrom, IsDagFrom};
 ghost use Rattle.abs_cells.specs.IdSets.{has_id};
 ghost use Rattle.abs_cells.specs.Cells.{cell_in, is_of_sort, is_reference};
 ghost use Rattle.abs_cells.specs.Sound.{AreIdsRising};
-ghost use Rattle.abs_reach.specs.Steps.{steps_in, counted_steps_in, AreNamedThere, IsReachedFrom, IsReachedInside};
-ghost use Rattle.abs_reach.specs.Turns.{IsWith, IsBegun, Leaves, Meets, Enters};
+ghost use Rattle.abs_reach.specs.inner.Steps.{steps_in, counted_steps_in, AreNamedThere, IsReachedFrom, IsReachedInside};
+ghost use Rattle.abs_reach.specs.inner.Turns.{IsWith, IsBegun, Leaves, Meets, Enters};
 
 use crate::find::{Names, is_reference_in, step};
 use abs_cells::{Cell, Id, IdSet};

@@ -13,7 +13,7 @@ use Rattle.abs_ints.specs.declared.cases.ShortRow.{ShortRow}
 use Rattle.abs_ints.specs.declared.cases.Way.{Way}
 use Rattle.abs_ints.specs.declared.cases.Way.TheVariants.{Taken, Next}
 use Rattle.abs_ints.specs.declared.relations.Relation.{Relation}
-use Rattle.abs_rows.specs.Accesses.{if_taken}
+use Rattle.abs_rows.specs.inner.Accesses.{if_taken}
 
 way_is : (way : Way) (left right : Option Bounds) (rows : List ShortRow) (c : IntCase) → case_between way left right rows ≡ Some c
     → c.way ≡ way

@@ -2,7 +2,7 @@
 use Rattle.std.proofs.Common.{◌≡◌, ◌∙◌, ℕ, Bool, true, false, not, if◌then◌else◌, List, [], ◌∷◌, refl, sym, ap}
 use Rattle.class_world.specs.BuiltIns.{array_store_exception}
 use Rattle.abs_rows.specs.declared.arrays.Access.TheVariants.{ItemStore}
-use Rattle.abs_rows.specs.Accesses.{access_turn, good_of, length_of}
+use Rattle.abs_rows.specs.inner.Accesses.{access_turn, good_of, length_of}
 use Rattle.abs_turns.specs.Plans.{Plan}
 use Rattle.abs_turns.specs.Turns.{Here, throws_after}
 use Rattle.abs_turns.specs.Table.{cell_here, is_null_here, length_id, access_of, aastore_plan}

@@ -9,8 +9,8 @@ ghost use Rattle.abs_turns.specs.Table.{step_if, cell_here, length_id, items_len
 ghost use Rattle.abs_turns.specs.Table.{out_of_bounds, access_at, access_of, number_load_plan, number_store_plan, aaload_plan};
 ghost use Rattle.abs_turns.specs.Table.{aastore_plan};
 ghost use Rattle.jvm_values.specs.Kinds.{least_of, greatest_of};
-ghost use Rattle.abs_rows.specs.Accesses.{inside_seen, if_taken, past_the_end, access_act, access_goal, access_turn, may_not_fit};
-ghost use Rattle.abs_rows.specs.Accesses.{good_of, length_of};
+ghost use Rattle.abs_rows.specs.inner.Accesses.{inside_seen, if_taken, past_the_end, access_act, access_goal, access_turn, may_not_fit};
+ghost use Rattle.abs_rows.specs.inner.Accesses.{good_of, length_of};
 ghost use Rattle.abs_turns.specs.PlansSeen.{act_seen, goal_seen, rows_seen, turn_seen, plan_seen};
 
 use crate::objects::{natural, throws_below_zero};

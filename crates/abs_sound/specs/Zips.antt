@@ -1,7 +1,7 @@
 -- Tests of the items of two lists, place by place.
 use Rattle.std.specs.Prelude.{Bool, true, false, ◌&&◌, List, [], ◌∷◌}
 
--- the items meet a test, and the lists are as long as one another
+-- two lists are of one length, and the items at each place meet a test
 abbrev pub all_zip : {A B : Type 0} → (A → B → Bool) → List A → List B → Bool
 all_zip test [] [] = true
 all_zip test [] (y ∷ ys) = false

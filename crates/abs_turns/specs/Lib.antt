@@ -1,11 +1,11 @@
 pub mod Plans
-pub mod Needs
-pub mod Turns
-pub mod Switches
 pub mod Table
 pub mod Throwing
+pub mod Turns
+pub mod Needs
+pub mod Switches
+pub mod GoodPlans
+pub mod Stops
+pub mod ShortRows
 pub mod OperandsSeen
 pub mod PlansSeen
-pub mod ShortRows
-pub mod Stops
-pub mod GoodPlans

@@ -8,8 +8,8 @@ use Rattle.abs_cells.specs.AbstractStates.{AbstractFrame}
 use Rattle.term_graph.specs.declared.links.LinkRow.{LinkRow}
 use Rattle.abs_heap.specs.Writing.{Write}
 
--- what a step does to ids and pairs: nothing; a fresh id has a cell; a reference is written; a fresh id stands for an item of an
--- array of references, for a new instance, or for a new array of a length
+-- what a step does to the ids of an abstract state and to its pairs: nothing; a fresh id has a cell; a reference is written; a fresh id
+-- stands for an item of an array of references, for a new instance of a class, or for a new array whose length is the int of an id
 pub data Act : Type 0 where
   nothing : Act
   makes : Cell → Act
@@ -18,8 +18,8 @@ pub data Act : Type 0 where
   object : ℕ → Act
   array : Slot → ℕ → Act
 
--- where the fresh id goes: nowhere; on the running frame's stack; into a local of it; into a local of the bottom frame, where
--- the static fields' ids follow the locals; into a field of a known id; it is thrown
+-- where the fresh id of a step goes: nowhere; on top of the running frame's stack; into a local of that frame; into a local of the bottom
+-- frame, where the ids of the static fields follow the locals; into a field of a known id; or it is the id that is thrown
 pub data Goal : Type 0 where
   nowhere : Goal
   on_stack : Goal
@@ -28,8 +28,8 @@ pub data Goal : Type 0 where
   in_field : ℕ → ℕ → Goal
   is_thrown : Goal
 
--- one step: the ids whose cells become others, as ints that are narrowed; the frames and the thrown id; what it then does; where
--- the fresh id goes; and the rows of its link, by the fresh id
+-- one step of an abstract state, which leads to one child: the ids whose cells become others, as ints that are narrowed; the frames and
+-- the thrown id after the step; what it does to ids; where the fresh id goes; and the rows of the child's link, by the fresh id
 pub record Turn : Type 0 where
   pub changed : List (ℕ × Cell)
   pub frames : List AbstractFrame
@@ -38,8 +38,9 @@ pub record Turn : Type 0 where
   pub goal : Goal
   pub rows : ℕ → List LinkRow
 
--- the run ends with the next step; or there is a child for each of these steps, in order; or the state is split, and the machine
--- makes no step: an id is null or not, it is of one class or another, two ids are one object or not
+-- what becomes of an abstract state: the run ends with the next step of the machine; or there is a child for each of these steps, in
+-- their order; or the state is split while the machine makes no step, by whether an id is null, by whether an object is of one class or
+-- another, or by whether two ids are one object
 pub data Plan : Type 0 where
   ends : Plan
   steps : List Turn → Plan
@@ -47,11 +48,11 @@ pub data Plan : Type 0 where
   by_class : ℕ → Ty → Plan
   by_equal : ℕ → ℕ → Plan
 
--- no child
+-- the plan without a child: no state of the machine fits an abstract state that has it
 abbrev pub no_child : Plan
 no_child = steps []
 
--- how many ids an act makes
+-- how many ids an act makes: an instance has one for itself and one for each of its class's fields
 abbrev pub ids_made : WorldTypes → Act → ℕ
 ids_made types nothing = 0
 ids_made types (makes cell) = 1
@@ -60,5 +61,6 @@ ids_made types (item k) = 1
 ids_made types (object class) = 1 + length (types.fields class)
 ids_made types (array slot len) = 1
 
+-- the rows of a link that says nothing of ints, whatever the fresh id is
 abbrev pub no_rows : ℕ → List LinkRow
 no_rows id = []

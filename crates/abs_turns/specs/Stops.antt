@@ -26,38 +26,42 @@ abbrev pub unless : Option Plan → Plan → Plan
 unless None plan = plan
 unless (Some stop) plan = stop
 
+-- what comes in the place of a plan: the first of two stops, if it is there, else the second
 abbrev pub or_next : Option Plan → Option Plan → Option Plan
 or_next None next = next
 or_next (Some stop) next = Some stop
 
--- for an operand that doesn't pass
+-- what an operand puts in the place of a form's plan: nothing where it passes its test, no child where it fails, and the split by null
 abbrev pub stop_of : Passing → ℕ → Option Plan
 stop_of passes id = None
 stop_of fails id = Some no_child
 stop_of splits id = Some (by_null id)
 
--- for the first of some operands that doesn't pass
+-- what the first operand that doesn't pass its test puts in the place of a form's plan, if there is such an operand
 abbrev pub first_stop : WorldTypes → AbstractState → List (PlaceType × ℕ) → Option Plan
 first_stop types state [] = None
 first_stop types state (operand ∷ operands) = or_next (stop_of (passing_id types state operand.0 operand.1) operand.1)
     (first_stop types state operands)
 
--- for null, which throws
+-- what null puts in the place of a plan: it throws NullPointerException; other references put nothing there
 abbrev pub null_stop : Here → ℕ → Option Plan
 null_stop here x = if is_null_here here x then Some (steps (throws here null_pointer_exception ∷ [])) else None
 
--- for a receiver that may be null, or is null
+-- what the receiver of a call without selection puts in the place of a plan: the split by null where it may be null, and the throw where
+-- it is null
 abbrev pub receiver_stop : Here → ℕ → Option Plan
 receiver_stop here x = if may_be_null (cell_at here.state x) then Some (by_null x) else null_stop here x
 
--- for the receiver of an access, under so many entries of the stack, which isn't of a known class
+-- what the receiver of an access, under so many entries of the stack, puts in the place of a plan: the split by null, then that by class
+-- where its class isn't known, and the throw where it is null
 abbrev pub access_stop : Here → ℕ → ℕ → Option Plan
 access_stop here depth x = if may_be_null (cell_at here.state x) then Some (by_null x) else if is_unknown (cell_at here.state x)
     then Some (split_below here.state x (place_under here depth)) else null_stop here x
 
 -- ---- parts of rows
 
--- two ids that differ, neither of which is split by null, are compared
+-- a jump by whether two references are equal, of two different ids of which it is known whether they are null: two nulls are equal, null
+-- and an object aren't, and two objects are split by whether they are one where they may be
 abbrev pub objects_plan : Here → Bool → ℕ → ℕ → ℕ → List ℕ → Plan
 objects_plan here wanted place a b stack =
     if is_null_here here a && is_null_here here b then jump_if here wanted true place stack
@@ -65,20 +69,23 @@ objects_plan here wanted place a b stack =
     else if has a b here.state.eq then by_equal a b
     else jump_if here wanted false place stack
 
--- what an int becomes in a narrowing to a kind: nothing, where it stays as it is, and else the numbers of the kind
+-- what the interval of an int becomes in a narrowing to a kind: nothing new where all its ints are of the kind, else that of all numbers
+-- of the kind
 abbrev pub narrowed_to : Kind → Bounds → Option Bounds
 narrowed_to kind a = if are_of_kind kind a then None else interval_of (least_of kind) (greatest_of kind)
 
--- a call that selects, of an interface's method or not
+-- the instruction of a call that selects its method by the receiver's class: invokeinterface or invokevirtual (JVM specification
+-- 6.5.invokeinterface, 6.5.invokevirtual)
 abbrev pub op_called : Bool → Call → Op
 op_called true call = ops.Invokeinterface call
 op_called false call = ops.Invokevirtual call
 
 -- ---- ranges
 
--- the first range with the place that takes an object, and whether one before it may
+-- the first entry of an exception table that covers the place and takes an object
 abbrev pub taker_of : WorldTypes → AbstractState → ℕ → (CatchRange → Bool) → List CatchRange → Option CatchRange
 taker_of types state x covered table = find (takes types state x) (filter covered table)
 
+-- an entry of an exception table that covers the place may take an object, before the first that takes it for sure
 abbrev pub may_of : WorldTypes → AbstractState → ℕ → (CatchRange → Bool) → List CatchRange → Bool
 may_of types state x covered table = list_any (may_take types state x) (before_taker types state x (filter covered table))

@@ -44,7 +44,14 @@ impl<'a, 'p, P: Pairs> Model for Spot<'a, 'p, P> {
 
     ghost Value = { Here };
 
-    ghost view = { λ s. record { program = program_of s.program.now; state = s.state.now; frame = s.frame.now; below = reverse s.below.now; places = (types_of s.types.now).stack; next = s.next } };
+    ghost view = { λ s. record {
+      program = program_of s.program.now;
+      state = s.state.now;
+      frame = s.frame.now;
+      below = reverse s.below.now;
+      places = (types_of s.types.now).stack;
+      next = s.next;
+    } };
 
     ghost invariant = { λ s. IsSound (world_types_of (program_of s.program.now).world) s.state.now };
 }

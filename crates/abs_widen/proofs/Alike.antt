@@ -29,7 +29,7 @@ use Rattle.abs_widen.specs.Visits.{are_alike, local_pair, some_in, local_pairs, 
 use Rattle.abs_widen.specs.Visits.{position_pairs, row_of_cells, pairs_in, pairs_below, IsPaired}
 use Rattle.abs_widen.specs.Visits.IsPaired.{placed, named}
 use Rattle.abs_widen.specs.Widening.{AreFramesAlike, AreAlike}
-use Rattle.abs_widen.specs.Visiting.{AreAsLong, ArePairCells}
+use Rattle.abs_widen.specs.inner.Visiting.{AreAsLong, ArePairCells}
 use Rattle.abs_widen.proofs.Closed.{holds_among}
 use Rattle.abs_widen.proofs.Sides.{field_cell}
 use Rattle.abs_widen.proofs.Zips.{all_reversed}

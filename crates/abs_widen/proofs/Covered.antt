@@ -27,7 +27,7 @@ use Rattle.abs_reach.specs.Instances.{image_in, IsNullOrBelow, IsOver, HasIdShap
 use Rattle.abs_widen.specs.Rows.{Row, ints, nulls, instances, numbers, arrays, unlike, interval_in, fields_in, length_in, array_in}
 use Rattle.abs_widen.specs.Rows.{row_of, pairs_of, worse, IsShapeOf, IsWorseShape}
 use Rattle.abs_widen.specs.Visits.{is_among, row_of_cells}
-use Rattle.abs_widen.specs.Visiting.{AreCellsOf}
+use Rattle.abs_widen.specs.inner.Visiting.{AreCellsOf}
 use Rattle.abs_widen.specs.Widening.{number_of, IsTypeOver, IsHazed, IsWidenedInt, IsMergedArray, IsRowCell, IsCellUnless}
 use Rattle.abs_widen.specs.Widening.{IsMergedCell, is_known_row, is_known_pair, clashes_with, clashes}
 use Rattle.abs_widen.proofs.Alike.{length_cell, array_cell}

@@ -1,7 +1,7 @@
 -- The frames of a widening, from the code's lists, which have a stack's bottom and the bottom frame first.
 use Rattle.std.proofs.Common.{◌≡◌, ◌∙◌, ℕ, List, map, zip, reverse, Option, ap}
 use Rattle.abs_cells.specs.AbstractStates.{AbstractFrame, AbstractState}
-use Rattle.abs_widen.specs.Visiting.{AreAsLong}
+use Rattle.abs_widen.specs.inner.Visiting.{AreAsLong}
 use Rattle.abs_widen.specs.Widening.{number_of, merged_locals, merged_frame}
 use Rattle.abs_widen.proofs.Zips.{mapped_reversed}
 

@@ -3,7 +3,7 @@ use Rattle.std.proofs.Common.{◌≡◌, ◌⊎◌, ℕ, ◌+◌, ◌<◌, ◌�
 use Rattle.std.proofs.lemmas.Bool.{or_cases, or_left, or_right, and_parts, and_from, eqb-true, false≢true, cases_eq, cases_lt}
 use Rattle.abs_cells.specs.PairLists.{pair_of, is_same, IsRising, has, added}
 use Rattle.abs_cells.proofs.PackedLaws.{has_with}
-use Rattle.abs_widen.specs.Pairing.{IsPast, AreJoinedTo, AreJoined, IsPut}
+use Rattle.abs_widen.specs.inner.Pairing.{IsPast, AreJoinedTo, AreJoined, IsPut}
 
 -- two unordered pairs whose lower numbers are known
 same_ordered : (i j m n : ℕ) → i < j → m < n → is_same (pair_of i j) (pair_of m n) ≡ true → (i ≡ m) × (j ≡ n)

@@ -24,7 +24,7 @@ use Rattle.abs_reach.proofs.Dropped.{any_stands, any_reversed, any_flat}
 use Rattle.abs_reach.proofs.Walks.{named_has_cell}
 use Rattle.abs_widen.specs.Rows.{Row, pairs_of}
 use Rattle.abs_widen.specs.Visits.{is_among, pairs_in}
-use Rattle.abs_widen.specs.Visiting.{AreAsLong, AreCellsOf}
+use Rattle.abs_widen.specs.inner.Visiting.{AreAsLong, AreCellsOf}
 use Rattle.abs_widen.specs.Widening.{AreAlike, IsMergedCell, IsWidening}
 use Rattle.abs_widen.proofs.Alike.{sound_at, paired_cells, all_as_long}
 use Rattle.abs_widen.proofs.Closed.{among_at, below_among, among_paired}

@@ -14,7 +14,7 @@ use Rattle.jvm_values.proofs.Options.{some_is}
 use Rattle.abs_cells.specs.AbstractStates.{AbstractFrame, AbstractState}
 use Rattle.abs_reach.specs.Instances.{Place, local, entry, frame_at, id_at, FrameHead, head_of, is_thrown}
 use Rattle.abs_widen.specs.Visits.{is_among, are_alike, local_pair, some_in, local_pairs, frame_pairs, frames_pairs, thrown_pair, ArePairs}
-use Rattle.abs_widen.specs.Visiting.{AreAsLong}
+use Rattle.abs_widen.specs.inner.Visiting.{AreAsLong}
 use Rattle.abs_widen.specs.Widening.{number_of, merged_locals, merged_frame, merged_frames, AreFramesAlike}
 use Rattle.abs_widen.proofs.Closed.{among_front, among_back, among_first, positions_among, among_at}
 use Rattle.abs_widen.proofs.Zips.{zip_reversed, all_reversed}

@@ -10,7 +10,7 @@ use Rattle.abs_cells.specs.declared.cells.Cell.TheVariants.{Int, Null, Obj, Nums
 use Rattle.abs_cells.specs.AbstractStates.{AbstractState}
 use Rattle.abs_cells.specs.Sound.{IsSoundCell, IsOfSlot}
 use Rattle.abs_widen.specs.Rows.{fields_in}
-use Rattle.abs_widen.specs.Visiting.{AreCellsOf}
+use Rattle.abs_widen.specs.inner.Visiting.{AreCellsOf}
 
 -- an instance of the class
 pub field_cell : (class : ℕ) (q : Cell) (more : List ℕ) → fields_in class q ≡ Some more → q ≡ Obj class more

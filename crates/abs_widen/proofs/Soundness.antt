@@ -27,7 +27,7 @@ use Rattle.abs_reach.specs.Instances.{is_no_int}
 use Rattle.abs_reach.specs.Reached.{positions}
 use Rattle.abs_reach.proofs.Finding.{stands}
 use Rattle.abs_widen.specs.Rows.{bound_below, bound_above, widened_lo, widened_hi}
-use Rattle.abs_widen.specs.Visiting.{AreCellsOf}
+use Rattle.abs_widen.specs.inner.Visiting.{AreCellsOf}
 use Rattle.abs_widen.specs.Widening.{number_of, merged_frame, merged_frames, AreFramesAlike, AreAlike, IsTypeOver, IsWidening}
 use Rattle.abs_widen.specs.Laws.{WideningsAreSound}
 use Rattle.abs_widen.proofs.Closed.{among_at, number_at}

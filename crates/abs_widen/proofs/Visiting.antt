@@ -13,7 +13,7 @@ use Rattle.abs_widen.specs.Visits.{frames_pairs, some_in, thrown_pair}
 use Rattle.abs_widen.specs.Visits.Visits.{ends, again, first}
 use Rattle.abs_widen.specs.Visits.IsPaired.{placed, named}
 use Rattle.abs_widen.proofs.Zips.{zip_more}
-use Rattle.abs_widen.specs.Visiting.{Continues, IsNext, IsLeft, IsLeftOf, IsWithRest, AreMet, AreFew, ArePaired}
+use Rattle.abs_widen.specs.inner.Visiting.{Continues, IsNext, IsLeft, IsLeftOf, IsWithRest, AreMet, AreFew, ArePaired}
 
 -- ---- lists
 

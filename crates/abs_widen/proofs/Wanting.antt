@@ -9,7 +9,7 @@ use Rattle.abs_cells.specs.declared.cells.Cell.{Cell}
 use Rattle.abs_cells.specs.AbstractStates.{AbstractState}
 use Rattle.abs_cells.specs.PairLists.{added}
 use Rattle.abs_cells.specs.Cells.{cell_in}
-use Rattle.abs_widen.specs.Pairing.{may_join_cells, IsPairedAs, AreOne, MayJoinAt, WantsOne, WantsShare, IsPut}
+use Rattle.abs_widen.specs.inner.Pairing.{may_join_cells, IsPairedAs, AreOne, MayJoinAt, WantsOne, WantsShare, IsPut}
 
 -- a pair is put among others where a test says that it is wanted
 pub put_is : (wants : ℕ → ℕ → Type 0) (m n : ℕ) (w : Bool) (old new : List (ℕ × ℕ)) → (IsTrue w ↔ wants m n)

@@ -22,10 +22,10 @@ use Rattle.abs_reach.proofs.Finding.{stands}
 use Rattle.abs_widen.specs.Rows.{Row, ints, nulls, instances, numbers, arrays, unlike, pairs_of}
 use Rattle.abs_widen.specs.Visits.{is_among, local_pair, some_in, local_pairs, frame_pairs, frames_pairs, thrown_pair}
 use Rattle.abs_widen.specs.Visits.{position_pairs, pairs_in, pairs_below, ArePairs}
-use Rattle.abs_widen.specs.Visiting.{AreAsLong}
+use Rattle.abs_widen.specs.inner.Visiting.{AreAsLong}
 use Rattle.abs_widen.specs.Widening.{number_of, merged_locals, merged_frame, merged_frames, IsRowCell, IsCellUnless, IsMergedCell}
 use Rattle.abs_widen.specs.Widening.{IsMerged, clashes}
-use Rattle.abs_widen.specs.Pairing.{may_join_cells, AreJoined, AreNumbered}
+use Rattle.abs_widen.specs.inner.Pairing.{may_join_cells, AreJoined, AreNumbered}
 use Rattle.abs_widen.proofs.Closed.{among_front, among_back, among_either, number_low, among_at, positions_among, below_among}
 use Rattle.abs_widen.proofs.Rising.{never_itself}
 use Rattle.abs_widen.proofs.Zips.{zip_reversed}

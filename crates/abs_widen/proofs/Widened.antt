@@ -18,11 +18,11 @@ use Rattle.abs_cells.proofs.PairLaws.{has_swapped}
 use Rattle.abs_reach.specs.Reached.{IsDropped}
 use Rattle.abs_reach.specs.Instances.{MayBeOne}
 use Rattle.abs_widen.specs.Visits.{thrown_pair, ArePairs}
-use Rattle.abs_widen.specs.Visiting.{ArePairCells}
+use Rattle.abs_widen.specs.inner.Visiting.{ArePairCells}
 use Rattle.abs_widen.specs.Widening.{number_of, merged_frames, AreMergedCells, MayJoin, OnOneSide, MustShare, without_pairs}
 use Rattle.abs_widen.specs.Widening.{IsMerged, IsWidening}
-use Rattle.abs_widen.specs.Pairing.{may_join_cells, IsPairedBy, IsPairedAs, AreOne, MayJoinAt, WantsOne, WantsShare, IsWithin}
-use Rattle.abs_widen.specs.Pairing.{AreJoined, IsPaired}
+use Rattle.abs_widen.specs.inner.Pairing.{may_join_cells, IsPairedBy, IsPairedAs, AreOne, MayJoinAt, WantsOne, WantsShare, IsWithin}
+use Rattle.abs_widen.specs.inner.Pairing.{AreJoined, IsPaired}
 use Rattle.abs_widen.proofs.Whole.{in_order, may_join_parts}
 
 -- ---- what holds of two ids holds of them turned

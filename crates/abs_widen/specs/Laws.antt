@@ -12,7 +12,7 @@ use Rattle.abs_widen.specs.Widening.{AreAlike, IsWidening}
 abbrev pub IsInstance : WorldTypes → AbstractState → AbstractState → Type 0
 IsInstance types state target = (entries : List (ℕ × ℕ)) × InstanceOf types.sub state target entries
 
--- no id is a pair with itself: pairs join different ids
+-- no id is a pair with itself: pairs have two different ids
 abbrev pub AreProper : AbstractState → Type 0
 AreProper state = (id : ℕ) → AreEqual state id id → ⊥
 

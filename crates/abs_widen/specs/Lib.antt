@@ -1,6 +1,5 @@
-pub mod Rows
-pub mod Visits
 pub mod Widening
 pub mod Laws
-pub mod Visiting
-pub mod Pairing
+pub mod Visits
+pub mod Rows
+pub mod inner

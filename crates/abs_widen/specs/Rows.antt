@@ -18,7 +18,7 @@ use Rattle.abs_cells.specs.Closures.{IsFiniteId, IsTreeId}
 
 -- The bounds that a widening gives: the least int and the one above it, 0, the greatest int and the one below it.
 
--- the greatest of them that is at most an int
+-- the greatest of these bounds that is at most an int
 abbrev pub bound_below : ℤ → ℤ
 bound_below n =
     if int_le (pos 2147483647) n then pos 2147483647
@@ -27,7 +27,7 @@ bound_below n =
     else if int_le (negsuc 2147483646) n then negsuc 2147483646
     else negsuc 2147483647
 
--- the least of them that is at least an int
+-- the least of these bounds that is at least an int
 abbrev pub bound_above : ℤ → ℤ
 bound_above n =
     if int_le n (negsuc 2147483647) then negsuc 2147483647
@@ -36,17 +36,21 @@ bound_above n =
     else if int_le n (pos 2147483646) then pos 2147483646
     else pos 2147483647
 
--- the old bound stays unless the new one is past it
+-- the widened lower bound: the old one where the new one is not below it, else the greatest of these bounds that is at most the
+-- new one
 abbrev pub widened_lo : ℤ → ℤ → ℤ
 widened_lo old new = if int_le old new then old else bound_below new
 
+-- the widened upper bound: the old one where the new one is not above it, else the least of these bounds that is at least the
+-- new one
 abbrev pub widened_hi : ℤ → ℤ → ℤ
 widened_hi old new = if int_le new old then old else bound_above new
 
 -- ---- rows
 
--- two ints, two nulls, two instances of one class with their ids, two arrays of numbers of one kind with their lengths' ids,
--- two arrays of references with their element types and lengths' ids, or any other two
+-- what two cells have in common: both are ints, both are null, both are instances of one class, with their ids, both are
+-- arrays of numbers of one kind, with their lengths' ids, both are arrays of references, with their element types and lengths'
+-- ids, or they are any other two
 pub data Row : Type 0 where
   ints : Interval → Interval → Row
   nulls : Row
@@ -55,7 +59,7 @@ pub data Row : Type 0 where
   arrays : Ty → Ty → ℕ → ℕ → Row
   unlike : Row
 
--- an int's interval
+-- the interval of an int, if a cell is one
 abbrev pub interval_in : Cell → Option Interval
 interval_in (Int i) = Some i
 interval_in Null = None
@@ -64,7 +68,7 @@ interval_in (Nums kind len) = None
 interval_in (Refs element len shape) = None
 interval_in (Unk bound nullable shape) = None
 
--- the ids of an instance of a class
+-- the ids of the fields of an instance, if a cell is one of this class
 abbrev pub fields_in : ℕ → Cell → Option (List ℕ)
 fields_in class (Int i) = None
 fields_in class Null = None
@@ -73,7 +77,7 @@ fields_in class (Nums kind len) = None
 fields_in class (Refs element len shape) = None
 fields_in class (Unk bound nullable shape) = None
 
--- the length's id of an array of numbers of a kind
+-- the id of the length of an array of numbers, if a cell is one of this kind
 abbrev pub length_in : Kind → Cell → Option ℕ
 length_in kind (Int i) = None
 length_in kind Null = None
@@ -82,7 +86,7 @@ length_in kind (Nums other len) = if kind_code kind == kind_code other then Some
 length_in kind (Refs element len shape) = None
 length_in kind (Unk bound nullable shape) = None
 
--- the element type and the length's id of an array of references
+-- the element type and the length's id of an array of references, if a cell is one
 abbrev pub array_in : Cell → Option (Ty × ℕ)
 array_in (Int i) = None
 array_in Null = None
@@ -91,7 +95,7 @@ array_in (Nums kind len) = None
 array_in (Refs element len shape) = Some (element, len)
 array_in (Unk bound nullable shape) = None
 
--- the row of two cells
+-- what two cells have in common, as a row
 abbrev pub row_of : Cell → Cell → Row
 row_of (Int i) q = option_map_or (λ j. ints i j) (interval_in q) unlike
 row_of Null q = if is_null q then nulls else unlike
@@ -109,7 +113,7 @@ pairs_of (numbers kind len more) = (len, more) ∷ []
 pairs_of (arrays element other len more) = (len, more) ∷ []
 pairs_of unlike = []
 
--- two cells of the row become one whose class or kind is known
+-- two cells of a row become one whose class or kind is known
 abbrev pub gives_known : Row → Bool
 gives_known (ints i j) = false
 gives_known nulls = false

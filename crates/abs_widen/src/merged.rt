@@ -8,7 +8,7 @@ ghost use Rattle.abs_cells.specs.Cells.{is_null};
 ghost use Rattle.abs_cells.specs.Limits.{most_ids};
 ghost use Rattle.abs_widen.specs.Rows.{row_of, unlike};
 ghost use Rattle.abs_widen.specs.Widening.{IsRowCell, IsMergedCell, AreMergedCells};
-ghost use Rattle.abs_widen.specs.Visiting.{AreCellsOf, ArePairCells};
+ghost use Rattle.abs_widen.specs.inner.Visiting.{AreCellsOf, ArePairCells};
 
 use crate::cells::{array_cell, hazed, instance_cell, int_cell, numbers_cell};
 use crate::clashes::clashes;

@@ -6,7 +6,7 @@ ghost use Rattle.abs_cells.specs.PairLists.{is_same};
 ghost use Rattle.abs_cells.specs.Sound.{IsWellFormed};
 ghost use Rattle.abs_cells.specs.Limits.{most_ids};
 ghost use Rattle.abs_widen.specs.Widening.{number_of, merged_locals, merged_frame, merged_frames};
-ghost use Rattle.abs_widen.specs.Visiting.{AreAsLong};
+ghost use Rattle.abs_widen.specs.inner.Visiting.{AreAsLong};
 
 use crate::positions::local_pair;
 use abs_cells::{AbsFrame, AbsState, Id, Pairs};

@@ -8,8 +8,8 @@ ghost use Rattle.abs_cells.specs.Closures.{MayMeet, MayBeIn};
 ghost use Rattle.abs_cells.specs.Sound.{AreIdsRising, IsWellFormed};
 ghost use Rattle.abs_cells.specs.Limits.{most_ids};
 ghost use Rattle.abs_reach.specs.Instances.{MayBeOne};
-ghost use Rattle.abs_widen.specs.Pairing.{IsWithin, AreOne, may_join_cells, IsPairedAs, WantsOne, WantsShare, IsPut, AreJoinedTo};
-ghost use Rattle.abs_widen.specs.Pairing.{AreJoined};
+ghost use Rattle.abs_widen.specs.inner.Pairing.{IsWithin, AreOne, may_join_cells, IsPairedAs, WantsOne, WantsShare, IsPut, AreJoinedTo};
+ghost use Rattle.abs_widen.specs.inner.Pairing.{AreJoined};
 
 use abs_cells::{AbsState, Cell, Id, Pairs};
 use abs_reach::{Marks, cell_of, has_reference, may_be_in, may_meet};

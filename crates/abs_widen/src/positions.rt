@@ -5,7 +5,7 @@ ghost use Rattle.abs_cells.specs.Sound.{IsWellFormed};
 ghost use Rattle.abs_widen.specs.declared.fault.WidenFault.TheVariants.{TooManyIds};
 ghost use Rattle.abs_widen.specs.Visits.{AreTooMany, are_alike, local_pair, local_pairs, frame_pairs, frames_pairs, thrown_pair};
 ghost use Rattle.abs_widen.specs.Visits.{some_in, ArePairs};
-ghost use Rattle.abs_widen.specs.Visiting.{Continues, AreAsLong, AreFew, ArePaired};
+ghost use Rattle.abs_widen.specs.inner.Visiting.{Continues, AreAsLong, AreFew, ArePaired};
 
 use crate::fault::WidenFault;
 use crate::visits::visit;

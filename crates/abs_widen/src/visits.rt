@@ -3,7 +3,7 @@ ghost use Rattle.std.specs.Prelude.{◌≡◌, ◌<◌, ◌++◌, ◌∷◌, [],
 ghost use Rattle.abs_cells.specs.Sound.{IsWellFormed};
 ghost use Rattle.abs_widen.specs.declared.fault.WidenFault.TheVariants.{TooManyIds};
 ghost use Rattle.abs_widen.specs.Visits.{is_among, Visits, AreTooMany, IsPaired, pairs_below};
-ghost use Rattle.abs_widen.specs.Visiting.{Continues, IsNextOf, AreFew, ArePaired};
+ghost use Rattle.abs_widen.specs.inner.Visiting.{Continues, IsNextOf, AreFew, ArePaired};
 
 use crate::fault::WidenFault;
 use crate::rows::{Todo, push_named, push_pair};

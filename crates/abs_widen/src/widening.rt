@@ -6,8 +6,8 @@ ghost use Rattle.abs_cells.specs.Sound.{IsWellFormed, IsSound};
 ghost use Rattle.abs_cells.specs.Limits.{most_ids};
 ghost use Rattle.abs_widen.specs.declared.fault.WidenFault.TheVariants.{TooManyIds};
 ghost use Rattle.abs_widen.specs.Visits.{AreTooMany};
-ghost use Rattle.abs_widen.specs.Visiting.{AreAsLong, ArePairCells};
-ghost use Rattle.abs_widen.specs.Pairing.{IsWithin, IsPaired};
+ghost use Rattle.abs_widen.specs.inner.Visiting.{AreAsLong, ArePairCells};
+ghost use Rattle.abs_widen.specs.inner.Pairing.{IsWithin, IsPaired};
 ghost use Rattle.abs_widen.specs.Widening.{AreAlike, IsMerged, IsWidening};
 ghost use Rattle.abs_widen.specs.Laws.{IsInstance};
 

@@ -3,10 +3,11 @@ use Rattle.std.specs.Prelude.{Option}
 use Rattle.asm_lines.specs.declared.listing.CodeLine.{CodeLine}
 use Rattle.asm_codes.specs.declared.pooled.PoolOperand.{PoolOperand}
 
--- the line, and what it names; none where that breaks a rule, or has no room in the pool
+-- a line of a method, and what it names in the pool; none where that breaks a rule or has no room in the pool
 pub record Pooled : Type 0 where
   pub code : CodeLine
   pub need : Option PoolOperand
 
+-- a line of a method together with what it names in the pool
 abbrev pub pooled_line : CodeLine → Option PoolOperand → Pooled
 pooled_line code need = record { code = code; need = need }

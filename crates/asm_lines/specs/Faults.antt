@@ -5,6 +5,7 @@ use Rattle.asm_lines.specs.declared.fault.AsmFault.{AsmFault}
 use Rattle.asm_lines.specs.declared.fault.AsmFault.TheVariants.{Syntax, UnknownOpcode, UnknownLabel, DuplicateLabel, OutOfRange}
 use Rattle.asm_lines.specs.declared.fault.AsmFault.TheVariants.{NoEnd, Memory}
 
+-- the name of a fault of a listing, the first word of its text
 abbrev pub fault_name : AsmFault → List ℕ
 fault_name (Syntax line) = codes "Syntax"
 fault_name (UnknownOpcode line) = codes "UnknownOpcode"
@@ -14,6 +15,7 @@ fault_name (OutOfRange line) = codes "OutOfRange"
 fault_name (NoEnd line) = codes "NoEnd"
 fault_name Memory = codes "Memory"
 
+-- what a fault of a listing says besides its name: the line that it is about
 abbrev pub fault_fields : AsmFault → List ℕ
 fault_fields (Syntax line) = number_field (codes "line") line
 fault_fields (UnknownOpcode line) = number_field (codes "line") line
@@ -23,6 +25,6 @@ fault_fields (OutOfRange line) = number_field (codes "line") line
 fault_fields (NoEnd line) = number_field (codes "line") line
 fault_fields Memory = []
 
--- the name, and then the line
+-- the text of a fault of a listing: its name, and then the line
 abbrev pub fault_text : AsmFault → List ℕ
 fault_text fault = joined (fault_name fault ∷ fault_fields fault ∷ [])

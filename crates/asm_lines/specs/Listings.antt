@@ -22,13 +22,14 @@ use Rattle.asm_lines.specs.ClassLines.{class_line}
 use Rattle.asm_lines.specs.Operations.{all_names}
 use Rattle.asm_lines.specs.Items.{Names, label_of, item_of}
 
--- A line without words, and one whose first word is `#`, say nothing.
+-- a line says nothing: it has no words, or its first word is `#`
 abbrev pub is_skipped : Words → Bool
 is_skipped [] = true
 is_skipped (word ∷ words) = bytes_eq word (codes "#")
 
 -- ---- outside methods
 
+-- what a line outside methods says, by its first word: a constant, a field, an attribute of the class, or the beginning of a method
 unfoldable pub outside_of : ℕ → Words → Said Outside
 outside_of line [] = Err (Syntax line)
 outside_of line (word ∷ words) =
@@ -38,66 +39,75 @@ outside_of line (word ∷ words) =
     else (if bytes_eq word (codes "method") then (method_line line words >>= λ x. Ok (Method x))
     else Err (Syntax line))))
 
+-- a method of the listing: the number of its first line, what that line says, and the lines of its code
 abbrev pub make_method : ℕ → MethodLine → List CodeLine → MethodLines
 make_method line head lines = record { line = line; head = head; lines = lines }
 
--- A method with code is open up to its end.
+-- the listing and one more method, which is open up to its `end` where it has code
 abbrev pub with_method : Listing → MethodLines → Listing
 with_method listing method =
     if is_some method.head.sizes then record listing { unended = Some method }
     else record listing { methods = listing.methods ++ method ∷ [] }
 
+-- the listing and what one more line outside methods says
 abbrev pub with_outside : Listing → ℕ → Outside → Listing
 with_outside listing line (Constant x) = record listing { constants = listing.constants ++ (line, x) ∷ [] }
 with_outside listing line (Field x) = record listing { fields = listing.fields ++ (line, x) ∷ [] }
 with_outside listing line (Attribute x) = record listing { attributes = listing.attributes ++ (line, x) ∷ [] }
 with_outside listing line (Method head) = with_method listing (make_method line head [])
 
+-- the listing and one more fault of it, of which the first is kept
 abbrev pub with_first : Listing → AsmFault → Listing
 with_first listing fault = record listing { first = record { fault = with_fault listing.first.fault fault } }
 
+-- the listing and one more line outside methods, which says something or is faulty
 abbrev pub outside_line : Listing → ℕ → Said Outside → Listing
 outside_line listing line (Ok said) = with_outside listing line said
 outside_line listing line (Err fault) = with_first listing fault
 
 -- ---- in a method
 
--- the label that stands first, and the words behind it
+-- the label that stands first on a line, if one does, and the words behind it
 abbrev pub labelled : Words → Option (List ℕ) × Words
 labelled [] = (None, [])
 labelled (word ∷ words) = option_map_or (λ label. (Some label, words)) (label_of word) (None, word ∷ words)
 
--- `end` ends the method, also where more is wrong with its line
+-- a line behind its label begins with `end`, which ends the method, also where more is wrong with the line
 abbrev pub is_end : Words → Bool
 is_end [] = false
 is_end (word ∷ words) = bytes_eq word (codes "end")
 
--- A line with another byte than printable ASCII and spaces says nothing.
+-- what a line of a method says; one with another byte than printable ASCII and spaces is faulty
 abbrev pub read_item : Names → ℕ → Bool → Bool → Words → Said Item
 read_item names line true has_label words = item_of names line has_label words
 read_item names line false has_label words = Err (Syntax line)
 
+-- what a line of a method says, which is nothing where the line is faulty
 abbrev pub item_in : Said Item → Item
 item_in (Ok item) = item
 item_in (Err fault) = items.Nothing
 
+-- a line of a method's code: its number, its label, what it says, and whether it ends the method
 abbrev pub make_code_line : ℕ → Option (List ℕ) → Item → Bool → CodeLine
 make_code_line line label item ends = record { line = line; label = label; item = item; ends = ends }
 
--- Of a faulty line the label is read, and whether it ends the method.
+-- a line of a method's code by its label and its words; of a faulty line the label is kept, and whether it ends the method
 abbrev pub code_line : ℕ → Option (List ℕ) × Words → Said Item → CodeLine
 code_line line words said = make_code_line line words.0 (item_in said) (is_end words.1)
 
+-- the listing and one more line of the method that is open, which the line may end
 abbrev pub with_code : Listing → MethodLines → CodeLine → Listing
 with_code listing method code =
     let longer = make_method method.line method.head (method.lines ++ code ∷ []) in
     if code.ends then record listing { methods = listing.methods ++ longer ∷ []; unended = None }
     else record listing { unended = Some longer }
 
+-- the listing and the fault of one more line, if that is faulty
 abbrev pub with_said : Listing → Said Item → Listing
 with_said listing (Ok item) = listing
 with_said listing (Err fault) = with_first listing fault
 
+-- the listing and one more line of the method that is open
 abbrev pub method_of_line : Names → Listing → MethodLines → ℕ → Bool → Option (List ℕ) × Words → Listing
 method_of_line names listing method line is_good words =
     let said = read_item names line is_good (is_some words.0) words.1 in
@@ -105,11 +115,12 @@ method_of_line names listing method line is_good words =
 
 -- ---- all lines
 
+-- what a line outside methods says; one with another byte than printable ASCII and spaces is faulty
 abbrev pub plain_outside : ℕ → Bool → Words → Said Outside
 plain_outside line true words = outside_of line words
 plain_outside line false words = Err (Syntax line)
 
--- one more line
+-- the listing and one more line, which is skipped, belongs to the method that is open, or stands outside methods
 abbrev pub with_line : Names → ℕ → List ℕ → Listing → Listing
 with_line names line text listing =
     if is_plain text && is_skipped (words_of text) then listing
@@ -117,22 +128,26 @@ with_line names line text listing =
     (labelled (words_of text))) listing.unended
     (outside_line listing line (plain_outside line (is_plain text) (words_of text)))
 
+-- the listing and more lines, the first of which has the given number
 abbrev pub with_lines : Names → ℕ → List (List ℕ) → Listing → Listing
 with_lines names line [] listing = listing
 with_lines names line (text ∷ texts) listing = with_lines names (line + 1) texts (with_line names line text listing)
 
+-- the listing behind the line that begins it, before any other line
 abbrev pub no_lines : Listing
 no_lines = record { constants = []; fields = []; methods = []; attributes = []; unended = None; first = record { fault = None } }
 
--- Behind the last line every method is ended; one that isn't is a fault of that line.
+-- a listing whose last line is over while a method is open: it ends that method, and it is a NoEnd of that line
 abbrev pub with_unended : Listing → MethodLines → ℕ → Listing
 with_unended listing method last = with_first (record listing { methods = listing.methods ++ method ∷ []; unended = None }) (NoEnd last)
 
+-- the listing behind its last line: a method that is still open is ended there, with a fault
 abbrev pub ended : Listing → ℕ → Listing
 ended listing last = option_map_or (λ method. with_unended listing method last) listing.unended listing
 
 -- ---- the line that begins the listing
 
+-- what the line that begins a listing says; a line whose first word isn't `class` begins none
 unfoldable pub class_said : ℕ → Words → Said ClassLine
 class_said line [] = Err (Syntax line)
 class_said line (word ∷ words) = if bytes_eq word (codes "class") then class_line line words else Err (Syntax line)
@@ -148,7 +163,7 @@ first_line line (text ∷ texts) =
 
 -- ---- a listing
 
--- The line that begins it, its number, and all lines behind it.
+-- what the lines of a listing say: the number of the line that begins it, what that line says, and all lines behind it
 abbrev pub lines_said : Names → List (List ℕ) → Said (ℕ × ClassLine × Listing)
 lines_said names lines =
     first_line 1 lines >>= λ begin. Ok (
@@ -158,5 +173,6 @@ lines_said names lines =
           (length lines),
     )
 
+-- what the text of a listing says, with the names of all instructions
 unfoldable pub listing_of : List ℕ → Said (ℕ × ClassLine × Listing)
 listing_of text = lines_said all_names (lines_of text)

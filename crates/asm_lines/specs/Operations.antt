@@ -20,7 +20,7 @@ use Rattle.asm_lines.specs.Statements.{Said, Words, next_word, no_more, number_w
 
 -- ---- names
 
--- the instructions that are in none of the tables by operands
+-- the instruction of the opcode, with zeros as operands, where it is the only one whose operands have that form
 abbrev pub single : ℕ → Option Insn
 single op =
     if op == 16 then Some (insns.Bipush (pos 0))
@@ -32,18 +32,20 @@ single op =
     else (if op == 188 then Some (insns.Newarray 0)
     else (if op == 200 then Some (insns.GotoW 0) else None)))))))
 
+-- the instruction of the opcode from a table of families of instructions, with zero as its operand
 abbrev pub made : List (ℕ → Insn) → ℕ → Option Insn
 made table op = option_map (λ make. make 0) (find_by table op)
 
--- an instruction of the opcode, with zeros as operands
+-- the instruction of the opcode, with zeros as operands; none where listings have no such instruction
 abbrev pub template : ℕ → Option Insn
 template op = option_or (plain op)
     (option_or (made with_byte op) (option_or (made with_pair op) (option_or (made with_jump op) (single op))))
 
+-- the opcode and the name of its instruction, none where listings have no such instruction
 abbrev pub named : ℕ → List (List ℕ × ℕ)
 named op = option_map_or (λ insn. (name_of insn, op) ∷ []) (template op) []
 
--- the names of the instructions below an opcode
+-- the names of the instructions whose opcodes are below this one
 abbrev pub names_below : ℕ → List (List ℕ × ℕ)
 names_below zero = []
 names_below (suc op) = names_below op ++ named op
@@ -52,14 +54,14 @@ names_below (suc op) = names_below op ++ named op
 abbrev pub all_names : List (List ℕ × ℕ)
 all_names = names_below 201
 
--- the opcode of a name
+-- the opcode of an instruction by its name
 abbrev pub opcode_in : List (List ℕ × ℕ) → List ℕ → Option ℕ
 opcode_in [] word = None
 opcode_in (entry ∷ names) word = if bytes_eq entry.0 word then Some entry.1 else opcode_in names word
 
 -- ---- operands
 
--- the code of an element type (JVM specification, section 6.5, newarray)
+-- the code of an element type by its name (JVM specification, 6.5.newarray)
 abbrev pub kind_code : List ℕ → Option ℕ
 kind_code word =
     if bytes_eq word (codes "boolean") then Some 4
@@ -71,16 +73,17 @@ kind_code word =
     else (if bytes_eq word (codes "int") then Some 10
     else (if bytes_eq word (codes "long") then Some 11 else None)))))))
 
--- the one number that is left
+-- the one number that is left on the line
 unfoldable pub one_number : ℕ → Words → Said Number
 one_number line words = one_word line words >>= number_word line
 
--- `int N` or `string WORD`
+-- what a constant that is loaded says: `int N` or `string WORD`
 unfoldable pub load_value : ℕ → ℕ → List ℕ → List ℕ → Said Operation
 load_value line op kind value =
     if bytes_eq kind (codes "int") then (number_word line value >>= λ n. Ok (LoadInt op n))
     else (if bytes_eq kind (codes "string") then Ok (LoadString op value) else Err (Syntax line))
 
+-- the operands of ldc and ldc_w: `int N` or `string WORD`
 unfoldable pub load_operation : ℕ → ℕ → Words → Said Operation
 load_operation line op words = do
   kind ← next_word line words
@@ -88,7 +91,7 @@ load_operation line op words = do
   _ ← no_more line value.1
   load_value line op kind.0 value.0
 
--- `CLASS NAME DESC`
+-- the operands of an instruction on a field or a method: `CLASS NAME DESC`
 unfoldable pub member_operation : ℕ → ℕ → Words → Said Operation
 member_operation line op words = do
   class ← next_word line words
@@ -97,7 +100,7 @@ member_operation line op words = do
   _ ← no_more line desc.1
   Ok (Member op class.0 name.0 desc.0)
 
--- a local and the number that is added
+-- the operands of iinc: a local and the number that is added to it
 unfoldable pub increment_operation : ℕ → Words → Said Operation
 increment_operation line words = do
   local ← next_word line words
@@ -107,11 +110,12 @@ increment_operation line words = do
   m ← number_word line value.0
   Ok (Iinc n m)
 
+-- the labels that are left on the line, at least one
 abbrev pub some_labels : ℕ → Words → Said Words
 some_labels line [] = Err (Syntax line)
 some_labels line (label ∷ labels) = Ok (label ∷ labels)
 
--- `LOW DEFAULT LABEL ..`, with at least one label
+-- the operands of tableswitch: `LOW DEFAULT LABEL ..`, with at least one label
 unfoldable pub table_operation : ℕ → Words → Said Operation
 table_operation line words = do
   low ← next_word line words
@@ -120,37 +124,41 @@ table_operation line words = do
   n ← number_word line low.0
   Ok (Tableswitch n default.0 labels)
 
--- `KEY LABEL ..`
+-- the cases of a lookupswitch: `KEY LABEL ..`
 abbrev pub cases_of : ℕ → Words → Said (List (Number × List ℕ))
 cases_of line [] = Ok []
 cases_of line (key ∷ []) = Err (Syntax line)
 cases_of line (key ∷ label ∷ words) = number_word line key >>= λ n. cases_of line words >>= λ cases. Ok ((n, label) ∷ cases)
 
--- `DEFAULT KEY LABEL ..`
+-- the operands of lookupswitch: `DEFAULT KEY LABEL ..`
 unfoldable pub lookup_operation : ℕ → Words → Said Operation
 lookup_operation line words = do
   default ← next_word line words
   cases ← cases_of line default.1
   Ok (Lookupswitch default.0 cases)
 
+-- the operand of newarray: the name of an element type
 unfoldable pub array_operation : ℕ → Words → Said Operation
 array_operation line words = do
   kind ← one_word line words
   option_map_or (λ code. Ok (Newarray code)) (kind_code kind) (Err (Syntax line))
 
--- the operands where those of the code are one number of one byte, of two, and a target
+-- the operands of an instruction that has a number of one byte in the code: a constant for ldc, else a local
 abbrev pub byte_operands : ℕ → ℕ → Words → Said Operation
 byte_operands line op words = if op == 18 then load_operation line op words else (one_number line words >>= λ local. Ok (Local op local))
 
+-- the operands of an instruction that has a pool entry in the code: a constant for ldc_w, a member up to the opcode 184, else a
+-- class
 abbrev pub pair_operands : ℕ → ℕ → Words → Said Operation
 pair_operands line op words =
     if op == 19 then load_operation line op words
     else (if nat_le op 184 then member_operation line op words else (one_word line words >>= λ class. Ok (Class op class)))
 
+-- the operand of an instruction that has a target by two bytes in the code: a label
 abbrev pub jump_operands : ℕ → ℕ → Words → Said Operation
 jump_operands line op words = one_word line words >>= λ label. Ok (Jump op label)
 
--- the operands that are written behind an instruction of the spelling
+-- the operands that are written in a listing behind the name of an instruction of this form
 unfoldable pub operands : ℕ → Spelling → Words → Said Operation
 operands line (spellings.Plain op) words = no_more line words >>= λ _. Ok (Plain op)
 operands line (spellings.Byte op n) words = byte_operands line op words

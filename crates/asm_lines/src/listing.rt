@@ -268,7 +268,8 @@ fn code_line(
 ) -> Result<CodeLine, AllocError>
     ensures { IfOk result (λ code.
         (listing.new ≡ with_said listing.old (read_item names.now line is_plain (is_some (labelled words.now).0) (labelled words.now).1))
-        × (code ≡ code_line line (labelled words.now) (read_item names.now line is_plain (is_some (labelled words.now).0) (labelled words.now).1))) }
+        × (code ≡ code_line line (labelled words.now)
+        (read_item names.now line is_plain (is_some (labelled words.now).0) (labelled words.now).1))) }
 {
     let (label, rest) = labelled(words);
     let ends = is_end(rest);

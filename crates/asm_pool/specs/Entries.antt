@@ -6,6 +6,7 @@ use Rattle.std.specs.Str.{bytes_eq}
 use Rattle.asm_pool.specs.declared.entry.Entry.{Entry as Kept}
 use Rattle.asm_pool.specs.declared.entry.Entry.TheVariants as kept
 
+-- an entry of a constant pool by what it says: its number or bits, or the texts that the entries it names would give
 pub data Entry : Type 0 where
   Utf8 : List ℕ → Entry
   Integer : ℤ → Entry
@@ -18,7 +19,7 @@ pub data Entry : Type 0 where
   Member : ℕ → List ℕ → List ℕ → List ℕ → Entry
   NameAndType : List ℕ → List ℕ → Entry
 
--- entries that say the same
+-- two entries are of one kind and agree in all that they say
 abbrev pub same : Entry → Entry → Bool
 same (Utf8 a) (Utf8 b) = bytes_eq a b
 same (Integer a) (Integer b) = int_eq a b
@@ -31,7 +32,7 @@ same (Member t c n d) (Member u e m f) = (t == u) && (bytes_eq c e && (bytes_eq 
 same (NameAndType a b) (NameAndType c d) = bytes_eq a c && bytes_eq b d
 same _ _ = false
 
--- An entry with those that it names, which come first, in the order of its fields.
+-- an entry behind those that it names, which stand in the order of its fields
 abbrev pub with_named : Entry → List Entry
 with_named (Class name) = Utf8 name ∷ Class name ∷ []
 with_named (Str text) = Utf8 text ∷ Str text ∷ []
@@ -40,11 +41,11 @@ with_named (Member tag class name desc) =
     Utf8 class ∷ Class class ∷ Utf8 name ∷ Utf8 desc ∷ NameAndType name desc ∷ Member tag class name desc ∷ []
 with_named entry = entry ∷ []
 
--- a text whose length fits its field
+-- a text has a length that fits the two bytes of a Utf8 entry
 abbrev pub is_short : List ℕ → Bool
 is_short text = nat_lt (length text) (2 ^ 16)
 
--- It has a text in a file: its texts are short, and a member's tag is that of a Fieldref, a Methodref or an
+-- An entry has a text in a class file: its texts are short, and a member's tag is that of a Fieldref, a Methodref or an
 -- InterfaceMethodref. The numbers fit where they are made.
 abbrev pub has_text : Entry → Bool
 has_text (Utf8 text) = is_short text
@@ -54,13 +55,13 @@ has_text (Member tag class name desc) = (nat_le 9 tag && nat_le tag 11) && (is_s
 has_text (NameAndType name desc) = is_short name && is_short desc
 has_text entry = true
 
--- how many numbers it takes
+-- how many places of the pool an entry takes: two for a Long and a Double (JVM specification, section 4.4.5), else one
 abbrev pub width : Entry → ℕ
 width (Long bits) = 2
 width (Double bits) = 2
 width entry = 1
 
--- An entry that keeps parts of the listing is seen as the entry that they say.
+-- an entry that keeps parts of the listing, seen as the entry that they say
 abbrev pub seen : Kept → Entry
 seen (kept.Utf8 text) = Utf8 text.now
 seen (kept.Integer value) = Integer value

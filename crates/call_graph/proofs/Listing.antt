@@ -23,7 +23,7 @@ use Rattle.class_program.proofs.Closed.{made_within}
 use Rattle.number_graphs.specs.Graphs.{IsWay, IsOnCycle, IsLeastOnCycle}
 use Rattle.call_graph.specs.Calls.{Calls}
 use Rattle.number_graphs.specs.Lists.{Has, row_at, Edge}
-use Rattle.call_graph.specs.Listed.{method_of, class_run, class_runs, op_runs, place_runs, method_runs, rows_from, graph_of}
+use Rattle.call_graph.specs.inner.Listed.{method_of, class_run, class_runs, op_runs, place_runs, method_runs, rows_from, graph_of}
 
 -- ---- lists
 

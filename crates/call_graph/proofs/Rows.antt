@@ -20,7 +20,7 @@ use Rattle.number_graphs.specs.Lists.{Edge, Ranked}
 use Rattle.number_graphs.specs.Laws.{CyclesAreListed, FallingHasNoCycle}
 use Rattle.number_graphs.specs.declared.ranking.Ranking.{Ranking}
 use Rattle.number_graphs.specs.declared.ranking.Ranking.TheVariants.{Ranks, Cycle}
-use Rattle.call_graph.specs.Listed.{method_runs, rows_from, graph_of}
+use Rattle.call_graph.specs.inner.Listed.{method_runs, rows_from, graph_of}
 
 range_more : (a n : ℕ) → range_with_len a (suc n) ≡ range_with_len a n ++ (a + n) ∷ []
 range_more a zero = let e : a ≡ a + 0 = omega arith in ap (λ (x : ℕ). x ∷ []) e

@@ -29,7 +29,8 @@ pub record IsNameOf (p : Program) (a : ℕ) (name : MethodName) : Type 0 where
   pub name_is : name.name ≡ method.name
   pub desc_is : name.desc ≡ method.desc
 
--- No method is on a cycle of calls, or this is the name of the least one that is.
+-- What the search for recursive methods answers: that no method is on a cycle of calls, or the name of the method of the least number
+-- that is on one. Want of memory says nothing.
 abbrev pub Answers : Program → Result (Unit {0}) CallFault → Type 0
 Answers p (Ok nothing) = (a : ℕ) → IsOnCycle (Calls p) a → ⊥
 Answers p (Err (Recursive method)) = (a : ℕ) × (IsLeastOnCycle (Calls p) a × IsNameOf p a method)

@@ -1,3 +1,4 @@
 pub mod Calls
 pub mod Faults
-pub mod Listed
+-- the words of private calls
+pub mod inner

@@ -2,7 +2,7 @@
 ghost use Rattle.std.specs.Prelude.{◌≡◌, ◌<◌, ◌+◌, ◌^◌, ◌++◌, length, IfOk, OnOk};
 ghost use Rattle.std.specs.Option.{option_to_list};
 ghost use Rattle.class_program.specs.Views.{program_of};
-ghost use Rattle.call_graph.specs.Listed.{class_run, class_runs, op_runs, place_runs, method_runs, graph_of};
+ghost use Rattle.call_graph.specs.inner.Listed.{class_run, class_runs, op_runs, place_runs, method_runs, graph_of};
 
 use class_program::{Op, Program, Selected};
 use jvm_values::Types;
@@ -10,7 +10,7 @@ use list_views::Seq;
 use std::alloc::{AllocError, Global};
 
 /// What the call at a place runs on an object of a class.
-#[tactic(auto, unfolding(crate::specs::Listed::class_run))]
+#[tactic(auto, unfolding(crate::specs::inner::Listed::class_run))]
 fn class_run(program: &Program<'_>, method: u32, pc: u16, class: u32) -> Option<u32>
     ensures { result ≡ class_run (program_of program.now) method pc class }
 {
@@ -35,7 +35,7 @@ fn push_some(found: &mut Seq<u32>, number: Option<u32>) -> Result<(), AllocError
 }
 
 /// What it runs on objects of all classes.
-#[tactic(auto, unfolding(crate::specs::Listed::class_runs))]
+#[tactic(auto, unfolding(crate::specs::inner::Listed::class_runs))]
 fn class_runs(
     alloc: Global,
     program: &Program<'_>,
@@ -80,7 +80,7 @@ fn op_runs(
 }
 
 /// What the instruction at a place can run.
-#[tactic(auto, unfolding(crate::specs::Listed::place_runs))]
+#[tactic(auto, unfolding(crate::specs::inner::Listed::place_runs))]
 fn place_runs(
     alloc: Global,
     program: &Program<'_>,
@@ -96,7 +96,7 @@ fn place_runs(
 }
 
 /// What the instructions of a method can run.
-#[tactic(auto, unfolding(crate::specs::Listed::method_runs))]
+#[tactic(auto, unfolding(crate::specs::inner::Listed::method_runs))]
 fn method_runs(
     alloc: Global,
     program: &Program<'_>,

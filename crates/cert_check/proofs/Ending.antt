@@ -62,7 +62,7 @@ use Rattle.cert_check.proofs.Terms.{one_term}
 
 -- ---- slots of two turns at one state
 
-agree_at : (weigh : ℕ → ℤ) → IsWeighing weigh → (v w : Valuation) (spot : Spot) (s t : SlotForm) (a b : Bool) → a ≡ b → s.id ≡ t.id
+pub agree_at : (weigh : ℕ → ℤ) → IsWeighing weigh → (v w : Valuation) (spot : Spot) (s t : SlotForm) (a b : Bool) → a ≡ b → s.id ≡ t.id
     → SlotIs v spot s a → SlotIs w spot t b → slot_value weigh v s ≡ slot_value weigh w t
 agree_at weigh g v w spot s t false false e same h k = h weigh g ∙ ap (λ id. number_of (spot.meaning id)) same ∙ sym (k weigh g)
 agree_at weigh g v w spot s t true true e same h k =
@@ -74,7 +74,7 @@ agree_at weigh g v w spot s t true true e same h k =
 agree_at weigh g v w spot s t false true e same h k = absurd (false≢true e)
 agree_at weigh g v w spot s t true false e same h k = absurd (false≢true (sym e))
 
-slot_at : (v : Valuation) (spot : Spot) (slots : List SlotForm) (n : ℕ) (slot : SlotForm) → SlotsAre v spot slots
+pub slot_at : (v : Valuation) (spot : Spot) (slots : List SlotForm) (n : ℕ) (slot : SlotForm) → SlotsAre v spot slots
     → slice_get slots n ≡ Some slot → SlotIs v spot slot slot.size
 slot_at v spot slots n slot are at =
     subst (λ (s : SlotForm). SlotIs v spot s s.size) (get_or_from_slice_get slots n slot slot at)
@@ -365,7 +365,7 @@ module _ (p : Program) (typing : ℕ → CodeTypes) (nodes : List GraphNode) (cu
     pub goes : Goes s to
     pub before : Ends p to.spot.machine → Ends p s.spot.machine
 
-  next_of : (s : Station) (at : At s) → EndsHere p at.node s.spot.machine ⊎ Moves s
+  pub next_of : (s : Station) (at : At s) → EndsHere p at.node s.spot.machine ⊎ Moves s
   next_of s at =
       let found = beside (IsGoodNode p typing nodes) nodes c.links s.node at.node c.graph.each at.is in
       let met : IsMet p typing at.node.state s.spot.machine s.spot.meaning =

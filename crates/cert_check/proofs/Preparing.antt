@@ -15,7 +15,7 @@ use Rattle.plan_links.specs.Laws.{LinksFit}
 use Rattle.cert_check.proofs.Linking.{all_linked}
 use Rattle.cert_check.specs.Valid.{Case, AreCuts}
 use Rattle.cert_check.proofs.Showing.{well_formed, all_good}
-use Rattle.cert_check.specs.Parts.{AreCutsFrom, AreCutsOf}
+use Rattle.cert_check.specs.inner.PartChecks.{AreCutsFrom, AreCutsOf}
 
 -- ---- nodes
 

@@ -7,7 +7,7 @@ use Rattle.jvm_step.specs.Running.Step.{Going}
 use Rattle.abs_expand.specs.Laws.{IsAfter}
 
 -- the run of one step more begins with that step
-step_first : (p : Program) (machine after : MachineState) → step p machine ≡ Going after → (count : ℕ)
+pub step_first : (p : Program) (machine after : MachineState) → step p machine ≡ Going after → (count : ℕ)
     → run p (suc count) machine ≡ run p count after
 unfolding step_on
 step_first p machine after e zero = e

@@ -25,7 +25,8 @@ use Rattle.cert_check.specs.declared.refusal.Refusal.{Refusal}
 use Rattle.cert_check.specs.declared.refusal.Refusal.TheVariants.{Item}
 use Rattle.cert_check.specs.Certified.{IsCertified}
 use Rattle.cert_check.specs.Valid.{Case, HasGoodGraph, Tells}
-use Rattle.cert_check.specs.Parts.{case_of, graph_refusal, path_refusal, proof_refusal, AreCutsOf, GraphOr, RulesOr}
+use Rattle.cert_check.specs.Parts.{case_of, GraphOr, RulesOr}
+use Rattle.cert_check.specs.inner.PartChecks.{graph_refusal, path_refusal, proof_refusal, AreCutsOf}
 use Rattle.cert_check.proofs.Preparing.{cuts_are, cuts_of, ready}
 
 pub bad_graph : (case : Case) (fault : CheckFault) → GraphTells case.program case.typing case.nodes case.root (Err fault)

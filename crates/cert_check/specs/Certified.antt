@@ -12,6 +12,8 @@ use Rattle.path_rules.specs.Conditions.{IsReady}
 use Rattle.path_rules.specs.Answers.{HasRules}
 use Rattle.graph_check.specs.Good.{GraphOk}
 
+-- a graph is certified to end from a root's state: it is a good graph with that state at node 0, each of its cycles has a cut, and the
+-- paths from cut to cut have rules of which no chain is infinite
 pub record IsCertified (p : Program) (typing : ℕ → CodeTypes) (nodes : List GraphNode) (cuts : List ℕ) (root : AbstractState) : Type
     0 where
   pub links : List (List Link)

@@ -4,3 +4,4 @@ pub mod Valid
 pub mod Ready
 pub mod Laws
 pub mod Parts
+pub mod inner

@@ -16,14 +16,15 @@ pub record Station : Type 0 where
   pub node : ℕ
   pub spot : Spot
 
--- the machine's state is typed and fits the node's
+-- a walk may stand there: the machine's state is typed and fits the state of the node
 pub record IsAt (p : Program) (typing : ℕ → CodeTypes) (nodes : List GraphNode) (station : Station) : Type 0 where
   pub node : GraphNode
   pub is : slice_get nodes station.node ≡ Some node
   pub fits : Fits (types_of p.world) node.state station.spot.machine station.spot.meaning
   pub typed : IsTypedState p typing station.spot.machine
 
--- an edge of the graph leads from one to the other
+-- an edge of the graph leads from one station to another: by a step of the machine to a child, or without a step to the node of which this
+-- one is an instance
 pub record GoesTo (p : Program) (typing : ℕ → CodeTypes) (nodes : List GraphNode) (links : List (List Link)) (from to : Station) :
     Type 0 where
   pub at : IsAt p typing nodes from
@@ -33,10 +34,10 @@ pub record GoesTo (p : Program) (typing : ℕ → CodeTypes) (nodes : List Graph
   pub by : GoesBy p at.node.state from.spot.machine from.spot.meaning at.node.by own to.node there.node.state to.spot.machine
       to.spot.meaning
 
--- every walk from there is finite: whatever edges follow one another, they come to an end
+-- every walk from a station is finite: whatever edges follow one another, they come to an end
 abbrev pub WalksEnd : Program → (ℕ → CodeTypes) → List GraphNode → List (List Link) → Station → Type 0
 WalksEnd p typing nodes links start = Acc (λ (to from : Station). GoesTo p typing nodes links from to) start
 
--- no walk goes on from there
+-- no walk goes on from a station
 abbrev pub IsLast : Program → (ℕ → CodeTypes) → List GraphNode → List (List Link) → Station → Type 0
 IsLast p typing nodes links from = (to : Station) → GoesTo p typing nodes links from to → ⊥

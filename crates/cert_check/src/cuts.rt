@@ -1,6 +1,6 @@
 //! Whether cuts are good.
 ghost use Rattle.std.specs.Prelude.{◌≡◌, ◌↔◌, IsTrue, Some, slice_get};
-ghost use Rattle.cert_check.specs.Parts.{AreCutsFrom, AreCutsOf};
+ghost use Rattle.cert_check.specs.inner.PartChecks.{AreCutsFrom, AreCutsOf};
 
 /// Whether the first cut is node 0.
 fn begin_with_0(cuts: &[u32]) -> bool

@@ -1,7 +1,7 @@
 //! What is said of the fault of a part.
 ghost use Rattle.std.specs.Prelude.{◌≡◌};
 ghost use Rattle.cert_check.specs.Valid.{graph_item};
-ghost use Rattle.cert_check.specs.Parts.{graph_refusal, path_refusal, proof_refusal};
+ghost use Rattle.cert_check.specs.inner.PartChecks.{graph_refusal, path_refusal, proof_refusal};
 
 use crate::refusal::{Cause, Refusal};
 use descent::StepFault;

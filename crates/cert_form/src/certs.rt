@@ -104,9 +104,19 @@ impl<'a> Model for CertText<'a> {
 
     ghost Value = { CertContent };
 
-    ghost view = { λ text. record { cuts = text.cuts; parts = parts_or_none (cert_of text.names.now (root_of (value_of text.value))); proof = text.proof.steps } };
+    ghost view = { λ text. record {
+      cuts = text.cuts;
+      parts = parts_or_none (cert_of text.names.now (root_of (value_of text.value)));
+      proof = text.proof.steps;
+    } };
 
-    ghost invariant = { λ text. (cert_of text.names.now (root_of (value_of text.value)) ≡ Ok (record { cuts = text.cuts; parts = parts_or_none (cert_of text.names.now (root_of (value_of text.value))); proof = text.proof.steps })) × (text.count ≡ length (parts_or_none (cert_of text.names.now (root_of (value_of text.value))))) };
+    ghost invariant = { λ text.
+        (cert_of text.names.now (root_of (value_of text.value)) ≡ Ok (record {
+          cuts = text.cuts;
+          parts = parts_or_none (cert_of text.names.now (root_of (value_of text.value)));
+          proof = text.proof.steps;
+        }))
+        × (text.count ≡ length (parts_or_none (cert_of text.names.now (root_of (value_of text.value))))) };
 }
 
 impl<'a> CertText<'a> {

@@ -11,7 +11,7 @@ use Rattle.cert_form.specs.Certificates.{CertContent, cert_of, AnswersText}
 use Rattle.cert_verdict.specs.declared.verdict.CertVerdict.{CertVerdict}
 use Rattle.cert_verdict.specs.declared.verdict.CertVerdict.TheVariants.{Accepted, Refused, NoText}
 use Rattle.cert_verdict.specs.Verdicts.{SaysNone, Judges}
-use Rattle.cert_verdict.specs.Words.{IsChecked, IsOfContent}
+use Rattle.cert_verdict.specs.inner.Words.{IsChecked, IsOfContent}
 
 module _ (p : Program) (typing : ℕ → CodeTypes) (root : AbstractState) where
   judges : (names : List (List ℕ)) (bytes : List ℕ) (content : CertContent) (verdict : CertVerdict)

@@ -15,7 +15,7 @@ use Rattle.cert_check.specs.Parts.{case_of}
 use Rattle.cert_verdict.specs.declared.verdict.CertVerdict.{CertVerdict}
 use Rattle.cert_verdict.specs.declared.verdict.CertVerdict.TheVariants.{Accepted, Refused, NoText}
 
--- the bytes say a certificate which, filled, is valid; so its graph, cuts and proof show that the program ends
+-- the bytes say a certificate which, its nodes filled, is valid; so its graph, cuts and proof show that the program's runs end
 pub record SaysValid (p : Program) (typing : ℕ → CodeTypes) (root : AbstractState) (names : List (List ℕ)) (bytes : List ℕ) : Type 0 where
   pub content : CertContent
   pub says : SaysOf (cert_of names) bytes (Ok content)
@@ -24,7 +24,7 @@ pub record SaysValid (p : Program) (typing : ℕ → CodeTypes) (root : Abstract
   pub valid : IsValid (case_of p typing root nodes content.cuts content.proof)
   pub certified : IsCertified p typing nodes content.cuts root
 
--- they say one of which, filled, this item fails first, for this cause
+-- the bytes say a certificate of which, its nodes filled, this item fails first, for this cause
 pub record SaysFaulty (p : Program) (typing : ℕ → CodeTypes) (root : AbstractState) (names : List (List ℕ)) (bytes : List ℕ)
     (item : ℕ) (cause : Cause) : Type 0 where
   pub content : CertContent
@@ -33,12 +33,12 @@ pub record SaysFaulty (p : Program) (typing : ℕ → CodeTypes) (root : Abstrac
   pub filled : IsFilledGraph p typing content.parts nodes
   pub fails : IsFirstFault (case_of p typing root nodes content.cuts content.proof) item cause
 
--- they say none, for this fault
+-- the bytes say no certificate, and this is the first fault of the text
 abbrev pub SaysNone : List (List ℕ) → List ℕ → CertFault → Type 0
 SaysNone names bytes certs.Memory = ⊥
 SaysNone names bytes fault = AnswersText (cert_of names) bytes (Err fault)
 
--- the verdict
+-- the verdict on the bytes of a certificate: they say a valid one, or one of which an item fails, or none
 abbrev pub Judges : Program → (ℕ → CodeTypes) → AbstractState → List (List ℕ) → List ℕ → CertVerdict → Type 0
 Judges p typing root names bytes Accepted = SaysValid p typing root names bytes
 Judges p typing root names bytes (Refused item cause) = SaysFaulty p typing root names bytes item cause

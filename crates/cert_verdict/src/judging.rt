@@ -6,7 +6,7 @@ ghost use Rattle.descent.specs.Conditions.{AreSteps};
 ghost use Rattle.cert_form.specs.Certificates.{LackingAreNamed};
 ghost use Rattle.term_graph.specs.Limits.{most_nodes};
 ghost use Rattle.cert_verdict.specs.Verdicts.{Judges};
-ghost use Rattle.cert_verdict.specs.Words.{IsChecked, IsOfContent};
+ghost use Rattle.cert_verdict.specs.inner.Words.{IsChecked, IsOfContent};
 
 use crate::verdict::CertVerdict;
 use abs_cells::{AbsState, Pairs};
@@ -32,7 +32,8 @@ fn checked<P: Pairs, N: NodeSource<P>>(
     requires typing { IsTypingOf (program_of program.now) (typing_at typing.now) }
     requires few { length (N.graph nodes.old) ≤ 2 ^ 32 - 16 }
     requires steps { AreSteps proof.now.steps }
-    ensures { IfOk result (IsChecked (program_of program.now) (typing_at typing.now) root.now (N.graph nodes.old) cuts.now proof.now.steps) }
+    ensures { IfOk result
+        (IsChecked (program_of program.now) (typing_at typing.now) root.now (N.graph nodes.old) cuts.now proof.now.steps) }
 {
     match check_cert(alloc, program, typing, nodes, root, cuts, proof) {
         Ok(()) => Ok(CertVerdict::Accepted),

@@ -1,3 +1,3 @@
 pub mod Data
 pub mod Readable
-pub mod Nodes
+pub mod inner

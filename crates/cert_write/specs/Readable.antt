@@ -29,14 +29,15 @@ use Rattle.cert_form.specs.Steps.{number_of}
 
 -- ---- numbers and keys
 
--- a number of 32 bits
+-- a number of 32 bits without a sign, as a certificate has them for nodes, cuts, rules, rows, steps, methods and classes
 abbrev pub IsNumber : ℕ → Type 0
 IsNumber n = n ≤ 4294967295
 
+-- an id of a state, which is below 2,048
 abbrev pub IsId : ℕ → Type 0
 IsId id = id < 2048
 
--- what there is, if anything, is of this kind
+-- a number that may be missing is of this kind where it is there
 abbrev pub IsMaybe : (ℕ → Type 0) → Option ℕ → Type 0
 IsMaybe Is (Some n) = Is n
 IsMaybe Is None = Unit {0}
@@ -48,7 +49,8 @@ RisesBy key low end (x ∷ xs) = (low ≤ key x) × ((key x < end) × RisesBy ke
 
 -- ---- states
 
--- a cell over the names of classes
+-- a cell can be read again, over the names of the world's classes: its bounds are ints in order, and its numbers, its ids and its
+-- type are such
 abbrev pub IsCell : List (List ℕ) → Cell → Type 0
 IsCell names (cells.Int bounds) = (bounds.lo ≤ℤ bounds.hi) × (IsOfKind kinds.Int bounds.lo × IsOfKind kinds.Int bounds.hi)
 IsCell names cells.Null = Unit {0}
@@ -57,12 +59,15 @@ IsCell names (cells.Nums kind len) = IsId len
 IsCell names (cells.Refs element len shape) = IsReference (length names) element × IsId len
 IsCell names (cells.Unk bound nullable shape) = IsReference (length names) bound
 
+-- a frame can be read again: its numbers have room, and its locals and its stack are ids
 pub record IsFrame (frame : AbstractFrame) : Type 0 where
   pub method : IsNumber frame.method
   pub pc : frame.pc ≤ 65535
   pub locals : All (IsMaybe IsId) frame.locals
   pub stack : All IsId frame.stack
 
+-- a state can be read again: it has at most as many cells as a state may have, its cells rise by id, its pairs rise, and its cells
+-- and frames can be read again
 pub record IsState (names : List (List ℕ)) (state : AbstractState) : Type 0 where
   pub few : length state.cells ≤ most_ids
   pub rise : AreIdsRising 0 state.cells
@@ -74,22 +79,22 @@ pub record IsState (names : List (List ℕ)) (state : AbstractState) : Type 0 wh
 
 -- ---- nodes
 
--- it is known how the node is left
+-- how a node is left can be read again: it is known, and its numbers and ids have room
 abbrev pub IsWay : By → Type 0
 IsWay (Expand children) = All IsNumber children
 IsWay (Instance target map) = IsNumber target × All (λ p. IsId p.0 × IsId p.1) map
 IsWay End = Unit {0}
 IsWay Todo = ⊥
 
--- a node has a state exactly where it does not lack it
+-- a node has a state exactly where it does not lack it, and the state can be read again
 abbrev pub IsStated : List (List ℕ) → Bool → Option AbstractState → Type 0
 IsStated names true (Some state) = ⊥
 IsStated names true None = Unit {0}
 IsStated names false (Some state) = IsState names state
 IsStated names false None = ⊥
 
--- the nodes behind those of `front`: in form 1 each has its state, and in form 2 each lacks it exactly where one in front of it names it
--- as a child
+-- the nodes behind those of `front` can be read again: in form 1 each has its state, and in form 2 each lacks it exactly where one in
+-- front of it names it as a child
 abbrev pub AreParts : Bool → List (List ℕ) → List GraphPart → List GraphPart → Type 0
 AreParts second names front [] = Unit {0}
 AreParts second names front (part ∷ parts) = (IsWay part.by × IsStated names (lacks_state second front) part.state)
@@ -97,32 +102,37 @@ AreParts second names front (part ∷ parts) = (IsWay part.by × IsStated names 
 
 -- ---- proofs
 
--- a row with its multiplier
+-- a row with its multiplier can be read again: the row's number and the size of the multiplier have room
 abbrev pub IsMultiplier : ℕ × ℤ → Type 0
 IsMultiplier entry = IsNumber entry.0 × (unsigned_abs entry.1 ≤ 2147483648)
 
+-- a list of multipliers of rows can be read again: it has at most 65,536 entries, and each of them can
 abbrev pub AreMultipliers : List (ℕ × ℤ) → Type 0
 AreMultipliers entries = (length entries ≤ 65536) × All IsMultiplier entries
 
--- ids with their multiples
+-- the multiples of ids in a form can be read again: the ids rise and have room, and so has the size of each multiple
 abbrev pub AreMultiples : List (ℕ × ℤ) → Type 0
 AreMultiples entries = Rise 2048 entries × All (λ e. unsigned_abs e.1 ≤ 2147483648) entries
 
--- without sizes there are none of these
+-- a list that is filled only where sizes count is empty elsewhere
 abbrev pub OnlyWith : {A : Type 0} → Bool → List A → Type 0
 OnlyWith true entries = Unit {0}
 OnlyWith false entries = length entries ≡ 0
 
+-- the form of a cut can be read again: its numbers have room, and it has multiples of sizes only where sizes count
 pub record IsForm (size : Bool) (form : CutForm) : Type 0 where
   pub constant : unsigned_abs form.constant ≤ 1099511627776
   pub ints : AreMultiples form.ints
   pub sizes : AreMultiples form.sizes
   pub sized : OnlyWith size form.sizes
 
+-- a rule in a rank step can be read again: its multipliers can
 abbrev pub IsRule : RankRule → Type 0
 IsRule (Weak rule fall) = AreMultipliers fall
 IsRule (Strict rule fall bound) = AreMultipliers fall × AreMultipliers bound
 
+-- A rank step can be read again: its weights rise by class, its forms by cut and its rules by number, each of them can be read
+-- again, and it has weights only where sizes count.
 pub record IsRank (step : RankStep) : Type 0 where
   pub weights_rise : Rise 4294967296 step.weights
   pub weights : All IsWeight step.weights
@@ -132,6 +142,7 @@ pub record IsRank (step : RankStep) : Type 0 where
   pub rules_rise : RisesBy number_of 0 4294967296 step.rules
   pub rules : All IsRule step.rules
 
+-- a step of a proof can be read again: its numbers have room, and a split has as many steps as parts
 abbrev pub IsStep : ProofStep → Type 0
 IsStep Empty = Unit {0}
 IsStep (Split parts steps) = (length steps ≡ length parts) × (All (All IsNumber) parts × All (IsMaybe IsNumber) steps)
@@ -140,10 +151,12 @@ IsStep (Dead rule multipliers rest) = IsNumber rule × (AreMultipliers multiplie
 
 -- ---- the whole
 
--- each name stands once
+-- no two of these names are the same
 abbrev pub AreDistinct : List (List ℕ) → Type 0
 AreDistinct names = (m n : ℕ) (name : List ℕ) → slice_get names m ≡ Some name → slice_get names n ≡ Some name → m ≡ n
 
+-- A certificate that says this is read again as what it says: the names are distinct class names, its numbers have room, it has at
+-- most as many nodes as a graph may have, and each of its nodes and steps can be read again.
 pub record IsReadable (second : Bool) (names : List (List ℕ)) (content : CertContent) : Type 0 where
   pub named : IsTrue (list_all is_class_name names)
   pub distinct : AreDistinct names
@@ -152,11 +165,13 @@ pub record IsReadable (second : Bool) (names : List (List ℕ)) (content : CertC
   pub parts : AreParts second names [] content.parts
   pub proof : All IsStep content.proof
 
+-- a node of a graph can be read again: its state can, and how it is left
 pub record IsNode (names : List (List ℕ)) (node : GraphNode) : Type 0 where
   pub state : IsState names node.state
   pub way : IsWay node.by
 
--- the same of a graph whose nodes have their states
+-- A certificate of this graph, these cuts and this proof is read again, in either form: the names are distinct class names, the
+-- numbers have room, the graph has at most as many nodes as it may have, and each node and each step can be read again.
 pub record IsReadableGraph (names : List (List ℕ)) (graph : List GraphNode) (cuts : List ℕ) (proof : List ProofStep) : Type 0 where
   pub named : IsTrue (list_all is_class_name names)
   pub distinct : AreDistinct names

@@ -10,7 +10,7 @@ ghost use Rattle.class_base.specs.ClassNames.{is_class_name};
 ghost use Rattle.cert_form.specs.Certificates.{cert_of, SaysOf};
 ghost use Rattle.cert_write.specs.Data.{list, node, parts_from, form_number, certificate_in, certificate_of, content_in};
 ghost use Rattle.cert_write.specs.Readable.{IsReadable, IsReadableGraph};
-ghost use Rattle.cert_write.specs.Nodes.{IsPut};
+ghost use Rattle.cert_write.specs.inner.Nodes.{IsPut};
 
 use crate::types::Words;
 use crate::{lists, nodes};

@@ -11,8 +11,9 @@ use Rattle.descent.specs.declared.rules.PathRule.{PathRule}
 use Rattle.descent.specs.Components.{AreClasses}
 use Rattle.descent.specs.Splits.{has, stands_in, stands_once, place_in, place_from}
 use Rattle.descent.specs.Steps.{Given}
-use Rattle.chain_proofs.specs.Dealt.{Rises, IsSet, AreSets, need, owed}
-use Rattle.chain_proofs.specs.Sets.{AreAt, IsApart, IsHanded, is_alone}
+use Rattle.chain_proofs.specs.Dealt.{Rises}
+use Rattle.chain_proofs.specs.inner.Dealt.{IsSet, AreSets, need, owed}
+use Rattle.chain_proofs.specs.inner.Sets.{AreAt, IsApart, IsHanded, is_alone}
 use Rattle.chain_proofs.proofs.Places.{has_at, same_has}
 use Rattle.chain_proofs.proofs.Spending.{give_one, need_some, owed_more, rises_lower, sets_more}
 

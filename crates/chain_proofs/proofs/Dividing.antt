@@ -15,7 +15,8 @@ use Rattle.descent.specs.Splits.{back_fault, back_edge, is_lone, loops_in, loops
 use Rattle.descent.specs.Splits.{cover_fault, split_fault}
 use Rattle.descent.specs.Steps.{Given, is_free, give, part_left, parts_left, same_option}
 use Rattle.chain_proofs.specs.Dealt.{Rises}
-use Rattle.chain_proofs.specs.Sets.{AreAt, AreOwn, IsStepOf, is_alone}
+use Rattle.chain_proofs.specs.inner.Sets.{AreAt, IsStepOf, is_alone}
+use Rattle.chain_proofs.specs.Sets.{AreOwn}
 use Rattle.chain_proofs.proofs.Places.{place_of, none_passes, none_found, same_place, in_parts, no_place, part_with}
 
 -- ---- rules of a set

@@ -11,7 +11,8 @@ use Rattle.descent.specs.Splits.{has, stands_in, stands_once, place_in, is_follo
 use Rattle.number_graphs.specs.Graphs.{Leads, IsWay}
 use Rattle.chain_proofs.specs.declared.proving.LeftRule.{LeftRule}
 use Rattle.chain_proofs.specs.Stuck.{IsLeftRule}
-use Rattle.chain_proofs.specs.Sets.{AreOwn, AreJoined, AreLeft, IsApart, IsStuckAt, is_alone}
+use Rattle.chain_proofs.specs.Sets.{AreOwn}
+use Rattle.chain_proofs.specs.inner.Sets.{AreJoined, AreLeft, IsApart, IsStuckAt, is_alone}
 
 abbrev Steps : List PathRule → ℕ → ℕ → Type 0
 Steps own m n = IsTrue (is_followed own m n)

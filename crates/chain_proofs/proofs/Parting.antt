@@ -9,8 +9,10 @@ use Rattle.descent.specs.declared.rules.PathRule.{PathRule}
 use Rattle.descent.specs.Components.{AreClasses}
 use Rattle.descent.specs.Steps.{Given, set_of, give, parts_left, same_option}
 use Rattle.descent.proofs.Walked.{gave}
-use Rattle.chain_proofs.specs.Dealt.{is_dealt, Rises, IsSet, AreSets, HasRoom, need, owed}
-use Rattle.chain_proofs.specs.Sets.{AreAt, AreOwn, IsApart, IsStepOf, IsHanded, IsTurned, is_alone}
+use Rattle.chain_proofs.specs.Dealt.{is_dealt, Rises}
+use Rattle.chain_proofs.specs.inner.Dealt.{IsSet, AreSets, HasRoom, need, owed}
+use Rattle.chain_proofs.specs.inner.Sets.{AreAt, IsApart, IsStepOf, IsHanded, IsTurned, is_alone}
+use Rattle.chain_proofs.specs.Sets.{AreOwn}
 use Rattle.chain_proofs.specs.Unfinished.{HoldsAt}
 use Rattle.chain_proofs.proofs.Charging.{charge_some, charges, drop_next, handed_owes, handed_sets, less_needed, parts_full}
 use Rattle.chain_proofs.proofs.Closing.{later}

@@ -6,7 +6,7 @@ use Rattle.std.proofs.lemmas.Bool.{cases_eq, eq-eqb, ne_eqb, eqb-true, or_cases,
 use Rattle.std.proofs.lemmas.Option.{none-some, same_Some}
 use Rattle.descent.specs.Splits.{has, stands_in, stands_once, place_from}
 use Rattle.chain_proofs.specs.Dealt.{Rises}
-use Rattle.chain_proofs.specs.Sets.{AreAt}
+use Rattle.chain_proofs.specs.inner.Sets.{AreAt}
 
 -- ---- rising lists
 

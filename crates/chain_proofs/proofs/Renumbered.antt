@@ -27,7 +27,8 @@ use Rattle.descent.specs.Splits.{edge_fault}
 use Rattle.descent.specs.Steps.{rule_of, ranking_of, listed_fault, rank_fault, ranking_fault}
 use Rattle.rank_forms.specs.RankSteps.{IsCutOf, IsRankStep, has_strict, FormsRise, HaveNoSizes, IsLinear}
 use Rattle.chain_proofs.specs.Lean.{IsOwnCut}
-use Rattle.chain_proofs.specs.Sets.{AreOwn, IsRankOf, IsRenumbered, IsStepOver}
+use Rattle.chain_proofs.specs.Sets.{AreOwn}
+use Rattle.chain_proofs.specs.inner.Sets.{IsRankOf, IsRenumbered, IsStepOver}
 use Rattle.chain_proofs.proofs.Dividing.{own_at, as_long}
 
 -- ---- faults that there are not

@@ -15,8 +15,9 @@ use Rattle.descent.specs.declared.rules.PathRule.{PathRule}
 use Rattle.descent.specs.Rankings.{weak_fault, strict_fault, bounded_fault}
 use Rattle.descent.specs.Steps.{Given, given_first, is_free, give, set_of, rule_of, ranking_of, weak_ones}
 use Rattle.rank_forms.specs.RankSteps.{has_strict}
-use Rattle.chain_proofs.specs.Dealt.{is_dealt, Rises, IsSet, AreSets, need, due, owed, HasRoom}
-use Rattle.chain_proofs.specs.Sets.{IsRankOf, IsTurned}
+use Rattle.chain_proofs.specs.Dealt.{is_dealt, Rises}
+use Rattle.chain_proofs.specs.inner.Dealt.{IsSet, AreSets, need, due, owed, HasRoom}
+use Rattle.chain_proofs.specs.inner.Sets.{IsRankOf, IsTurned}
 use Rattle.chain_proofs.proofs.Closing.{later}
 use Rattle.chain_proofs.proofs.Renumbered.{listed_are, numbers_below}
 use Rattle.chain_proofs.proofs.Turning.{rank_holds}

@@ -14,10 +14,10 @@ use Rattle.descent.proofs.Walked.{gave}
 use Rattle.chain_proofs.specs.declared.proving.LeftRule.{LeftRule}
 use Rattle.chain_proofs.specs.declared.proving.Turn.TheVariants.{Step, Left}
 use Rattle.chain_proofs.specs.Answers.{LeavesStuckBy}
-use Rattle.chain_proofs.specs.Dealt.{AreSets, HasRoom, owed}
+use Rattle.chain_proofs.specs.inner.Dealt.{AreSets, HasRoom, owed}
 use Rattle.chain_proofs.specs.Lean.{AreLean, IsLeanStep}
 use Rattle.chain_proofs.specs.Unfinished.{HoldsAt, HoldFrom}
-use Rattle.chain_proofs.specs.Sets.{IsRankOf, TurnsOr}
+use Rattle.chain_proofs.specs.inner.Sets.{IsRankOf, TurnsOr}
 
 pub hold_more : (rules : List PathRule) (number : ℕ) (given mid after : Given) (steps : List ProofStep) (step : ProofStep)
     → HoldFrom rules number given steps mid → HoldsAt rules (number + length steps) mid step after

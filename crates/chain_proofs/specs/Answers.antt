@@ -36,9 +36,10 @@ abbrev pub IsLean : List PathRule → Proved → Type 0
 IsLean rules (Whole proof) = AreLean rules proof.steps
 IsLean rules (Stuck proof left) = AreLean rules proof.steps
 
--- the same where neither a plain form nor a stepwise one ranks the rules that are left
+-- the steps so far hold, and the rules that they leave are stuck: neither a plain form nor a stepwise one ranks them
 abbrev pub LeavesStuck : List PathRule → List ProofStep → List LeftRule → Type 0
 LeavesStuck rules steps left = LeavesStuckBy HasNoForm rules steps left
 
+-- a proof whose steps are within the limits of proofs; or the steps so far, and rules that neither a plain form nor a stepwise one ranks
 abbrev pub ProvesOr : List PathRule → Proved → Type 0
 ProvesOr rules proved = ProvesOrBy HasNoForm rules proved

@@ -4,4 +4,5 @@ pub mod Lean
 pub mod Answers
 pub mod Dealt
 pub mod Sets
-pub mod Few
+pub mod inner
+pub mod lemmas

@@ -11,7 +11,7 @@ pub record HoldsAt (rules : List PathRule) (number : ℕ) (given : Given) (step 
   pub holds : step_fault rules set step ≡ None
   pub gives : give number (leaves set step) given ≡ Some after
 
--- so do the steps from a number on, one after another
+-- the steps from a number on hold one after another, each for the set that it was given, and give on what they leave
 abbrev pub HoldFrom : List PathRule → ℕ → Given → List ProofStep → Given → Type 0
 HoldFrom rules number given [] after = given ≡ after
 HoldFrom rules number given (step ∷ rest) after = (next : Given)

@@ -1,6 +1,7 @@
 //! The rules of a set, as values of their own, and with their cuts.
 ghost use Rattle.std.specs.Prelude.{◌≡◌, ◌<◌, All, IfOk, Some, length, slice_get};
-ghost use Rattle.chain_proofs.specs.Sets.{AreOwn, IsLeftOf, AreLeft};
+ghost use Rattle.chain_proofs.specs.Sets.{AreOwn};
+ghost use Rattle.chain_proofs.specs.inner.Sets.{IsLeftOf, AreLeft};
 
 use crate::proving::LeftRule;
 use descent::{PathRule, SlotForm, WRow};

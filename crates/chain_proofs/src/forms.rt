@@ -66,7 +66,7 @@ pub struct PathForms;
 impl Forms for PathForms {
     ghost use Rattle.rank_forms.specs.Graphs.{ArePlainRules};
     ghost use Rattle.chain_proofs.specs.Stuck.{HasNoForm};
-    ghost use Rattle.chain_proofs.specs.Few.{few_enough};
+    ghost use Rattle.chain_proofs.specs.lemmas.Few.{few_enough};
 
     ghost asks = { λ rules. ArePlainRules rules };
 

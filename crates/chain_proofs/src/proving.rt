@@ -4,8 +4,9 @@ ghost use Rattle.descent.specs.Components.{AreClasses};
 ghost use Rattle.rank_forms.specs.Graphs.{ArePlainRules};
 ghost use Rattle.descent.specs.Steps.{set_of, weak_ones, if_weak};
 ghost use Rattle.chain_proofs.specs.Answers.{ProvesOr, ProvesOrBy, IsClosed, IsLean};
-ghost use Rattle.chain_proofs.specs.Dealt.{AreSets, HasRoom, IsSet};
-ghost use Rattle.chain_proofs.specs.Sets.{AreOwn, AreJoined, IsApart, IsAsked, TurnsOr};
+ghost use Rattle.chain_proofs.specs.inner.Dealt.{AreSets, HasRoom, IsSet};
+ghost use Rattle.chain_proofs.specs.Sets.{AreOwn, IsAsked};
+ghost use Rattle.chain_proofs.specs.inner.Sets.{AreJoined, IsApart, TurnsOr};
 
 use crate::copying::{left_rules, own_rules};
 use crate::forms::{Forms, PathForms};

@@ -3,7 +3,8 @@ ghost use Rattle.std.specs.Prelude.{◌≡◌, ◌<◌, All, IfOk, Some, length,
 ghost use Rattle.std.specs.List.{AllZip};
 ghost use Rattle.descent.specs.Steps.{rule_of};
 ghost use Rattle.chain_proofs.specs.Dealt.{Rises};
-ghost use Rattle.chain_proofs.specs.Sets.{AreOwn, IsAsked, IsRenumbered, IsStepOver, RanksOr};
+ghost use Rattle.chain_proofs.specs.Sets.{AreOwn, IsAsked};
+ghost use Rattle.chain_proofs.specs.inner.Sets.{IsRenumbered, IsStepOver, RanksOr};
 
 use crate::forms::Forms;
 use crate::splitting::number_at;

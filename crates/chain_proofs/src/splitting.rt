@@ -2,8 +2,10 @@
 ghost use Rattle.std.specs.Prelude.{◌≡◌, ◌<◌, ◌≤◌, ◌∷◌, [], false, All, Some, IfOk, IsTrue, length, slice_get};
 ghost use Rattle.descent.specs.Components.{AreClasses};
 ghost use Rattle.descent.specs.Steps.{give, given_first, set_of};
-ghost use Rattle.chain_proofs.specs.Dealt.{is_dealt, AreSets, HasRoom, Rises};
-ghost use Rattle.chain_proofs.specs.Sets.{AreAt, AreOwn, IsApart, IsHanded, IsTurned, is_alone};
+ghost use Rattle.chain_proofs.specs.Dealt.{is_dealt, Rises};
+ghost use Rattle.chain_proofs.specs.inner.Dealt.{AreSets, HasRoom};
+ghost use Rattle.chain_proofs.specs.inner.Sets.{AreAt, IsApart, IsHanded, IsTurned, is_alone};
+ghost use Rattle.chain_proofs.specs.Sets.{AreOwn};
 
 use descent::{PathRule, ProofStep, given_first, set_of, within};
 use list_views::Seq;

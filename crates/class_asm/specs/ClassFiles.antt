@@ -8,8 +8,9 @@ use Rattle.asm_lines.specs.declared.statement.ClassLine.{ClassLine}
 use Rattle.asm_lines.specs.Listings.{listing_of}
 use Rattle.class_asm.specs.Said.{SaysClass}
 
--- The bytes are those of a class that says what the lines of the text say, each of which could be read. It keeps every rule of class files, so where its
--- major version is one that is read, the bytes spell exactly that class.
+-- The bytes are a class file of the listing that the text is: every line of the text could be read, the bytes are those of a class
+-- that says what the lines say, and this class keeps every rule of class files. So where its major version is one that is read, the
+-- bytes spell exactly that class.
 pub record IsClassFile (text bytes : List ℕ) : Type 0 where
   pub line : ℕ
   pub class : ClassLine

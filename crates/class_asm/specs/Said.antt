@@ -25,11 +25,12 @@ use Rattle.class_asm.specs.Classes.{class_flags}
 
 -- ---- what the code names in the pool
 
--- the text of a String entry
+-- the text that an entry of a pool names, where it is a String
 abbrev pub string_of : List PoolEntry → PoolEntry → Option (List ℕ)
 string_of pool (files.Str text) = utf8_at pool text
 string_of pool entry = None
 
+-- the text of the String entry of that number
 abbrev pub string_at : List PoolEntry → ℕ → Option (List ℕ)
 string_at pool i = option_and_then (string_of pool) (entry_at pool i)
 
@@ -44,25 +45,27 @@ NamesEntry pool (Member op class name desc) need =
 NamesEntry pool (Class op name) need = class_name_at pool need.entry ≡ Some name
 NamesEntry pool operation need = Unit {0}
 
--- what an entry of the exception table catches: the class of its line, or with `any` everything
+-- what an entry of the exception table catches is the class of its line, or everything where that says `any`
 abbrev pub NamesCaught : List PoolEntry → Option (List ℕ) → ℕ → Type 0
 NamesCaught pool None index = index ≡ 0
 NamesCaught pool (Some name) index = class_name_at pool index ≡ Some name
 
 -- ---- methods
 
--- the code of a method's lines, and the sizes of its first line
+-- a code is the one that a method's lines say: its sizes are those of the method's first line, and its instructions and its
+-- exception table are those of the lines
 pub record SaysBody (pool : List PoolEntry) (m : MethodLines) (sizes : Number × Number) (code : CodeContent) : Type 0 where
   pub max_stack : pair_of sizes.0 ≡ Some code.max_stack
   pub max_locals : pair_of sizes.1 ≡ Some code.max_locals
   pub lines : SaysCode (NamesEntry pool) (NamesCaught pool) m.lines code.code code.table
 
--- A method has a code where its first line has sizes.
+-- a method has a code exactly where its first line has sizes, and then it is the one that the lines say
 abbrev pub SaysSizes : List PoolEntry → MethodLines → Option (Number × Number) → Option CodeContent → Type 0
 SaysSizes pool m None None = Unit {0}
 SaysSizes pool m (Some sizes) (Some code) = SaysBody pool m sizes code
 SaysSizes pool m sizes code = ⊥
 
+-- a method of the class is the one that the lines say: its flags, its name, its descriptor and its code are theirs
 pub record SaysMethod (pool : List PoolEntry) (m : MethodLines) (c : MethodContent) : Type 0 where
   pub flags : c.flags ≡ method_flags m.head
   pub name : c.name ≡ m.head.name
@@ -71,11 +74,12 @@ pub record SaysMethod (pool : List PoolEntry) (m : MethodLines) (c : MethodConte
 
 -- ---- the class
 
+-- the field that a line says, with its flags, its name and its descriptor
 abbrev pub field_said : ℕ × FieldLine → FieldContent
 field_said f = record { flags = field_flags f.1; name = f.1.name; desc = f.1.desc }
 
--- The class has the name, superclass, interfaces, flags and major version of the line that begins the listing, and the
--- fields and methods of its lines, in their order.
+-- The class is the one that a listing says: it has the name, super class, interfaces, flags and major version of the line that
+-- begins the listing, and the fields and methods of its lines, in their order.
 pub record SaysClass (class : ClassLine) (listing : Listing) (c : ClassContent) : Type 0 where
   pub major : major_of class ≡ Some c.major
   pub flags : c.flags ≡ class_flags class

@@ -12,30 +12,32 @@ use Rattle.class_base.specs.declared.types.FieldType.{FieldType}
 abbrev pub is_primitive : ℕ → Bool
 is_primitive b = ((b == 66) || (b == 67) || (b == 68) || (b == 70)) || ((b == 73) || (b == 74) || (b == 83) || (b == 90))
 
+-- an element is one: the letter of a primitive type, or a class name
 abbrev pub IsElement : Element → Type 0
 IsElement (Primitive b) = is_primitive b ≡ true
 IsElement (Object name) = is_class_name name ≡ true
 
--- An array has at most 255 dimensions.
+-- a type is one: it has at most 255 dimensions, and its element is one
 abbrev pub IsType : FieldType → Type 0
 IsType t = (t.dims ≤ 255) × IsElement t.element
 
--- A long and a double take two words, every other type one.
+-- the words that a value of an element's type takes: two for a long and a double, one for every other
 abbrev pub element_words : Element → ℕ
 element_words (Primitive b) = if (b == 68) || (b == 74) then 2 else 1
 element_words (Object name) = 1
 
+-- the words that a value of a type takes: an array is a reference, so it takes one, whatever its elements are
 abbrev pub type_words : FieldType → ℕ
 type_words t = if t.dims == 0 then element_words t.element else 1
 
 -- ---- how they are written
 
--- a class is written `L`, its name and `;`
+-- an element in a descriptor: the letter of a primitive type, or `L`, the class's name and `;`
 abbrev pub element_text : Element → List ℕ
 element_text (Primitive b) = b ∷ []
 element_text (Object name) = 76 ∷ name ++ 59 ∷ []
 
--- an array has a `[` for each dimension before its element
+-- a type in a descriptor: a `[` for each dimension, and then the element
 abbrev pub type_text : FieldType → List ℕ
 type_text t = replicate t.dims 91 ++ element_text t.element
 
@@ -46,17 +48,17 @@ pub record IsFieldType (t : FieldType) (bytes : List ℕ) : Type 0 where
 
 -- ---- reading from left to right
 
--- how many `[` stand at the front
+-- the dimensions of the type at the front: how many `[` stand there
 abbrev pub array_depth : List ℕ → ℕ
 array_depth [] = 0
 array_depth (b ∷ bytes) = if b == 91 then suc (array_depth bytes) else 0
 
--- the class name up to the `;`, and the bytes after it
+-- behind an `L`: the class name up to the `;`, and the bytes after it
 unfoldable pub object_at : List ℕ → Option (Element × List ℕ)
 object_at bytes = option_and_then (λ i. if is_class_name (take i bytes) then Some (Object (take i bytes), drop 1 (drop i bytes))
     else None) (position (λ b. b == 59) bytes)
 
--- `L` and a class name, or the letter of a primitive type
+-- the element at the front, which is `L` and a class name or the letter of a primitive type, and the bytes after it
 unfoldable pub element_at : List ℕ → Option (Element × List ℕ)
 element_at [] = None
 element_at (b ∷ bytes) =

@@ -15,7 +15,7 @@ use Rattle.class_pool.specs.Text.{slots_of, places_of}
 use Rattle.list_views.specs.Results.{IsDue}
 use Rattle.list_views.proofs.Steps.{is_due}
 use Rattle.class_pool.specs.Reading.{◌>>=◌, Read, Unread, unread, is_memory, entry_text_at, entry_at_place, entries_at}
-use Rattle.class_pool.specs.Places.{slot_in, slots_in, entries_in, Agrees}
+use Rattle.class_pool.specs.inner.Places.{slot_in, slots_in, entries_in, Agrees}
 use Rattle.class_pool.proofs.Fields.{IsBytes, IsBytes-drop}
 use Rattle.class_pool.proofs.EntryLaws.{place_text, place_takes}
 use Rattle.class_pool.proofs.PoolLaws.{is_zero, with_front, narrow_step, wide_step}

@@ -25,7 +25,7 @@ use Rattle.class_pool.specs.declared.entry.PoolEntry.{PoolEntry}
 use Rattle.class_pool.specs.declared.entry.PoolEntry.TheVariants.{Utf8, Integer, Float, Long, Double, Class, Str, Member}
 use Rattle.class_pool.specs.declared.entry.PoolEntry.TheVariants.{NameAndType, MethodHandle, MethodType, InvokeDynamic}
 
--- the byte that an entry begins with
+-- the tag of an entry: the byte that its text begins with
 abbrev pub tag_of : PoolEntry → ℕ
 tag_of (Utf8 text) = 1
 tag_of (Integer value) = 3
@@ -40,7 +40,7 @@ tag_of (MethodHandle kind entry) = 15
 tag_of (MethodType descriptor) = 16
 tag_of (InvokeDynamic first name_and_type) = 18
 
--- the bytes after the tag
+-- the content of an entry: the bytes after the tag
 abbrev pub content_of : PoolEntry → List ℕ
 content_of (Utf8 text) = big_bytes 2 (length text) ++ text
 content_of (Integer value) = big_bytes 4 (cast_unsigned w32 value)
@@ -55,7 +55,7 @@ content_of (MethodHandle kind entry) = kind ∷ big_bytes 2 entry
 content_of (MethodType descriptor) = big_bytes 2 descriptor
 content_of (InvokeDynamic first name_and_type) = big_bytes 2 first ++ big_bytes 2 name_and_type
 
--- the entries that take two places
+-- an entry is a Long or a Double, which takes two places (JVM specification, section 4.4.5)
 abbrev pub is_wide : PoolEntry → Bool
 is_wide (Long bits) = true
 is_wide (Double bits) = true
@@ -63,18 +63,22 @@ is_wide _ = false
 
 -- ---- what entries name
 
+-- an entry is a Utf8 (JVM specification, section 4.4.7)
 abbrev pub is_utf8 : PoolEntry → Bool
 is_utf8 (Utf8 text) = true
 is_utf8 _ = false
 
+-- an entry is a Class (JVM specification, section 4.4.1)
 abbrev pub is_class : PoolEntry → Bool
 is_class (Class name) = true
 is_class _ = false
 
+-- an entry is a Fieldref, a Methodref or an InterfaceMethodref (JVM specification, section 4.4.2)
 abbrev pub is_member : PoolEntry → Bool
 is_member (Member tag class name_and_type) = true
 is_member _ = false
 
+-- an entry is a NameAndType (JVM specification, section 4.4.6)
 abbrev pub is_name_and_type : PoolEntry → Bool
 is_name_and_type (NameAndType name descriptor) = true
 is_name_and_type _ = false
@@ -94,11 +98,11 @@ names_of (MethodHandle kind entry) = (entry, is_member) ∷ []
 names_of (MethodType descriptor) = (descriptor, is_utf8) ∷ []
 names_of (InvokeDynamic first name_and_type) = (name_and_type, is_name_and_type) ∷ []
 
--- the text of an entry
+-- the text of an entry: its tag and then its content
 abbrev pub entry_bytes : PoolEntry → List ℕ
 entry_bytes e = tag_of e ∷ content_of e
 
--- The bytes that no Utf8 entry has: 0, and 0xf0 to 0xff.
+-- the bytes that no Utf8 entry has: 0, and 0xf0 to 0xff (JVM specification, section 4.4.7)
 abbrev pub is_barred : ℕ → Bool
 is_barred b = (b == 0) || nat_le 0xf0 b
 
@@ -117,11 +121,11 @@ HasText (MethodHandle kind entry) = (kind < 2 ^ 8) × (entry < 2 ^ 16)
 HasText (MethodType descriptor) = descriptor < 2 ^ 16
 HasText (InvokeDynamic first name_and_type) = (first < 2 ^ 16) × (name_and_type < 2 ^ 16)
 
--- every byte of a Utf8 entry is allowed
+-- every byte of a Utf8 entry is allowed; other entries have no such rule
 abbrev pub IsAllowed : PoolEntry → Type 0
 IsAllowed (Utf8 text) = position is_barred text ≡ None
 IsAllowed _ = Unit {0}
 
--- the rules on an entry alone
+-- the rules on an entry alone, whatever stands in the rest of its pool
 abbrev pub Fits : PoolEntry → Type 0
 Fits e = HasText e × IsAllowed e

@@ -1,6 +1,5 @@
 pub mod Entry
-pub mod View
 pub mod Text
 pub mod Reading
-pub mod Places
 pub mod Faults
+pub mod inner

@@ -4,7 +4,7 @@ ghost use Rattle.std.specs.Prelude.{◌≡◌, ◌<◌, length};
 ghost use Rattle.std.specs.Option.{option_map, option_copied};
 ghost use Rattle.std.specs.List.{list_all};
 ghost use Rattle.class_pool.specs.Entry.{is_utf8, is_class, is_member, is_name_and_type, names_of};
-ghost use Rattle.class_pool.specs.View.{entry_of};
+ghost use Rattle.class_pool.specs.inner.View.{entry_of};
 ghost use Rattle.class_pool.specs.Text.{places_of, entry_at, tag_at, stands, names_badly, first_bad_index, utf8_at, integer_at};
 ghost use Rattle.class_pool.specs.Text.{name_index_at, class_name_at, name_and_type_at, member_at};
 
@@ -22,7 +22,7 @@ pub(crate) struct Entries<'a> {
 impl<'a> Model for Entries<'a> {
     ghost use Rattle.std.specs.Prelude.{List, ◌<◌, ◌^◌, length};
     ghost use Rattle.class_pool.specs.declared.entry.PoolEntry.{PoolEntry};
-    ghost use Rattle.class_pool.specs.Places.{entries_in, Agrees};
+    ghost use Rattle.class_pool.specs.inner.Places.{entries_in, Agrees};
 
     ghost Value = { List PoolEntry };
 

@@ -71,7 +71,7 @@ pub(crate) enum EntryView<'a> {
 impl EntryView<'_> {
     ghost use Rattle.std.specs.Prelude.{◌≡◌};
     ghost use Rattle.class_pool.specs.Entry.{tag_of, is_wide};
-    ghost use Rattle.class_pool.specs.View.{entry_of};
+    ghost use Rattle.class_pool.specs.inner.View.{entry_of};
 
     pub(crate) fn tag(self) -> u8
         ensures { result ≡ tag_of (entry_of self.entry) }
@@ -101,7 +101,7 @@ impl EntryView<'_> {
 
 impl PoolEntry {
     ghost use Rattle.std.specs.Prelude.{◌≡◌};
-    ghost use Rattle.class_pool.specs.View.{entry_of};
+    ghost use Rattle.class_pool.specs.inner.View.{entry_of};
 
     /// The same entry, borrowed.
     pub(crate) fn view(&self) -> EntryView<'_>

@@ -2,10 +2,10 @@
 
 ghost use Rattle.std.specs.Prelude.{◌≡◌, ◌<◌, ◌+◌, ◌-◌, [], ◌∷◌, ◌++◌, if◌then◌else◌, drop, length, position, IfSome, IfOk, OnOk};
 ghost use Rattle.class_pool.specs.Entry.{is_barred};
-ghost use Rattle.class_pool.specs.View.{entry_of};
+ghost use Rattle.class_pool.specs.inner.View.{entry_of};
 ghost use Rattle.class_pool.specs.Reading.{Answers, Gives, unread, entries_at, content_at, entry_text_at, text_rule, is_wide_tag};
 ghost use Rattle.class_pool.specs.Reading.{starts_wide, entry_at_place};
-ghost use Rattle.class_pool.specs.Places.{entries_in, Agrees};
+ghost use Rattle.class_pool.specs.inner.Places.{entries_in, Agrees};
 
 use crate::entry::EntryView;
 use crate::fault::PoolFault;

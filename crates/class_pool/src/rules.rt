@@ -2,7 +2,7 @@
 
 ghost use Rattle.std.specs.Prelude.{◌↔◌, IsTrue, All};
 ghost use Rattle.class_pool.specs.Entry.{HasText};
-ghost use Rattle.class_pool.specs.View.{entry_of};
+ghost use Rattle.class_pool.specs.inner.View.{entry_of};
 ghost use Rattle.class_pool.specs.Text.{HasTexts};
 
 use crate::entry::{EntryView, PoolEntry};

@@ -2,7 +2,7 @@
 
 ghost use Rattle.std.specs.Prelude.{◌≡◌, ◌<◌, ◌^◌, ◌++◌, length, OnOk};
 ghost use Rattle.class_pool.specs.Entry.{entry_bytes, HasText};
-ghost use Rattle.class_pool.specs.View.{entry_of};
+ghost use Rattle.class_pool.specs.inner.View.{entry_of};
 ghost use Rattle.class_pool.specs.Text.{places_of, HasTexts, pool_bytes};
 
 use crate::entry::{EntryView, PoolEntry};

@@ -19,7 +19,7 @@ use Rattle.class_program.specs.declared.selected.Selected.{Selected}
 use Rattle.class_program.specs.declared.selected.Selected.TheVariants as answers
 use Rattle.class_world.specs.declared.world.MethodRef.{MethodRef}
 use Rattle.class_world.specs.World.{World, line_of, is_abstract, is_interface}
-use Rattle.class_world.specs.Walks.{IsIn}
+use Rattle.class_world.specs.lemmas.Walks.{IsIn}
 use Rattle.class_program.specs.Said.{Said, ◌>>=◌, each}
 use Rattle.class_world.specs.Types.{is_class_below}
 use Rattle.class_world.specs.Fields.{can_be_made}

@@ -13,8 +13,8 @@ use Rattle.class_world.specs.World.{World, built_ins, built_in_names, super_of, 
 use Rattle.class_world.specs.World.{line_from, line_of}
 use Rattle.class_world.specs.Fields.{field_slot}
 use Rattle.class_world.specs.Linking.{is_linked, is_bad_superclass, bad_super}
-use Rattle.class_world.specs.Linked.{linked_from}
-use Rattle.class_world.specs.Walks.{IsIn}
+use Rattle.class_world.specs.lemmas.Linked.{linked_from}
+use Rattle.class_world.specs.lemmas.Walks.{IsIn}
 use Rattle.class_world.specs.Resolve.{found_field, resolve_field, field_at, field_place}
 use Rattle.class_world.specs.BuiltIns.{IsWorld}
 use Rattle.class_world.proofs.Found.{found_in}

@@ -14,7 +14,7 @@ use Rattle.class_world.specs.World.{World}
 use Rattle.class_world.specs.BuiltIns.{IsWorld}
 use Rattle.class_world.specs.Fields.{fields_of}
 use Rattle.class_world.specs.Resolve.{has_body}
-use Rattle.class_world.specs.SlotLaws.{fields_are}
+use Rattle.class_world.specs.lemmas.SlotLaws.{fields_are}
 use Rattle.list_views.proofs.Steps.{bind_ok}
 use Rattle.class_program.specs.declared.operand.Operand.{Operand}
 use Rattle.class_program.specs.declared.operand.Operand.TheVariants as operands

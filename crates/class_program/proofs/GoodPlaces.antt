@@ -20,7 +20,7 @@ use Rattle.class_world.specs.declared.fault.MethodName.{MethodName}
 use Rattle.class_world.specs.declared.fault.LinkFault.TheVariants.{MissingClass}
 use Rattle.class_world.specs.declared.world.MethodRef.{MethodRef}
 use Rattle.class_world.specs.World.{World, class_of}
-use Rattle.class_world.specs.Linked.{class_of_within}
+use Rattle.class_world.specs.lemmas.Linked.{class_of_within}
 use Rattle.list_views.proofs.Steps.{bind_ok}
 use Rattle.class_program.specs.declared.program.StaticField.{StaticField}
 use Rattle.class_program.specs.declared.op.Op.{Op}

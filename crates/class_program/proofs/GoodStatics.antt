@@ -17,7 +17,7 @@ use Rattle.class_world.specs.World.{World, line_of, is_static, is_interface_clas
 use Rattle.class_world.specs.Descriptors.{slot_of}
 use Rattle.class_world.specs.Resolve.{is_field_named, declared_field, field_at, is_static_field, found_field, resolve_field}
 use Rattle.class_world.specs.Resolve.{first_static_init}
-use Rattle.class_world.specs.SlotLaws.{slot_is}
+use Rattle.class_world.specs.lemmas.SlotLaws.{slot_is}
 use Rattle.class_world.proofs.Found.{found_in}
 use Rattle.list_views.proofs.Steps.{bind_ok}
 use Rattle.class_program.specs.declared.refusal.Refusal.TheVariants as refusals

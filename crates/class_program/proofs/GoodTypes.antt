@@ -21,8 +21,8 @@ use Rattle.class_world.specs.World.{World, class_of}
 use Rattle.class_world.specs.declared.meaning.Meaning.{Meaning}
 use Rattle.class_world.specs.declared.meaning.Meaning.TheVariants.{Known, Unsupported, Missing}
 use Rattle.class_world.specs.Descriptors.{meaning_of, known_slot}
-use Rattle.class_world.specs.Linked.{class_of_within}
-use Rattle.class_world.specs.SlotLaws.{type_dims, meaning_is}
+use Rattle.class_world.specs.lemmas.Linked.{class_of_within}
+use Rattle.class_world.specs.lemmas.SlotLaws.{type_dims, meaning_is}
 use Rattle.list_views.proofs.Steps.{bind_ok}
 use Rattle.class_program.specs.declared.refusal.Refusal.TheVariants as refusals
 use Rattle.class_program.specs.declared.signature.Signature.{Signature}

@@ -11,7 +11,7 @@ use Rattle.class_world.specs.World.{World}
 use Rattle.class_world.specs.Resolve.{method_at}
 use Rattle.class_world.specs.Select.{select}
 use Rattle.class_program.specs.Reached.{same_method}
-use Rattle.class_program.specs.Rows.{Rows, IsRow, AreRows}
+use Rattle.class_program.specs.inner.Rows.{Rows, IsRow, AreRows}
 use Rattle.class_program.proofs.Room.{same_is}
 
 pub row_start : (world : World) (m : MethodContent) (row : List (Option MethodRef)) → row ≡ [] → IsRow world m row

@@ -40,7 +40,7 @@ use Rattle.class_program.specs.Selected.{selection_at, selected_in, can_receive}
 
 -- ---- places
 
--- an instruction stands at the place
+-- an instruction stands at a place of a method
 abbrev pub is_place : List (ℕ × Op) → ℕ → Bool
 is_place insns place = is_some (instruction_at insns place)
 
@@ -64,7 +64,7 @@ pub record IsGoodStaticUse (p : Program) (used : StaticUse) : Type 0 where
   pub there : slice_get p.statics used.place ≡ Some field
   pub same : static_ref field ≡ used.field
 
--- a class and a method that are there, and types of the world
+-- a call names a class and a method that are there, and passes and gives what slots of the world hold
 pub record IsGoodCall (world : World) (call : Call) : Type 0 where
   pub class : call.class < length world
   pub method : MethodContent
@@ -72,14 +72,15 @@ pub record IsGoodCall (world : World) (call : Call) : Type 0 where
   pub params : AllByRecursion (IsSlot (length world)) call.params
   pub result : IfSome call.result (IsSlot (length world))
 
--- the method of that number takes these slots and then the call's parameters, and gives the call's result
+-- the method of a number takes these slots and then the call's parameters, and gives the call's result
 pub record Takes (methods : List Method) (receiver : List Slot) (call : Call) (number : ℕ) : Type 0 where
   pub method : Method
   pub there : slice_get methods number ≡ Some method
   pub params : method.params ≡ receiver ++ call.params
   pub result : method.result ≡ call.result
 
--- `invokestatic` names a class and runs a method of the program
+-- `invokestatic` names a class, no interface, and runs a method of the program that takes the call's parameters (JVM specification,
+-- section 6.5.invokestatic)
 pub record IsGoodStatic (p : Program) (call : Call) : Type 0 where
   pub good : IsGoodCall p.world call
   pub class : is_interface_class p.world call.class ≡ false
@@ -123,7 +124,7 @@ pub record IsGoodSelecting (p : Program) (op : Op) (call : Call) : Type 0 where
       → (answer : Selected) × (option_and_then (selected_in (refs_of p.methods)) (selection_at p.world op class) ≡ Some answer)
       × IsGoodAnswer p call class answer
 
--- a class that can be made
+-- `new` names a class of which there are objects (JVM specification, section 6.5.new)
 pub record IsGoodNew (world : World) (t : Ty) : Type 0 where
   pub class : ℕ
   pub type_is : t ≡ class_type class
@@ -137,6 +138,8 @@ IsGoodPlain Nothing = Unit {0}
 IsGoodPlain (Numbers code) = IsTrue (is_some (kind_of_code code))
 IsGoodPlain _ = ⊥
 
+-- What an instruction of a method of class `current` names is there, of the kind that the instruction wants: its constant, field,
+-- call, class or array type (JVM specification, sections 5.4.3 and 6.5).
 abbrev pub IsGoodName : Program → ℕ → Op → Type 0
 IsGoodName p current (Plain insn) = IsGoodPlain (operand_of insn)
 IsGoodName p current (Constant value) = Unit {0}
@@ -158,14 +161,15 @@ abbrev pub targets_of : Op → List ℕ
 targets_of (Plain insn) = targets insn
 targets_of _ = []
 
--- an instruction of a method
+-- an instruction of a method is good: what it names is there, and instructions stand where it may jump to
 pub record IsGoodOp (p : Program) (m : Method) (op : Op) : Type 0 where
   pub named : IsGoodName p m.class op
   pub leads : AllByRecursion (λ t. IsTrue (is_place m.insns t)) (targets_of op)
 
 -- ---- methods and programs
 
--- an entry of an exception table
+-- An entry of an exception table is good: its range begins at an instruction and ends behind it, an instruction stands at its handler,
+-- and the class that it catches is there (JVM specification, section 4.7.3).
 pub record IsGoodRange (world : World) (m : Method) (r : CatchRange) : Type 0 where
   pub start : IsTrue (is_place m.insns r.start)
   pub end : IsEnd m.insns r.end
@@ -173,7 +177,7 @@ pub record IsGoodRange (world : World) (m : Method) (r : CatchRange) : Type 0 wh
   pub handler : IsTrue (is_place m.insns r.handler)
   pub catch : IfSome r.catch (λ class. class < length world)
 
--- the declaration that a method is
+-- a method is what its class declares at its place: it has the name, descriptor, code and parameters of that declaration
 pub record IsDeclared (world : World) (m : Method) : Type 0 where
   pub content : MethodContent
   pub there : method_at world (ref_of m) ≡ Some content
@@ -187,6 +191,8 @@ pub record IsDeclared (world : World) (m : Method) : Type 0 where
   pub name : m.name ≡ content.name
   pub desc : m.desc ≡ content.desc
 
+-- A method of a program is good: it is declared by a class of the world, its slots hold what the world knows, its instructions are
+-- good and stand at rising places, and so are the entries of its exception table.
 pub record IsGoodMethod (p : Program) (m : Method) : Type 0 where
   pub class : m.class < length p.world
   pub declared : IsDeclared p.world m
@@ -196,7 +202,7 @@ pub record IsGoodMethod (p : Program) (m : Method) : Type 0 where
   pub insns : AllByRecursion (λ x. IsGoodOp p m x.1) m.insns
   pub table : AllByRecursion (IsGoodRange p.world m) m.table
 
--- a static field that a class declares, with what it holds
+-- a static field is what its class declares at its place, with what it holds
 pub record IsDeclaredStatic (world : World) (s : StaticField) : Type 0 where
   pub content : FieldContent
   pub there : field_at world s.class s.index ≡ Some content
@@ -214,6 +220,8 @@ pub record IsGoodAt (p : Program) (number pc : ℕ) (op : Op) (next : Option ℕ
   pub good : IsGoodOp p method op
   pub next_there : IfSome next (λ place. IsTrue (is_place method.insns place))
 
+-- A program is good: its entry is its first method, all of its methods are good, its static fields are declared by their classes, and
+-- it has at most 256 of them.
 pub record IsGood (p : Program) : Type 0 where
   -- the entry is the method of number 0
   pub first : (m : Method) × (slice_get p.methods 0 ≡ Some m) × (ref_of m ≡ p.entry)

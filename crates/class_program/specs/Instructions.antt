@@ -15,17 +15,17 @@ abbrev pub instruction_at : {A : Type 0} → List (ℕ × A) → ℕ → Option 
 instruction_at [] place = None
 instruction_at (x ∷ rest) place = if x.0 == place then Some (x.1, first_place rest) else instruction_at rest place
 
--- the places rise, from a place on
+-- the places of instructions rise strictly, and the first is at least this one
 abbrev pub rises_from : {A : Type 0} → ℕ → List (ℕ × A) → Bool
 rises_from place [] = true
 rises_from place (x ∷ rest) = nat_le place x.0 && rises_from (x.0 + 1) rest
 
--- the first instruction stands at the code's start
+-- the first of these instructions, if there is any, stands at the code's start, place 0
 abbrev pub starts_at_zero : {A : Type 0} → List (ℕ × A) → Bool
 starts_at_zero [] = true
 starts_at_zero (x ∷ rest) = x.0 == 0
 
--- the places rise, and the first is 0
+-- the instructions of a code stand where they can: the first at place 0, and each later one at a higher place
 abbrev pub is_placed : {A : Type 0} → List (ℕ × A) → Bool
 is_placed insns = starts_at_zero insns && rises_from 0 insns
 

@@ -35,7 +35,7 @@ object_methods =
     ∷ (codes "finalize", codes "()V")
     ∷ []
 
--- the same of java.lang.Throwable
+-- the methods, by name and descriptor, of java.lang.Throwable that aren't private or static (Java SE 8)
 unfoldable pub throwable_methods : List (List ℕ × List ℕ)
 throwable_methods =
     (codes "getMessage", codes "()Ljava/lang/String;")
@@ -75,6 +75,7 @@ loses_method world named m = is_selectable m && list_any (loses world m.name m.d
 
 -- ---- packages (section 5.4.5)
 
+-- a byte of a name is `/`, which stands between the parts of a package's name (JVM specification, section 4.2.1)
 abbrev pub is_slash : ℕ → Bool
 is_slash byte = byte == 47
 
@@ -88,7 +89,8 @@ package_of (byte ∷ more) = if list_any is_slash more then byte ∷ package_of 
 abbrev pub package_at : World → ℕ → List ℕ
 package_at world class = package_of (option_map_or (λ c. c.name) (slice_get world class) [])
 
--- none of the flags PUBLIC 0x0001, PRIVATE 0x0002 and PROTECTED 0x0004 (table 4.6-A): package-private; the other flags don't matter
+-- A method is package-private: it has none of the flags PUBLIC 0x0001, PRIVATE 0x0002 and PROTECTED 0x0004 (JVM specification, table
+-- 4.6-A); the other flags don't matter.
 abbrev pub is_package_private : MethodContent → Bool
 is_package_private m = not (has_flag m.flags 0x0007)
 
@@ -105,7 +107,8 @@ leaves_package world named declaring m =
 
 -- ---- calls
 
--- `invokevirtual` of the named class, whose resolved method is `m` of class `declaring`
+-- `invokevirtual` of the named class, whose resolved method is `m` of class `declaring`, could run another method than in a JVM: a
+-- receiver loses `m`, or selects a method of another package.
 abbrev pub virtual_differs : World → ℕ → ℕ → MethodContent → Bool
 virtual_differs world named declaring m = loses_method world named m || leaves_package world named declaring m
 

@@ -1,19 +1,24 @@
-pub mod Refusals
-pub mod Signatures
-pub mod Operands
-pub mod JvmDiffers
-pub mod Ops
-pub mod Runs
-pub mod Said
-pub mod Methods
-pub mod Statics
-pub mod Reached
-pub mod Instructions
+-- programs, and what is known of each of them
 pub mod Programs
-pub mod Selected
+pub mod Instructions
 pub mod Good
-pub mod Views
 pub mod Widths
-pub mod WidthProps
-pub mod Rows
-pub mod Reads
+pub mod Views
+-- which methods an entry reaches, and the static fields that they name
+pub mod Reached
+pub mod Runs
+pub mod Statics
+-- what a method and its instructions are once their names are resolved
+pub mod Methods
+pub mod Operands
+pub mod Ops
+pub mod Signatures
+pub mod JvmDiffers
+-- what a call runs on an object
+pub mod Selected
+-- what is said of a part that breaks a rule
+pub mod Said
+pub mod Refusals
+-- the words of private calls, and a proof for a ghost field
+pub mod inner
+pub mod lemmas

@@ -41,33 +41,34 @@ method_name world class m = record { class = class_name world class; name = m.na
 
 -- ---- what is asked of a method, one rule after the other
 
--- no class is initialised that has a static initialiser: neither the method's class nor one above it
+-- The fault of a method whose call would run a static initialiser: one that its class has, or one of a class above (JVM specification,
+-- section 5.5).
 unfoldable pub static_init : World → ℕ → Option LinkFault
 static_init world class = option_map StaticInit (first_static_init world class)
 
--- The code of a method that isn't native. Of the methods that aren't abstract the native ones have no code, and they
--- alone.
+-- The code of a method that isn't abstract. Of these the native ones have no code, and they alone; they are not supported (JVM
+-- specification, section 4.7.3).
 unfoldable pub code_of : MethodName → MethodContent → Said CodeContent
 code_of name m = if is_native m.flags then Err (Native name) else option_map_or Ok m.code (Err (Native name))
 
--- it isn't synchronized
+-- the fault of a method that is synchronized: such methods are not supported (JVM specification, section 2.11.10)
 unfoldable pub synchronized : MethodName → MethodContent → Option LinkFault
 synchronized name m = if is_synchronized m.flags then Some (Synchronized name) else None
 
--- what its descriptor means
+-- what the descriptor of a method means that a class declares, or the fault that it has (JVM specification, section 4.3.3)
 unfoldable pub own_types : World → MethodName → List ℕ → Said Signature
 own_types world name desc = with_fault name 0 (declared_signature world desc)
 
--- what is said of its code
+-- what is said of the code of a method, with a fault of the code as one of the method
 abbrev pub in_method : {A : Type 0} → MethodName → Result A CodeFault → Said A
 in_method name (Ok x) = Ok x
 in_method name (Err fault) = Err (Code name fault)
 
--- the boundaries of the exception table are good
+-- the fault of an exception table of a code whose ranges and handlers don't stand where instructions do, if it has any
 abbrev pub table_said : CodeContent → List (ℕ × Insn) → Result (Unit {0}) CodeFault
 table_said code insns = boundary_fault (first_bad_boundary (stands (starts insns)) (length code.code) code.table)
 
--- the instructions of a code whose exception table is good
+-- the instructions of a code, or the fault of the code or of its exception table
 unfoldable pub insns_of : MethodName → CodeContent → Said (List (ℕ × Insn))
 insns_of name code = do
   insns ← in_method name (decode_of code.code)
@@ -84,7 +85,7 @@ op_said world class name x = do
 unfoldable pub ops_of : World → ℕ → MethodName → List (ℕ × Insn) → Said (List (ℕ × Op))
 ops_of world class name insns = each (op_said world class name) insns
 
--- the class of a name, which must be there
+-- the class that an entry of an exception table catches, by its name; it must be there
 abbrev pub caught : World → List ℕ → Said (Option ℕ)
 caught world name = option_map_or (λ class. Ok (Some class)) (class_of world name) (Err (MissingClass name))
 
@@ -102,13 +103,14 @@ range_of world pool h = do
 unfoldable pub table_of : World → List PoolEntry → List Handler → Said (List CatchRange)
 table_of world pool table = each (range_of world pool) table
 
--- an instance method has its receiver, an object of its class, before the parameters
+-- What the parameters of a method hold: in an instance method the receiver, an object of its class, stands before those of the
+-- descriptor (JVM specification, section 2.6.1).
 abbrev pub with_receiver : ℕ → ℕ → List Slot → List Slot
 with_receiver class flags params = if is_static flags then params else class_slot 0 class ∷ params
 
 -- ---- the method
 
--- the method of what its declaration's parts say
+-- the method that the parts of its declaration make, once each of them is resolved
 abbrev pub made_of : MethodRef → MethodContent → CodeContent → Signature → List (ℕ × Op) → List CatchRange → Method
 made_of ref m code types ops table = record {
   class = ref.class;
@@ -123,7 +125,8 @@ made_of ref m code types ops table = record {
   table = table;
 }
 
--- what the method is whose parameters and result are these: its instructions and its exception table
+-- What a method is whose parameters and result are known: its instructions and its exception table with their names resolved, or the
+-- first fault of these.
 unfoldable pub coded_of : World → MethodRef → MethodName → MethodContent → CodeContent → Signature → Said Method
 coded_of world ref name m code types = do
   insns ← insns_of name code
@@ -131,14 +134,14 @@ coded_of world ref name m code types = do
   table ← table_of world (pool_of world ref.class) code.table
   Ok (made_of ref m code types ops table)
 
--- what the method of these names is, in a class that may be initialised
+-- what a method is of a class that has no static initialiser to run, or the first fault that it has
 unfoldable pub named_of : World → MethodRef → MethodName → MethodContent → Said Method
 named_of world ref name m = do
   code ← code_of name m
   types ← unless (synchronized name m) (own_types world name m.desc)
   coded_of world ref name m code types
 
--- what the method is, whose instructions name others as methods of the world
+-- what a method of the world is once its names are resolved, or the first fault that it has; its calls still name methods of the world
 unfoldable pub method_of : World → MethodRef → MethodContent → Said Method
 method_of world ref m =
     let name = method_name world ref.class m in

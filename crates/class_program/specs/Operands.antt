@@ -30,7 +30,8 @@ operand_of (Checkcast entry) = Class classes.Checkcast entry
 operand_of (Instanceof entry) = Class classes.Instanceof entry
 operand_of _ = Nothing
 
--- what a Fieldref, Methodref or InterfaceMethodref entry names
+-- what a Fieldref, Methodref or InterfaceMethodref entry names: a member by its class, name and descriptor (JVM specification, section
+-- 4.4.2)
 pub record Member : Type 0 where
   pub class : List ℕ
   pub name : List ℕ

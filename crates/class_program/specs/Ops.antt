@@ -61,11 +61,14 @@ use Rattle.class_program.specs.JvmDiffers.{call_differs, new_differs}
 
 -- ---- constants (section 6.5, ldc)
 
--- strings, classes, long, float and double
+-- The tag of a pool entry is that of a constant which `ldc` can load and programs here can't: float, long, double, class or string
+-- (JVM specification, section 4.4).
 abbrev pub is_other_constant : Option ℕ → Bool
 is_other_constant (Some tag) = (tag == 4) || (tag == 5) || (tag == 6) || (tag == 7) || (tag == 8)
 is_other_constant None = false
 
+-- `ldc` of a pool entry: the instruction that pushes the entry's int. Other constants are not supported, and an entry that is no
+-- constant names nothing (JVM specification, section 6.5.ldc).
 unfoldable pub constant_of : List PoolEntry → ℕ → Result Op Refusal
 constant_of pool entry =
     option_map_or (λ value. Ok (Constant value)) (integer_at pool entry)
@@ -73,6 +76,8 @@ constant_of pool entry =
 
 -- ---- classes and array types (sections 4.4.1 and 5.4.3.1)
 
+-- The reference type that a descriptor means, or why there is none: its class is missing, its type is not supported, or it is a
+-- number's
 abbrev pub meant_type : Meaning → Result Ty Refusal
 meant_type (Known (slots.Ref t)) = Ok t
 meant_type (Known (slots.Num kind)) = Err Unresolved
@@ -83,6 +88,7 @@ meant_type (Missing name) = Err (refusals.MissingClass name)
 unfoldable pub array_type : World → FieldType → Result Ty Refusal
 array_type world t = if t.dims == 0 then Err Unresolved else meant_type (meaning_of world t)
 
+-- the type of the class of a name, or that the world lacks the class
 unfoldable pub class_named : World → List ℕ → Result Ty Refusal
 class_named world name = option_map_or (λ class. Ok (class_type class)) (class_of world name) (Err (refusals.MissingClass name))
 
@@ -92,9 +98,11 @@ type_named world text =
     if is_class_name text then class_named world text
     else option_map_or (array_type world) (field_type text) (Err Unresolved)
 
+-- the class or array type that a Class entry of a pool names, or why there is none
 unfoldable pub type_operand : World → List PoolEntry → ℕ → Result Ty Refusal
 type_operand world pool entry = wanted (class_name_at pool entry) >>= type_named world
 
+-- the class that stands under the dimensions of a type; a kind of numbers is none
 abbrev pub base_class : Base → Result ℕ Refusal
 base_class (bases.Class class) = Ok class
 base_class (bases.Num kind) = Err Unresolved
@@ -114,10 +122,12 @@ new_made world class = do
 unfoldable pub new_of : World → ℕ → Result Op Refusal
 new_of world class = option_map_or (λ name. Err (refusals.StaticInit name)) (first_static_init world class) (new_made world class)
 
--- an array has at most 255 dimensions
+-- `anewarray` of items of a type: the array has one dimension more, and at most 255 (JVM specification, section 6.5.anewarray)
 unfoldable pub anewarray_of : Ty → Result Op Refusal
 anewarray_of t = required (nat_lt t.dims 255) >>= λ _. Ok (Anewarray t)
 
+-- What an instruction is that names this class or array type, by which of `new`, `anewarray`, `checkcast` and `instanceof` it is (JVM
+-- specification, section 6.5).
 unfoldable pub class_op : World → ClassForm → Ty → Result Op Refusal
 class_op world classes.New t = class_number t >>= new_of world
 class_op world classes.Anewarray t = anewarray_of t
@@ -135,6 +145,7 @@ member_operand pool tag entry = do
 
 -- ---- instance fields (section 5.4.3.2)
 
+-- the use of a field of the named class's objects, at its place among their fields and with what it holds there
 abbrev pub field_use : ℕ → ℕ × Slot → FieldUse
 field_use class place = record { class = class; place = place.0; slot = place.1 }
 
@@ -150,6 +161,8 @@ field_found world class desc found =
 unfoldable pub unhidden : World → ℕ → Member → ℕ × ℕ → Result (Unit {0}) Refusal
 unhidden world class m found = required (not (is_hidden world class found.0 m.name m.desc))
 
+-- The field that `getfield` or `putfield` names: the named class is there, look-up finds the field, it is one of objects, and a JVM
+-- finds no other one (JVM specification, section 5.4.3.2).
 unfoldable pub field_of : World → Member → Result FieldUse Refusal
 field_of world m = do
   t ← type_named world m.class
@@ -159,6 +172,7 @@ field_of world m = do
   same ← unhidden world class m found
   Ok used
 
+-- the instruction that reads a field of an object, or the one that writes it
 abbrev pub field_op : FieldForm → FieldUse → Op
 field_op fields.Getfield use_ = Getfield use_
 field_op fields.Putfield use_ = Putfield use_
@@ -173,11 +187,14 @@ static_kind world desc found =
     else (required (is_static_field world found.0 found.1) >>= λ _. Ok
     (record { field = record { class = found.0; index = found.1 }; place = 0 }))
 
--- The class that declares it is initialised, and those above it, whatever kind of field it is.
+-- The static field that look-up found, as what `getstatic` and `putstatic` use. The class that declares it is initialised, and those
+-- above it, whatever kind of field it is; so none of these has a static initialiser.
 unfoldable pub static_found : World → List ℕ → ℕ × ℕ → Result StaticUse Refusal
 static_found world desc found =
     option_map_or (λ name. Err (refusals.StaticInit name)) (first_static_init world found.0) (static_kind world desc found)
 
+-- The static field that `getstatic` or `putstatic` names: the named class is there, look-up finds the field, it is static, no static
+-- initialiser would run, and a JVM finds no other field (JVM specification, sections 5.4.3.2 and 5.5).
 unfoldable pub static_of : World → Member → Result StaticUse Refusal
 static_of world m = do
   t ← type_named world m.class
@@ -187,25 +204,29 @@ static_of world m = do
   same ← unhidden world class m found
   Ok used
 
+-- the instruction that reads a static field, or the one that writes it
 abbrev pub static_op : StaticForm → StaticUse → Op
 static_op statics.Getstatic used = Getstatic used
 static_op statics.Putstatic used = Putstatic used
 
 -- ---- methods (sections 5.4.3.3 and 5.4.3.4)
 
--- the name of constructors
+-- the name of constructors, `<init>` (JVM specification, section 2.9)
 abbrev pub constructor_name : List ℕ
 constructor_name = codes "<init>"
 
+-- a call is an `invokespecial`
 abbrev pub is_special : CallForm → Bool
 is_special calls.Special = true
 is_special _ = false
 
+-- a call is an `invokeinterface`
 abbrev pub is_of_interface : CallForm → Bool
 is_of_interface calls.Interface = true
 is_of_interface _ = false
 
--- `invokeinterface` takes an InterfaceMethodref, the others a Methodref
+-- the tag of the pool entry that a call takes: `invokeinterface` an InterfaceMethodref, all others a Methodref (JVM specification,
+-- section 4.4)
 abbrev pub member_tag : CallForm → ℕ
 member_tag form = if is_of_interface form then 11 else 10
 
@@ -229,32 +250,36 @@ unfoldable pub special_start : World → ℕ → ℕ → ℕ
 special_start world current class =
     option_map_or (λ super. if list_any (λ c. c == class) (line_of world super) then super else class) (super_of world current) class
 
+-- The method that `invokespecial` from a method of class `current` names: a constructor of the named class itself, else what look-up
+-- finds from where it starts (JVM specification, section 6.5.invokespecial).
 unfoldable pub special_sought : World → ℕ → ℕ → List ℕ → List ℕ → Option MethodRef
 special_sought world current class name desc =
     if bytes_eq name constructor_name then constructor_of world class desc
     else resolve_method world (special_start world current class) name desc
 
--- where a call looks for its method
+-- The method that a call from a method of class `current` names: where look-up begins differs for `invokespecial` alone (JVM
+-- specification, sections 5.4.3.3 and 6.5).
 unfoldable pub method_sought : World → ℕ → CallForm → ℕ → List ℕ → List ℕ → Option MethodRef
 method_sought world current calls.Special class name desc = special_sought world current class name desc
 method_sought world current _ class name desc = resolve_method world class name desc
 
--- a static method has a body, and it is no interface's
+-- `invokestatic` can run a method of a class: it is static and has a body, and the class is no interface
 abbrev pub is_fit_static : World → ℕ → MethodContent → Bool
 is_fit_static world class m = is_static m.flags && not (is_abstract m.flags) && not (is_interface_class world class)
 
--- `invokevirtual` of a private method is not supported
+-- `invokevirtual` can run a method: it isn't static. One of a private method is not supported.
 abbrev pub virtual_fit : MethodContent → Result (Unit {0}) Refusal
 virtual_fit m = required (not (is_static m.flags)) >>= λ _. if is_private m.flags then Err PrivateVirtual else Ok tt
 
--- a method of a class is of the kind that a call runs
+-- The method that look-up found, of this class, is of the kind that a call runs: static for `invokestatic`, of objects for the others
+-- (JVM specification, section 6.5).
 unfoldable pub method_fit : World → CallForm → ℕ → MethodContent → Result (Unit {0}) Refusal
 method_fit world calls.Static class m = required (is_fit_static world class m)
 method_fit world calls.Virtual class m = virtual_fit m
 method_fit world calls.Special class m = required (not (is_static m.flags))
 method_fit world calls.Interface class m = required (not (is_static m.flags))
 
--- what was found is a method, of the kind that a call runs
+-- look-up found a method, and one of the kind that the call runs; else the call is refused
 unfoldable pub found_fit : World → CallForm → Option MethodRef → Result MethodRef Refusal
 found_fit world form found = do
   ref ← wanted found
@@ -280,6 +305,7 @@ call_of world current form m = do
   ref ← method_called world current form class m.name m.desc
   Ok (record { class = class; method = ref; params = named.1.params; result = named.1.result; target = None })
 
+-- the instruction of a call, by which of the four instructions that invoke methods it is
 abbrev pub call_op : CallForm → Call → Op
 call_op calls.Virtual call = Invokevirtual call
 call_op calls.Special call = Invokespecial call
@@ -292,28 +318,33 @@ call_op calls.Interface call = Invokeinterface call
 unfoldable pub numbers_op : Insn → ℕ → Result Op Refusal
 numbers_op insn code = if is_none (kind_of_code code) then Err UnsupportedType else Ok (Plain insn)
 
+-- `getfield` or `putfield` of a pool entry: the instruction with its field, or why it has none
 unfoldable pub field_operand : World → List PoolEntry → FieldForm → ℕ → Result Op Refusal
 field_operand world pool form entry = do
   m ← member_operand pool 9 entry
   used ← field_of world m
   Ok (field_op form used)
 
+-- `getstatic` or `putstatic` of a pool entry: the instruction with its static field, or why it has none
 unfoldable pub static_operand : World → List PoolEntry → StaticForm → ℕ → Result Op Refusal
 static_operand world pool form entry = do
   m ← member_operand pool 9 entry
   used ← static_of world m
   Ok (static_op form used)
 
+-- `new`, `anewarray`, `checkcast` or `instanceof` of a pool entry: the instruction with its class or array type, or why it has none
 unfoldable pub class_operand : World → List PoolEntry → ClassForm → ℕ → Result Op Refusal
 class_operand world pool form entry = type_operand world pool entry >>= class_op world form
 
+-- a call of a pool entry, from a method of class `current`: the instruction with its method, or why it has none
 unfoldable pub call_operand : World → ℕ → List PoolEntry → CallForm → ℕ → Result Op Refusal
 call_operand world current pool form entry = do
   m ← member_operand pool (member_tag form) entry
   call ← call_of world current form m
   Ok (call_op form call)
 
--- the instruction of a class with that pool, by what it takes from the pool
+-- What an instruction of a method of class `current` is once its names are resolved against that class's pool, by what it takes from
+-- the pool; or why it is refused.
 unfoldable pub op_with : World → ℕ → List PoolEntry → Insn → Operand → Result Op Refusal
 op_with world current pool insn operands.Nothing = Ok (Plain insn)
 op_with world current pool insn (operands.Numbers code) = numbers_op insn code
@@ -323,14 +354,15 @@ op_with world current pool insn (operands.Field form entry) = field_operand worl
 op_with world current pool insn (operands.Class form entry) = class_operand world pool form entry
 op_with world current pool insn (operands.Call form entry) = call_operand world current pool form entry
 
--- the same, where a JVM selects the methods that are selected here
+-- What an instruction is once its names are resolved, where a JVM selects the methods that are selected here; else the instruction
+-- counts as unresolved
 unfoldable pub alike_with : World → ℕ → List PoolEntry → Insn → Operand → Result Op Refusal
 alike_with world current pool insn operand = do
   op ← op_with world current pool insn operand
   alike ← required (not (call_differs world op))
   Ok op
 
--- the constant pool of a class
+-- the constant pool of the class of a number; empty past the last class
 abbrev pub pool_of : World → ℕ → List PoolEntry
 pool_of world class = option_map_or (λ c. c.pool) (slice_get world class) []
 

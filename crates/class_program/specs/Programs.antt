@@ -14,6 +14,8 @@ use Rattle.class_program.specs.Instructions.{instruction_at}
 use Rattle.class_program.specs.Statics.{fields_named, statics_of}
 use Rattle.class_program.specs.Reached.{same_method, reached, close_of, is_closed}
 
+-- A program: the classes of a world, the method that a run begins with, and the methods and static fields that it needs, all names
+-- resolved.
 pub record Program : Type 0 where
   -- the classes
   pub world : World
@@ -26,15 +28,15 @@ pub record Program : Type 0 where
 
 -- ---- numbers
 
--- where a method is declared
+-- a method of a program as a reference: its class and its place in the class's file
 abbrev pub ref_of : Method → MethodRef
 ref_of m = record { class = m.class; index = m.index }
 
--- where methods are declared, in their order
+-- the methods of a program as references, in their order
 abbrev pub refs_of : List Method → List MethodRef
 refs_of methods = map ref_of methods
 
--- the number of the method that is declared there; none where it isn't one of them
+-- the number of a method of a program, by where it is declared; none where it isn't one of them
 abbrev pub number_of : List Method → MethodRef → Option ℕ
 number_of methods ref = position (same_method ref) (refs_of methods)
 
@@ -44,7 +46,7 @@ number_of methods ref = position (same_method ref) (refs_of methods)
 unfoldable pub insn_at : List Method → ℕ → ℕ → Option (Op × Option ℕ)
 insn_at methods number pc = option_and_then (λ m. instruction_at m.insns pc) (slice_get methods number)
 
--- that instruction
+-- the instruction at a place of the method of a number
 abbrev pub op_at : List Method → ℕ → ℕ → Option Op
 op_at methods number pc = option_map (λ x. x.0) (insn_at methods number pc)
 

@@ -23,10 +23,11 @@ use Rattle.class_program.specs.Statics.{statics_named, placed_use}
 
 -- ---- lists of methods
 
+-- two references stand for one method: they have one class and one place in its file
 abbrev pub same_method : MethodRef → MethodRef → Bool
 same_method a b = (a.class == b.class) && (a.index == b.index)
 
--- whether a method stands in a list
+-- a method is one of a list
 abbrev pub has_method : List MethodRef → MethodRef → Bool
 has_method refs ref = list_any (same_method ref) refs
 
@@ -45,11 +46,12 @@ with_new refs (more ∷ mores) = with_new (with_one refs more) mores
 unfoldable pub runs_in : World → Method → List MethodRef
 runs_in world m = flat_map (λ x. runs world x.1) m.insns
 
+-- the methods that a method can run, once its names are resolved; one that breaks a rule runs none
 abbrev pub runs_said : World → Said Method → List MethodRef
 runs_said world (Ok m) = runs_in world m
 runs_said world (Err fault) = []
 
--- the methods that a method of the world can run; one that breaks a rule runs none
+-- the methods that the method of a reference can run; one that breaks a rule, and one that isn't there, runs none
 unfoldable pub runs_from : World → MethodRef → List MethodRef
 runs_from world ref = option_map_or (λ m. runs_said world (method_of world ref m)) (method_at world ref) []
 
@@ -98,9 +100,11 @@ op_numbered refs statics (Invokespecial call) = Invokespecial (numbered refs cal
 op_numbered refs statics (Invokestatic call) = Invokestatic (numbered refs call)
 op_numbered refs statics op = op
 
+-- instructions of a method, with the numbers of the methods and the places of the static fields that they name
 abbrev pub insns_numbered : List MethodRef → List StaticField → List (ℕ × Op) → List (ℕ × Op)
 insns_numbered refs statics insns = map (λ x. (x.0, op_numbered refs statics x.1)) insns
 
+-- a method whose instructions have the numbers of the methods and the places of the static fields that they name
 abbrev pub method_numbered : List MethodRef → List StaticField → Method → Method
 method_numbered refs statics m = record {
   class = m.class;
@@ -127,6 +131,6 @@ close_of world entry = do
 abbrev pub has_runs : World → List MethodRef → Method → Bool
 has_runs world refs m = list_all (has_method refs) (runs_in world m)
 
--- it has all that the methods of a program can run
+-- a list of methods has all that the methods of a program can run
 abbrev pub is_closed : World → List MethodRef → List Method → Bool
 is_closed world refs methods = list_all (has_runs world refs) methods

@@ -11,11 +11,11 @@ use Rattle.class_program.specs.declared.refusal.Refusal.TheVariants.{PrivateVirt
 
 -- ---- what an operand names
 
--- what is there, else the operand names nothing
+-- what an operand names where it is there, else that the operand is unresolved
 abbrev pub wanted : {A : Type 0} → Option A → Result A Refusal
 wanted found = results.wanted Unresolved found
 
--- nothing where a test holds, else the operand names nothing of the right kind
+-- nothing where a test of what an operand names holds, else that the operand is unresolved
 abbrev pub required : Bool → Result (Unit {0}) Refusal
 required test = results.required Unresolved test
 
@@ -58,11 +58,11 @@ with_fault method pc said = results.with_fault (fault_at method pc) said
 
 -- ---- answers
 
--- want of memory
+-- a refusal that is none of the instruction: want of memory
 abbrev pub is_memory : Refusal → Bool
 is_memory Memory = true
 is_memory refusal = false
 
--- what a function answers, seen by `view`, is what a definition says, unless memory ran out
+-- what a call answers, seen by `view`, is what is due, unless memory ran out
 abbrev pub Gives : {X Y : Type 0} → (X → Y) → Result X Refusal → Result Y Refusal → Type 0
 Gives view answer said = results.Gives is_memory view answer said

@@ -12,19 +12,20 @@ use Rattle.class_world.specs.World.{World}
 use Rattle.class_world.specs.Resolve.{method_at, has_no_body}
 use Rattle.class_world.specs.Select.{select, receivers}
 
--- a method, unless it is abstract
+-- a method that a call comes to can run where it isn't abstract
 unfoldable pub with_body : World → MethodRef → Option MethodRef
 with_body world ref = if has_no_body world ref then None else Some ref
 
--- what a receiver's class selects, unless it is abstract
+-- the method that a receiver's class selects by a name and a descriptor, unless it is abstract
 unfoldable pub selected_body : World → List ℕ → List ℕ → ℕ → Option MethodRef
 selected_body world name desc class = option_and_then (with_body world) (select world name desc class)
 
--- what each class that a receiver can be of selects, class by class
+-- the methods that the classes of a call's receivers select by the name and descriptor of its method, class by class
 unfoldable pub selections : World → ℕ → MethodContent → List MethodRef
 selections world named m = filter_map (selected_body world m.name m.desc) (receivers world named)
 
--- the name and the descriptor are those of the method that resolution gave
+-- The methods that a call selects, over all classes of its receivers: the name and the descriptor are those of the method that
+-- resolution gave (JVM specification, section 6.5.invokevirtual).
 unfoldable pub call_selections : World → Call → List MethodRef
 call_selections world call = option_map_or (selections world call.class) (method_at world call.method) []
 

@@ -25,7 +25,7 @@ selection_at world (Invokeinterface call) class = Some
     (option_map_or (λ m. selected_interface world call.class m.name m.desc class) (method_at world call.method) Lacks)
 selection_at world _ class = None
 
--- the same with the method's number among the reached ones
+-- what selection gives, with the method that runs by its number among the reached ones
 unfoldable pub selected_in : List MethodRef → Selection → Option Selected
 selected_in refs (Runs ref) = option_map answers.Method (position (same_method ref) refs)
 selected_in refs Lacks = Some answers.Abstract
@@ -48,6 +48,7 @@ can_receive world (Invokevirtual call) class = is_receiver world call.class clas
 can_receive world (Invokeinterface call) class = can_be_made world class
 can_receive world _ class = false
 
+-- The instruction at a place of the method of a number is a call that selects, and an object of the class can be its receiver.
 unfoldable pub can_receive_at : Program → ℕ → ℕ → ℕ → Bool
 can_receive_at p number pc class = option_map_or (λ op. can_receive p.world op class) (op_at p.methods number pc) false
 

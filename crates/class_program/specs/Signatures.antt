@@ -16,17 +16,19 @@ use Rattle.class_world.specs.Descriptors.{meaning_of, known_slot}
 use Rattle.class_world.specs.declared.meaning.Meaning.{Meaning}
 use Rattle.class_world.specs.declared.meaning.Meaning.TheVariants.{Known, Unsupported, Missing}
 
--- all types of a method, from left to right
+-- all types of a method's descriptor, from left to right: those of its parameters, and that of its result unless it is void
 abbrev pub types_of : MethodType → List FieldType
 types_of m = m.params ++ option_to_list m.returned
 
 -- ---- meaning
 
+-- a type is one that no value here has: long, float or double, or an array of them
 abbrev pub is_unsupported : Meaning → Bool
 is_unsupported (Known slot) = false
 is_unsupported Unsupported = true
 is_unsupported (Missing name) = false
 
+-- the name of the class of a type that the world lacks
 abbrev pub missing_class : Meaning → Option (List ℕ)
 missing_class (Known slot) = None
 missing_class Unsupported = None
@@ -41,26 +43,28 @@ abbrev pub first_missing_class : World → List FieldType → Option (List ℕ)
 first_missing_class world [] = None
 first_missing_class world (t ∷ types) = option_or (missing_class (meaning_of world t)) (first_missing_class world types)
 
--- what slots of the types hold
+-- what slots of these types hold; types that are not known are passed over
 abbrev pub slots_of : World → List FieldType → List Slot
 slots_of world types = filter_map (λ t. known_slot (meaning_of world t)) types
 
--- what a slot of the result holds
+-- what a slot of the result of a method holds; nothing for void
 abbrev pub returned_slot : World → Option FieldType → Option Slot
 returned_slot world returned = option_and_then (λ t. known_slot (meaning_of world t)) returned
 
+-- what the parameters and the result of a method hold, where all of their types are known
 abbrev pub signature : World → MethodType → Signature
 signature world m = record { params = slots_of world m.params; result = returned_slot world m.returned }
 
--- each class among the types is there, else the first one that isn't
+-- that a class is missing, as the refusal of the instruction that names it
 abbrev pub absent : Option (List ℕ) → Result (Unit {0}) Refusal
 absent (Some name) = Err (MissingClass name)
 absent None = Ok tt
 
+-- each class among the types is in the world, else the first one that isn't
 unfoldable pub all_there : World → List FieldType → Result (Unit {0}) Refusal
 all_there world types = absent (first_missing_class world types)
 
--- each type is supported
+-- each type is supported, else that one isn't
 unfoldable pub all_supported : World → List FieldType → Result (Unit {0}) Refusal
 all_supported world types = if has_unsupported world types then Err UnsupportedType else Ok tt
 

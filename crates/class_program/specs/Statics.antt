@@ -16,16 +16,17 @@ use Rattle.class_program.specs.declared.program.Method.{Method}
 use Rattle.class_program.specs.declared.program.StaticField.{StaticField}
 use Rattle.class_program.specs.Said.{Said}
 
--- how many fields a class declares
+-- how many fields a class declares; none past the last class
 abbrev pub field_count : World → ℕ → ℕ
 field_count world class = option_map_or (λ c. length c.fields) (slice_get world class) 0
 
 -- ---- lists of fields
 
+-- two references stand for one field: they have one class and one place in its file
 abbrev pub same_field : FieldRef → FieldRef → Bool
 same_field a b = (a.class == b.class) && (a.index == b.index)
 
--- whether a field stands in a list
+-- a field is one of a list
 abbrev pub has_field : List FieldRef → FieldRef → Bool
 has_field fields field = list_any (same_field field) fields
 
@@ -33,7 +34,7 @@ has_field fields field = list_any (same_field field) fields
 abbrev pub with_field : List FieldRef → FieldRef → List FieldRef
 with_field fields field = if has_field fields field then fields else fields ++ field ∷ []
 
--- two lists have the same fields
+-- two lists have the same fields, in whatever order and as often as they are there
 abbrev pub SameFields : List FieldRef → List FieldRef → Type 0
 SameFields xs ys = (field : FieldRef) → has_field xs field ≡ has_field ys field
 
@@ -45,6 +46,7 @@ field_named (Getstatic used) = Some used.field
 field_named (Putstatic used) = Some used.field
 field_named _ = None
 
+-- the static fields that the instructions of a method name, in their order and as often as they name them
 abbrev pub fields_in : List (ℕ × Op) → List FieldRef
 fields_in insns = filter_map (λ x. field_named x.1) insns
 
@@ -54,7 +56,7 @@ fields_named methods = flat_map (λ m. fields_in m.insns) methods
 
 -- ---- the static fields of a program
 
--- where a static field is declared
+-- a static field of a program as a reference: its class and its place in the class's file
 abbrev pub static_ref : StaticField → FieldRef
 static_ref s = record { class = s.class; index = s.index }
 
@@ -70,15 +72,15 @@ static_at world named class i =
     then option_and_then (static_field world (record { class = class; index = i })) (field_at world class i)
     else None
 
--- the named ones of a class, in file order
+-- the static fields of a class that are among the named ones, in the order of the class file
 unfoldable pub statics_in : World → List FieldRef → ℕ → List StaticField
 statics_in world named class = filter_map (static_at world named class) (range_with_len 0 (field_count world class))
 
--- the named ones of a world, each once: class by class, and in a class in file order
+-- the static fields of a world that are among the named ones, each once: class by class, and in a class in the order of its file
 unfoldable pub statics_of : World → List FieldRef → List StaticField
 statics_of world named = flat_map (statics_in world named) (range_with_len 0 (length world))
 
--- a program has at most 256
+-- the static fields of a program, which has at most 256
 abbrev pub few_statics : List StaticField → Said (List StaticField)
 few_statics statics = if nat_lt 256 (length statics) then Err TooManyStatics else Ok statics
 
@@ -88,6 +90,7 @@ statics_named world methods = few_statics (statics_of world (fields_named method
 
 -- ---- their places
 
+-- a static field of a program is the one that a reference stands for
 abbrev pub is_field : FieldRef → StaticField → Bool
 is_field field s = same_field field (static_ref s)
 

@@ -14,7 +14,7 @@ abbrev pub constant_in : Op → Option ℤ
 constant_in (Constant value) = Some value
 constant_in _ = None
 
--- it is one of 32 bits
+-- the int that an instruction pushes from the pool is one of 32 bits
 abbrev pub IsConstantInWidth : Op → Type 0
 IsConstantInWidth op = IfSome (constant_in op) (FitsSigned w32)
 
@@ -25,14 +25,14 @@ abbrev pub IsInWidth : ℕ → Op → Type 0
 IsInWidth pc (Plain insn) = Fits pc insn
 IsInWidth pc op = IsConstantInWidth op
 
--- the numbers of all instructions of a method
+-- the numbers of all instructions of a method are of their fields' widths
 abbrev pub AreInWidth : List (ℕ × Op) → Type 0
 AreInWidth insns = AllByRecursion (λ x. IsInWidth x.0 x.1) insns
 
--- the numbers of all instructions of some methods
+-- the numbers of all instructions of some methods are of their fields' widths
 abbrev pub AreMethodsInWidth : List Method → Type 0
 AreMethodsInWidth methods = AllByRecursion (λ (m : Method). AreInWidth m.insns) methods
 
--- the numbers of all instructions of a program
+-- the numbers of all instructions of a program are of their fields' widths
 abbrev pub HasWidths : Program → Type 0
 HasWidths p = AreMethodsInWidth p.methods

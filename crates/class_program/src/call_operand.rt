@@ -6,7 +6,7 @@ ghost use Rattle.class_read.specs.View.{method_content};
 ghost use Rattle.class_program.specs.Ops.{is_special, member_tag, may_call, is_fit_class, constructor_of, special_start};
 ghost use Rattle.class_program.specs.Ops.{special_sought, method_sought, found_fit, constructor_name, is_fit_static, virtual_fit};
 ghost use Rattle.class_program.specs.Ops.{method_fit, method_called, named_parts, call_of, call_op};
-ghost use Rattle.class_program.specs.Reads.{member_seen};
+ghost use Rattle.class_program.specs.inner.Reads.{member_seen};
 ghost use Rattle.class_program.specs.Refusals.{Gives, required, first_refusal, rank, together};
 ghost use Rattle.class_world.specs.Members.{initialiser_name};
 ghost use Rattle.class_world.specs.World.{is_static};

@@ -4,7 +4,7 @@ ghost use Rattle.class_world.specs.Worlds.{classes_of};
 ghost use Rattle.std.specs.Prelude.{◌≡◌, ◌≤◌, [], map, length, IfOk, OnOk, IsTrue, flat_map};
 ghost use Rattle.std.specs.List.{list_all};
 ghost use Rattle.class_program.specs.Said.{Says};
-ghost use Rattle.class_program.specs.Rows.{AreRows};
+ghost use Rattle.class_program.specs.inner.Rows.{AreRows};
 ghost use Rattle.class_program.specs.Runs.{runs};
 ghost use Rattle.class_program.specs.Programs.{refs_of};
 ghost use Rattle.class_program.specs.Statics.{fields_named, statics_of, statics_named};

@@ -2,7 +2,7 @@
 ghost use Rattle.class_world.specs.Worlds.{classes_of};
 ghost use Rattle.std.specs.Prelude.{◌≡◌};
 ghost use Rattle.class_program.specs.Ops.{field_found, field_of, field_op};
-ghost use Rattle.class_program.specs.Reads.{member_seen};
+ghost use Rattle.class_program.specs.inner.Reads.{member_seen};
 ghost use Rattle.class_program.specs.Refusals.{Gives};
 
 use crate::class_operand::{class_number, type_named};

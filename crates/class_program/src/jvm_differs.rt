@@ -8,7 +8,7 @@ ghost use Rattle.class_read.specs.View.{method_content};
 ghost use Rattle.class_world.specs.World.{line_of};
 ghost use Rattle.class_world.specs.Resolve.{method_at};
 ghost use Rattle.class_world.specs.Select.{is_selectable, receivers};
-ghost use Rattle.class_program.specs.Rows.{IsRow, AreRows};
+ghost use Rattle.class_program.specs.inner.Rows.{IsRow, AreRows};
 ghost use Rattle.class_program.specs.JvmDiffers.{object_methods, throwable_methods, is_listed, inherits, loses, loses_method};
 ghost use Rattle.class_program.specs.JvmDiffers.{package_of, package_at, is_package_private, selects_outside, leaves_package};
 ghost use Rattle.class_program.specs.JvmDiffers.{virtual_differs, call_differs, has_code, declares_other, fills_trace, is_finalized};

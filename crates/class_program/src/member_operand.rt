@@ -1,7 +1,7 @@
 //! Members that instructions name (JVM specification, section 4.4.2).
 ghost use Rattle.class_world.specs.Worlds.{classes_of};
 ghost use Rattle.class_program.specs.Ops.{member_operand, unhidden};
-ghost use Rattle.class_program.specs.Reads.{member_seen};
+ghost use Rattle.class_program.specs.inner.Reads.{member_seen};
 ghost use Rattle.class_program.specs.Refusals.{Gives};
 
 use crate::refusal::Refusal;

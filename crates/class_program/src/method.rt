@@ -11,7 +11,7 @@ ghost use Rattle.class_read.specs.View.{method_content, code_content};
 ghost use Rattle.class_world.specs.Linking.{Refuses, has_short_code};
 ghost use Rattle.class_program.specs.Said.{Says};
 ghost use Rattle.class_program.specs.Ops.{pool_of};
-ghost use Rattle.class_program.specs.Rows.{AreRows};
+ghost use Rattle.class_program.specs.inner.Rows.{AreRows};
 ghost use Rattle.class_world.specs.Resolve.{method_at, has_body};
 ghost use Rattle.class_program.specs.Methods.{method_name, static_init, code_of, synchronized, own_types, in_method, table_said};
 ghost use Rattle.class_program.specs.Methods.{insns_of, op_said, ops_of, caught, catch_of, range_of, table_of, with_receiver};

@@ -4,7 +4,7 @@ ghost use Rattle.std.specs.Prelude.{◌≡◌, ◌<◌, length, IfOk};
 ghost use Rattle.class_program.specs.Operands.{operand_of};
 ghost use Rattle.class_program.specs.Ops.{is_other_constant, constant_of, numbers_op, field_operand, static_operand, class_operand};
 ghost use Rattle.class_program.specs.Ops.{call_operand, op_with, alike_with, op_of};
-ghost use Rattle.class_program.specs.Rows.{AreRows};
+ghost use Rattle.class_program.specs.inner.Rows.{AreRows};
 ghost use Rattle.class_program.specs.Refusals.{Gives, fault_at};
 ghost use Rattle.class_program.specs.Said.{Says};
 

@@ -4,11 +4,11 @@ ghost use Rattle.std.specs.Prelude.{◌≡◌, ◌≤◌, Ok, length, IsTrue};
 ghost use Rattle.std.specs.List.{list_all};
 ghost use Rattle.class_world.specs.Resolve.{has_body};
 ghost use Rattle.class_program.specs.Statics.{fields_named, statics_of};
-ghost use Rattle.class_program.specs.Rows.{AreRows};
+ghost use Rattle.class_program.specs.inner.Rows.{AreRows};
 ghost use Rattle.class_program.specs.Reached.{reached, close_of, is_closed};
 ghost use Rattle.class_program.specs.Programs.{refs_of};
 ghost use Rattle.class_program.specs.Widths.{AreMethodsInWidth};
-ghost use Rattle.class_program.specs.WidthProps.{AreMethodsInWidth-prop};
+ghost use Rattle.class_program.specs.lemmas.WidthProps.{AreMethodsInWidth-prop};
 
 use crate::insns::Instructions;
 use crate::reached::MethodRefs;

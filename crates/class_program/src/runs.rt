@@ -3,7 +3,7 @@ ghost use Rattle.class_world.specs.Worlds.{classes_of};
 ghost use Rattle.std.specs.Prelude.{◌≡◌, IfOk};
 ghost use Rattle.std.specs.Option.{option_to_list};
 ghost use Rattle.class_read.specs.View.{method_content};
-ghost use Rattle.class_program.specs.Rows.{IsRow, AreRows};
+ghost use Rattle.class_program.specs.inner.Rows.{IsRow, AreRows};
 ghost use Rattle.class_program.specs.Runs.{with_body, selected_body, selections, call_selections, runs};
 
 use crate::op::{Call, Op};

@@ -8,7 +8,7 @@ ghost use Rattle.class_world.specs.Worlds.{classes_of};
 ghost use Rattle.class_world.specs.Resolve.{method_at};
 ghost use Rattle.class_world.specs.Select.{select};
 ghost use Rattle.class_program.specs.Reached.{same_method};
-ghost use Rattle.class_program.specs.Rows.{IsRow, AreRows};
+ghost use Rattle.class_program.specs.inner.Rows.{IsRow, AreRows};
 
 use class_read::MethodView;
 use class_world::{MethodRef, World};
@@ -25,7 +25,7 @@ pub(crate) struct Selections {
 }
 
 impl Model for Selections {
-    ghost use Rattle.class_program.specs.Rows.{Rows};
+    ghost use Rattle.class_program.specs.inner.Rows.{Rows};
 
     ghost Value = { Rows };
 

@@ -13,7 +13,7 @@ use Rattle.class_pool.specs.Text.{entry_at, utf8_at, name_of, name_index_at, cla
 use Rattle.class_read.specs.declared.known.Kinds.{Kinds}
 use Rattle.class_read.specs.declared.fault.ClassFault.TheVariants.{BadDescriptor}
 use Rattle.class_read.specs.Reading.{passing, place, named_at, u2_at}
-use Rattle.class_read.specs.Known.{kinds_of}
+use Rattle.class_read.specs.inner.Known.{kinds_of}
 
 -- ---- what kinds say
 

@@ -23,8 +23,8 @@ use Rattle.list_views.proofs.Truths.{same_truth, or_twice, or_over}
 use Rattle.class_pool.specs.declared.entry.PoolEntry.{PoolEntry}
 use Rattle.class_pool.specs.Text.{places_of, utf8_at}
 use Rattle.class_read.specs.Rules.{Key, same_key, text_of}
-use Rattle.class_read.specs.Numbers.{place_text, same_text, number_in, number_of, kept_place, KeepsFirst, key_of, keys_in, IsNumber}
-use Rattle.class_read.specs.Numbers.{AreNumbers, Joins}
+use Rattle.class_read.specs.inner.Numbers.{place_text, same_text, number_in, number_of, kept_place, KeepsFirst, key_of, keys_in, IsNumber}
+use Rattle.class_read.specs.inner.Numbers.{AreNumbers, Joins}
 
 -- ---- equal texts
 

@@ -7,6 +7,7 @@ use Rattle.class_read.specs.declared.fault.ClassFault.TheVariants.{BadMagic, Ver
 use Rattle.class_read.specs.declared.fault.ClassFault.TheVariants.{DuplicateMember, CodeLength, MissingCode, ExtraCode}
 use Rattle.class_read.specs.declared.fault.ClassFault.TheVariants.{TrailingBytes, Memory}
 
+-- the name of a fault of a class file, the first word of its text
 abbrev pub fault_name : ClassFault → List ℕ
 fault_name BadMagic = codes "BadMagic"
 fault_name (Version major) = codes "Version"
@@ -20,6 +21,7 @@ fault_name (ExtraCode at) = codes "ExtraCode"
 fault_name (TrailingBytes at) = codes "TrailingBytes"
 fault_name Memory = codes "Memory"
 
+-- what a fault of a class file says besides its name: the place in the file, or the major version, that it is about
 abbrev pub fault_fields : ClassFault → List ℕ
 fault_fields BadMagic = []
 fault_fields (Version major) = number_field (codes "major") major
@@ -33,6 +35,6 @@ fault_fields (ExtraCode at) = number_field (codes "at") at
 fault_fields (TrailingBytes at) = number_field (codes "at") at
 fault_fields Memory = []
 
--- the name, and then the fields
+-- the text of a fault of a class file: its name, and then its fields
 abbrev pub fault_text : ClassFault → List ℕ
 fault_text fault = joined (fault_name fault ∷ fault_fields fault ∷ [])

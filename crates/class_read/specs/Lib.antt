@@ -1,10 +1,9 @@
-pub mod Reading
 pub mod Content
 pub mod Text
 pub mod Rules
+pub mod Writing
+pub mod Reading
 pub mod FirstFault
 pub mod View
-pub mod Writing
 pub mod Faults
-pub mod Known
-pub mod Numbers
+pub mod inner

@@ -5,8 +5,8 @@ ghost use Rattle.std.specs.Option.{option_copied, option_map_or};
 ghost use Rattle.class_base.specs.ClassNames.{is_class_name};
 ghost use Rattle.class_base.specs.MemberKinds.{is_descriptor, receiver_words};
 ghost use Rattle.class_pool.specs.Text.{places_of, entry_at, utf8_at, class_name_at};
-ghost use Rattle.class_read.specs.Known.{kinds_of, place_kinds};
-ghost use Rattle.class_read.specs.Numbers.{place_number, number_of, kept_place, KeepsFirst};
+ghost use Rattle.class_read.specs.inner.Known.{kinds_of, place_kinds};
+ghost use Rattle.class_read.specs.inner.Numbers.{place_number, number_of, kept_place, KeepsFirst};
 
 use class_base::{MemberKind, STATIC, field_type, has_flag, is_class_name, method_words};
 use class_pool::Pool;
@@ -38,8 +38,8 @@ impl<'a> Model for KnownPool<'a> {
     ghost use Rattle.std.specs.Prelude.{◌≡◌, List, map};
     ghost use Rattle.class_pool.specs.declared.entry.PoolEntry.{PoolEntry};
     ghost use Rattle.class_pool.specs.Text.{places_of};
-    ghost use Rattle.class_read.specs.Known.{place_kinds};
-    ghost use Rattle.class_read.specs.Numbers.{place_number};
+    ghost use Rattle.class_read.specs.inner.Known.{place_kinds};
+    ghost use Rattle.class_read.specs.inner.Numbers.{place_number};
 
     ghost Value = { List PoolEntry };
 

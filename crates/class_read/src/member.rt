@@ -2,7 +2,7 @@
 
 ghost use Rattle.std.specs.Prelude.{◌≡◌, IfOk, [], map, Ok, Some};
 ghost use Rattle.class_pool.specs.Text.{utf8_at};
-ghost use Rattle.class_read.specs.Numbers.{keys_in, AreNumbers, Joins};
+ghost use Rattle.class_read.specs.inner.Numbers.{keys_in, AreNumbers, Joins};
 ghost use Rattle.class_read.specs.Reading.{Gives, repeated};
 ghost use Rattle.class_read.specs.View.{field_content, method_content};
 ghost use Rattle.class_read.specs.Rules.{has_code};

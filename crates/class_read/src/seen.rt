@@ -3,7 +3,7 @@
 ghost use Rattle.std.specs.Prelude.{◌≡◌, [], IfOk, OnOk, IsSome};
 ghost use Rattle.class_pool.specs.Text.{utf8_at};
 ghost use Rattle.class_read.specs.FirstFault.{is_new};
-ghost use Rattle.class_read.specs.Numbers.{key_of, keys_in, AreNumbers, Joins};
+ghost use Rattle.class_read.specs.inner.Numbers.{key_of, keys_in, AreNumbers, Joins};
 
 use crate::known::KnownPool;
 use std::alloc::{AllocError, Global};

@@ -10,7 +10,7 @@ use Rattle.class_world.specs.declared.fault.LinkFault.{LinkFault}
 use Rattle.class_world.specs.declared.fault.LinkFault.TheVariants.{DuplicateClass}
 use Rattle.class_world.specs.World.{World, built_in, class_of}
 use Rattle.class_world.specs.Linking.{is_array_interface, duplicate_class}
-use Rattle.class_world.specs.Linked.{linked_from}
+use Rattle.class_world.specs.lemmas.Linked.{linked_from}
 use Rattle.class_world.specs.BuiltIns.{IsWorld}
 
 -- a class of such a name breaks the rule on names

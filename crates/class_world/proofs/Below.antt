@@ -3,8 +3,8 @@ use Rattle.std.proofs.Common.{◌≡◌, ℕ, ◌<◌, ◌≤◌, Bool, true, fa
 use Rattle.std.proofs.lemmas.Bool.{eqb-true, ltb-true, or_from}
 use Rattle.class_world.specs.World.{World, supers_of, is_above, leads_up}
 use Rattle.class_world.specs.Types.{is_class_below}
-use Rattle.class_world.specs.Walks.{Walk, Walk-from_leads}
-use Rattle.class_world.specs.Linked.{supers_closed}
+use Rattle.class_world.specs.lemmas.Walks.{Walk, Walk-from_leads}
+use Rattle.class_world.specs.lemmas.Linked.{supers_closed}
 
 end_below : (world : World) (a c b : ℕ) (p : List ℕ) → Walk (supers_of world) a (c ∷ p) b → b < length world
 end_below world a c b [] w = subst (λ (x : ℕ). x < length world) w.1 (supers_closed world a c w.0)

@@ -12,8 +12,8 @@ use Rattle.class_world.specs.World.{World, world_of, built_in, built_ins, built_
 use Rattle.class_world.specs.Types.{is_class_below, is_sub}
 use Rattle.class_world.specs.Fields.{own_slots, fields_of, can_be_made}
 use Rattle.class_world.specs.Linking.{is_linked}
-use Rattle.class_world.specs.Subtypes.{stands_to}
-use Rattle.class_world.specs.Linked.{linked_from, class_order}
+use Rattle.class_world.specs.lemmas.Subtypes.{stands_to}
+use Rattle.class_world.specs.lemmas.Linked.{linked_from, class_order}
 use Rattle.class_world.specs.BuiltIns.{built_in_count, IsWorld, HasBuiltIns}
 use Rattle.class_world.proofs.Prefixes.{fields_step}
 use Rattle.class_world.proofs.Found.{super_below, further_below}

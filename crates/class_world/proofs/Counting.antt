@@ -15,9 +15,9 @@ use Rattle.class_read.specs.Content.{ClassContent}
 use Rattle.class_world.specs.World.{World, super_of, line_from, line_of, built_in}
 use Rattle.class_world.specs.Fields.{field_slot, own_slots, fields_of}
 use Rattle.class_world.specs.Resolve.{slots_above, own_slots_before}
-use Rattle.class_world.specs.Tables.{values_to}
-use Rattle.class_world.specs.Walks.{IsIn}
-use Rattle.class_world.specs.Index.{has_places, kept_before, kept_counts, kept_row}
+use Rattle.class_world.specs.inner.Tables.{values_to}
+use Rattle.class_world.specs.lemmas.Walks.{IsIn}
+use Rattle.class_world.specs.inner.Index.{has_places, kept_before, kept_counts, kept_row}
 use Rattle.class_world.proofs.Tables.{length-values, get_or-values}
 
 -- ---- the fields of objects, the class's own last

@@ -13,7 +13,7 @@ use Rattle.class_read.specs.View.{field_content}
 use Rattle.jvm_values.specs.declared.types.Slot.{Slot}
 use Rattle.class_world.specs.World.{World, line_from}
 use Rattle.class_world.specs.Fields.{field_slot, own_slots}
-use Rattle.class_world.specs.Tables.{values_to}
+use Rattle.class_world.specs.inner.Tables.{values_to}
 use Rattle.class_world.proofs.Tables.{class_at, length-values, get_or-values}
 use Rattle.class_world.proofs.Maps.{filter_map_map}
 

@@ -21,9 +21,9 @@ use Rattle.class_world.specs.Resolve.{first_found, found_field, resolve_field, f
 use Rattle.class_world.specs.Resolve.{method_ref, resolve_method, method_at}
 use Rattle.class_world.specs.Select.{selectable_method, select}
 use Rattle.class_world.specs.Linking.{is_linked}
-use Rattle.class_world.specs.Walks.{IsIn, leads-from_any_Walk}
-use Rattle.class_world.specs.Classes.{IsHierarchy, climb, climbed, below_same, below_up, below_trans}
-use Rattle.class_world.specs.Linked.{hierarchy, linked_from}
+use Rattle.class_world.specs.lemmas.Walks.{IsIn, leads-from_any_Walk}
+use Rattle.class_world.specs.lemmas.Classes.{IsHierarchy, climb, climbed, below_same, below_up, below_trans}
+use Rattle.class_world.specs.lemmas.Linked.{hierarchy, linked_from}
 use Rattle.class_world.proofs.Seeking.{interface_over}
 use Rattle.class_world.proofs.Prefixes.{fields_in_order}
 

@@ -9,11 +9,11 @@ use Rattle.std.proofs.lemmas.List.{get_or_past, get_or-replicate, get_or_default
 use Rattle.std.proofs.Math.Seq.{get_or-append_seam}
 use Rattle.std.proofs.lemmas.Bool.{false≢true, cases_lt}
 use Rattle.class_world.specs.World.{World, class_of, super_of, is_above, supers_of, interfaces_of, line_from, line_of}
-use Rattle.class_world.specs.Walks.{IsIn, leads-from_any_Walk, leads_trans}
+use Rattle.class_world.specs.lemmas.Walks.{IsIn, leads-from_any_Walk, leads_trans}
 use Rattle.class_world.specs.Resolve.{first_found, with_interfaces, superinterfaces_of}
 use Rattle.class_world.specs.Linking.{is_linked}
-use Rattle.class_world.specs.Linked.{hierarchy, linked_from}
-use Rattle.class_world.specs.Once.{interfaces_once, IsSought, AreSought}
+use Rattle.class_world.specs.lemmas.Linked.{hierarchy, linked_from}
+use Rattle.class_world.specs.inner.Once.{interfaces_once, IsSought, AreSought}
 use Rattle.std.proofs.lemmas.Option.{slice_get_past}
 use Rattle.list_views.proofs.Marks.{unmarked}
 use Rattle.list_views.proofs.Options.{both_none}

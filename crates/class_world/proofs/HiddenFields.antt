@@ -7,9 +7,9 @@ use Rattle.std.proofs.Math.Seq.{drop-cons}
 use Rattle.std.proofs.lemmas.List.Folds.{list_any-append}
 use Rattle.list_views.proofs.Items.{drop_past}
 use Rattle.class_world.specs.World.{World, line_from, interfaces_of}
-use Rattle.class_world.specs.Walks.{IsIn, AnyOf-here}
-use Rattle.class_world.specs.Linked.{interface_of_world}
-use Rattle.class_world.specs.Once.{interfaces_once}
+use Rattle.class_world.specs.lemmas.Walks.{IsIn, AnyOf-here}
+use Rattle.class_world.specs.lemmas.Linked.{interface_of_world}
+use Rattle.class_world.specs.inner.Once.{interfaces_once}
 use Rattle.class_world.specs.Hidden.{before}
 use Rattle.class_world.proofs.Counting.{range_more, in_range}
 use Rattle.class_world.proofs.FieldLemmas.{rest_of_line}

@@ -17,14 +17,14 @@ use Rattle.class_read.specs.declared.view.FieldView.{FieldView}
 use Rattle.class_read.specs.declared.view.MethodView.{MethodView}
 use Rattle.jvm_values.specs.declared.types.Slot.{Slot}
 use Rattle.class_world.specs.World.{World, built_in, built_ins, built_in_names, world_of, class_of, super_of}
-use Rattle.class_world.specs.Once.{once, interfaces_once}
+use Rattle.class_world.specs.inner.Once.{once, interfaces_once}
 use Rattle.class_world.specs.Linking.{CanBeRead, has_few_members}
 use Rattle.class_world.specs.Members.{is_method_named, declared_method}
 use Rattle.class_world.specs.Fields.{field_slot}
 use Rattle.class_world.specs.Resolve.{is_field_named, declared_field, is_initialiser, is_initialised}
-use Rattle.class_world.specs.Tables.{values_to}
-use Rattle.class_world.specs.Index.{Key, has_places, field_key, method_key, field_content_key, method_content_key}
-use Rattle.class_world.specs.Index.{HasDistinctMembers, method_keys, field_keys, kept_before, kept_counts, kept_row}
+use Rattle.class_world.specs.inner.Tables.{values_to}
+use Rattle.class_world.specs.inner.Index.{Key, has_places, field_key, method_key, field_content_key, method_content_key}
+use Rattle.class_world.specs.inner.Index.{HasDistinctMembers, method_keys, field_keys, kept_before, kept_counts, kept_row}
 use Rattle.class_base.proofs.Maps.{position-map}
 use Rattle.class_world.proofs.Tables.{class_at, values_more, length-values, get_or-values}
 

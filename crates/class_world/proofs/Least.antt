@@ -12,10 +12,10 @@ use Rattle.class_world.specs.World.{World, supers_of, is_above, is_interface_cla
 use Rattle.class_world.specs.Types.{Sub, Extends, is_base_below, is_sub, is_class_below, erase_by}
 use Rattle.class_world.specs.Types.Sub.{same, follows, up, items, top}
 use Rattle.class_world.specs.Linking.{is_linked}
-use Rattle.class_world.specs.Walks.{Walk, Walk-from_leads, leads-from_any_Walk, IsIn-from_any, any-from_IsIn}
-use Rattle.class_world.specs.Classes.{below_up, below_cases}
-use Rattle.class_world.specs.Subtypes.{laws_of, stands_from, stands_to, same_kind}
-use Rattle.class_world.specs.Linked.{hierarchy, linked_from, class_order}
+use Rattle.class_world.specs.lemmas.Walks.{Walk, Walk-from_leads, leads-from_any_Walk, IsIn-from_any, any-from_IsIn}
+use Rattle.class_world.specs.lemmas.Classes.{below_up, below_cases}
+use Rattle.class_world.specs.lemmas.Subtypes.{laws_of, stands_from, stands_to, same_kind}
+use Rattle.class_world.specs.lemmas.Linked.{hierarchy, linked_from, class_order}
 
 module _ (world : World) (linked : is_linked world ≡ true) where
   abbrev n : ℕ

@@ -9,8 +9,8 @@ use Rattle.list_views.proofs.Marks.{none_marked, mark_keeps, marked_within}
 use Rattle.list_views.proofs.Truths.{same_truth}
 use Rattle.class_world.specs.World.{leads_up}
 use Rattle.list_views.specs.Lists.{open_count}
-use Rattle.class_world.specs.Marking.{marks_after, todo_after, listed_at, IsRow, IsClosed}
-use Rattle.class_world.specs.Walks.{IsIn, Walk, Walk-append, Walk-from_leads, leads-from_any_Walk}
+use Rattle.class_world.specs.inner.Marking.{marks_after, todo_after, listed_at, IsRow, IsClosed}
+use Rattle.class_world.specs.lemmas.Walks.{IsIn, Walk, Walk-append, Walk-from_leads, leads-from_any_Walk}
 
 abbrev pub AllBelow : List ℕ → ℕ → Type 0
 AllBelow bs n = (x : ℕ) → IsIn x bs → x < n

@@ -8,10 +8,10 @@ use Rattle.jvm_values.specs.Subtyping.{class_type, IsErased}
 use Rattle.jvm_values.proofs.Joining.{same_type}
 use Rattle.class_world.specs.World.{World, super_of, supers_of, is_interface_class, is_above}
 use Rattle.class_world.specs.Types.{is_class_below, is_base_below, is_sub, erase, erase_by, erased_base}
-use Rattle.class_world.specs.Classes.{below_class}
-use Rattle.class_world.specs.Subtypes.{stands_from}
-use Rattle.class_world.specs.Linked.{linked_from, hierarchy, class_order}
-use Rattle.class_world.specs.WorldLaws.{made_no_interface}
+use Rattle.class_world.specs.lemmas.Classes.{below_class}
+use Rattle.class_world.specs.lemmas.Subtypes.{stands_from}
+use Rattle.class_world.specs.lemmas.Linked.{linked_from, hierarchy, class_order}
+use Rattle.class_world.specs.lemmas.WorldLaws.{made_no_interface}
 use Rattle.class_world.specs.BuiltIns.{throwable, IsWorld, HasNoInterfacesBelow}
 use Rattle.class_world.proofs.BuiltInLaws.{built_ins_known}
 

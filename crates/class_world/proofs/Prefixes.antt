@@ -19,9 +19,9 @@ use Rattle.class_world.specs.Types.{is_class_below}
 use Rattle.class_world.specs.Fields.{field_slot, own_slots, fields_of}
 use Rattle.class_world.specs.Resolve.{field_place, slots_above, own_slots_before}
 use Rattle.class_world.specs.Linking.{missing_super, first_missing, missing_name, is_linked}
-use Rattle.class_world.specs.Walks.{IsIn, Walk, Walk-from_leads}
-use Rattle.class_world.specs.Classes.{IsHierarchy, climb, below_cases, by_supers}
-use Rattle.class_world.specs.Linked.{IsLinked, linked_from, hierarchy, or_none, at_class, super_of_world}
+use Rattle.class_world.specs.lemmas.Walks.{IsIn, Walk, Walk-from_leads}
+use Rattle.class_world.specs.lemmas.Classes.{IsHierarchy, climb, below_cases, by_supers}
+use Rattle.class_world.specs.lemmas.Linked.{IsLinked, linked_from, hierarchy, or_none, at_class, super_of_world}
 use Rattle.class_world.specs.BuiltIns.{StartsWith, HasFieldsInOrder}
 use Rattle.class_world.proofs.Seeking.{short}
 use Rattle.class_world.proofs.Counting.{length-flat_reverse, itself_first, own_here, before_here}

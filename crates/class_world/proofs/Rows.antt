@@ -5,14 +5,14 @@ use Rattle.std.specs.List.{list_any}
 use Rattle.std.proofs.lemmas.Bool.{cases_lt}
 use Rattle.std.proofs.lemmas.List.{get_or_past, same_lists, get_or_default}
 use Rattle.class_world.specs.World.{World, supers_of, is_above, leads_up, listed}
-use Rattle.class_world.specs.Walks.{IsIn, IsIn-from_any, any-from_IsIn}
-use Rattle.class_world.specs.Once.{supers_once}
+use Rattle.class_world.specs.lemmas.Walks.{IsIn, IsIn-from_any, any-from_IsIn}
+use Rattle.class_world.specs.inner.Once.{supers_once}
 use Rattle.class_world.proofs.Indexes.{no_super, no_interfaces}
 use Rattle.class_world.proofs.Onces.{any_cong, any_supers, leads_once}
-use Rattle.class_world.specs.Marking.{listed_at, IsRow, IsClosed}
-use Rattle.class_world.specs.Tables.{values_to}
+use Rattle.class_world.specs.inner.Marking.{listed_at, IsRow, IsClosed}
+use Rattle.class_world.specs.inner.Tables.{values_to}
 use Rattle.class_world.proofs.Tables.{length-values, get_or-values}
-use Rattle.class_world.specs.Linked.{supers_closed}
+use Rattle.class_world.specs.lemmas.Linked.{supers_closed}
 use Rattle.class_world.proofs.Marking.{In-get}
 
 leads_cong : (f g : ℕ → List ℕ) → ((a : ℕ) → f a ≡ g a) → (k a b : ℕ) → leads_up f k a b ≡ leads_up g k a b

@@ -12,7 +12,7 @@ use Rattle.std.proofs.lemmas.Map.Steps.{length-le_from_distinct_below}
 use Rattle.std.proofs.lemmas.Bool.{false≢true, eqb-true, or_parts}
 use Rattle.list_views.proofs.Options.{both_none}
 use Rattle.class_world.specs.World.{World, leads_up, super_of, supers_of, interfaces_of, listed}
-use Rattle.class_world.specs.Walks.{IsIn, IsIn-from_any, Walk, leads-from_any_Walk}
+use Rattle.class_world.specs.lemmas.Walks.{IsIn, IsIn-from_any, Walk, leads-from_any_Walk}
 use Rattle.class_world.specs.Resolve.{first_found, with_interfaces}
 
 -- ---- in a hierarchy without cycles

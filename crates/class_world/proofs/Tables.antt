@@ -11,7 +11,7 @@ use Rattle.std.proofs.lemmas.Bool.{cases_lt}
 use Rattle.std.proofs.lemmas.List.{get_or_append_left}
 use Rattle.std.proofs.Math.Seq.{get_or-append_seam}
 use Rattle.class_world.specs.World.{World, class_of, interfaces_of}
-use Rattle.class_world.specs.Tables.{values_to, names_of}
+use Rattle.class_world.specs.inner.Tables.{values_to, names_of}
 use Rattle.class_base.proofs.Maps.{position-map}
 use Rattle.class_world.proofs.Maps.{filter_map_map}
 

@@ -11,52 +11,71 @@ use Rattle.class_world.specs.Linking.{is_linked}
 
 -- ---- the numbers of the built-in classes
 
+-- the number of java.lang.Object, the root of all classes
 abbrev pub object : ℕ
 object = 0
 
+-- the number of java.lang.Throwable, which is above everything that is thrown
 abbrev pub throwable : ℕ
 throwable = 1
 
+-- the number of java.lang.Exception
 abbrev pub exception : ℕ
 exception = 2
 
+-- the number of java.lang.RuntimeException, which is above the exceptions that instructions throw
 abbrev pub runtime_exception : ℕ
 runtime_exception = 3
 
+-- the number of java.lang.NullPointerException, thrown where null stands for an object or array (JVM specification, section 6.5)
 abbrev pub null_pointer_exception : ℕ
 null_pointer_exception = 4
 
+-- the number of java.lang.ArithmeticException, thrown by a division by zero (JVM specification, section 6.5.idiv)
 abbrev pub arithmetic_exception : ℕ
 arithmetic_exception = 5
 
+-- the number of java.lang.IndexOutOfBoundsException
 abbrev pub index_out_of_bounds_exception : ℕ
 index_out_of_bounds_exception = 6
 
+-- the number of java.lang.ArrayIndexOutOfBoundsException, thrown at an index outside an array (JVM specification, section 6.5.iaload)
 abbrev pub array_index_out_of_bounds_exception : ℕ
 array_index_out_of_bounds_exception = 7
 
+-- the number of java.lang.NegativeArraySizeException, thrown for an array of a negative length (JVM specification, section
+-- 6.5.newarray)
 abbrev pub negative_array_size_exception : ℕ
 negative_array_size_exception = 8
 
+-- the number of java.lang.ClassCastException, thrown by a cast to a type that an object isn't of (JVM specification, section
+-- 6.5.checkcast)
 abbrev pub class_cast_exception : ℕ
 class_cast_exception = 9
 
+-- the number of java.lang.ArrayStoreException, thrown where an array can't hold an object (JVM specification, section 6.5.aastore)
 abbrev pub array_store_exception : ℕ
 array_store_exception = 10
 
+-- the number of java.lang.Error
 abbrev pub error : ℕ
 error = 11
 
+-- the number of java.lang.LinkageError
 abbrev pub linkage_error : ℕ
 linkage_error = 12
 
+-- the number of java.lang.IncompatibleClassChangeError, thrown where the receiver's class lacks the named interface (JVM
+-- specification, section 6.5.invokeinterface)
 abbrev pub incompatible_class_change_error : ℕ
 incompatible_class_change_error = 13
 
+-- the number of java.lang.AbstractMethodError, thrown where the selected method has no code (JVM specification, section
+-- 6.5.invokevirtual)
 abbrev pub abstract_method_error : ℕ
 abstract_method_error = 14
 
--- the given classes are numbered from here on
+-- the number of built-in classes; the given classes are numbered from here on
 abbrev pub built_in_count : ℕ
 built_in_count = 15
 
@@ -82,7 +101,7 @@ pub record HasNoInterfacesBelow (world : World) : Type 0 where
   pub throwable_class : (class : ℕ) → IsTrue (is_class_below world class throwable) → is_interface_class world class ≡ false
   pub throwable_type : (t : Ty) → IsTrue (is_sub world t (class_type throwable)) → IsErased (erase world) t
 
--- one list begins with another
+-- a list of slots begins with the list `front`
 abbrev pub StartsWith : List Slot → List Slot → Type 0
 StartsWith front whole = (rest : List Slot) × (whole ≡ front ++ rest)
 

@@ -10,14 +10,13 @@ use Rattle.class_world.specs.World.{World, interfaces_of, line_of}
 use Rattle.class_world.specs.Types.{is_class_below}
 use Rattle.class_world.specs.Resolve.{declared_field}
 
--- an interface declares a field of that name and descriptor, or an interface above it does; Object, which is above it too,
--- declares no field
+-- An interface, or one above it, declares a field of that name and descriptor. Object is above it too, but declares no field.
 unfoldable pub has_field_above : World → List ℕ → List ℕ → ℕ → Bool
 has_field_above world name desc interface =
     list_any (λ over. is_class_below world interface over && is_some (declared_field world over name desc))
     (range_with_len 0 (length world))
 
--- some superinterface of a class, over any number of steps, declares such a field
+-- some superinterface of a class, over any number of steps, declares a field of that name and descriptor
 unfoldable pub implements_field : World → List ℕ → List ℕ → ℕ → Bool
 implements_field world name desc class = list_any (has_field_above world name desc) (interfaces_of world class)
 

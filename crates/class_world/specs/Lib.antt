@@ -1,26 +1,20 @@
+-- the classes of a world, their types, what their descriptors mean, and the fields of their objects
 pub mod World
 pub mod Types
 pub mod Descriptors
 pub mod Fields
+-- which classes make a world
 pub mod Linking
 pub mod Worlds
+-- which member a name stands for, and which method a call runs
 pub mod Members
 pub mod Resolve
 pub mod Hidden
 pub mod Select
+-- a world's types for heaps, what all worlds have in common, and faults in words
 pub mod WorldTypes
 pub mod BuiltIns
 pub mod Faults
--- what the code holds and how it goes through it
-pub mod Marking
-pub mod Tables
-pub mod Index
-pub mod Seeking
-pub mod Once
--- proofs, for this crate and for those above it
-pub mod Walks
-pub mod Classes
-pub mod Subtypes
-pub mod Linked
-pub mod SlotLaws
-pub mod WorldLaws
+-- the words of private calls, and proofs for the laws of types
+pub mod inner
+pub mod lemmas

@@ -11,7 +11,7 @@ use Rattle.class_world.specs.Fields.{can_be_made}
 use Rattle.class_world.specs.Members.{declared_method}
 use Rattle.class_world.specs.Resolve.{first_found, method_ref, method_at}
 
--- static and private methods are passed over
+-- a method can be selected: it is an instance method and not private
 abbrev pub is_selectable : MethodContent → Bool
 is_selectable m = not (is_static m.flags || is_private m.flags)
 
@@ -35,10 +35,12 @@ pub data Selection : Type 0 where
   -- it throws IncompatibleClassChangeError
   Unfit : Selection
 
--- a declaration without a body, and none, are an AbstractMethodError
+-- a reference stands for a method that is abstract
 abbrev pub is_abstract_method : World → MethodRef → Bool
 is_abstract_method world ref = option_map_or (λ m. is_abstract m.flags) (method_at world ref) false
 
+-- What a call does once selection has found a declaration, or none: it runs the method where that has a body. Without a declaration,
+-- and of one without a body, it throws AbstractMethodError (JVM specification, section 6.5, invokevirtual).
 abbrev pub selection_of : World → Option MethodRef → Selection
 selection_of world (Some ref) = if is_abstract_method world ref then Lacks else Runs ref
 selection_of world None = Lacks
@@ -52,7 +54,7 @@ unfoldable pub selected_interface : World → ℕ → List ℕ → List ℕ → 
 selected_interface world named name desc receiver =
     if is_class_below world receiver named then selected_virtual world name desc receiver else Unfit
 
--- a class has instances, which can be receivers where the other class or interface is named
+-- objects of a class can be receivers of calls that name a class or interface: it can be made, and is the named one or below it
 abbrev pub is_receiver : World → ℕ → ℕ → Bool
 is_receiver world named class = can_be_made world class && is_class_below world class named
 

@@ -35,7 +35,7 @@ built_in name super_name = record {
   pool = [];
 }
 
--- the names of the built-in classes, from 0 to 14, and of their superclasses; Object has none
+-- the names of the built-in classes, from number 0 to 14, each with the name of its superclass; Object has none
 unfoldable pub built_in_names : List (List ℕ × List ℕ)
 built_in_names =
     (codes "java/lang/Object", [])
@@ -55,16 +55,17 @@ built_in_names =
     ∷ (codes "java/lang/AbstractMethodError", codes "java/lang/IncompatibleClassChangeError")
     ∷ []
 
--- the built-in classes
+-- the built-in classes, in the order of their numbers
 abbrev pub built_ins : List ClassContent
 built_ins = map (λ n. built_in n.0 n.1) built_in_names
 
 -- ---- worlds
 
+-- a world, as the list of its classes: the number of a class is its place in the list
 abbrev pub World : Type 0
 World = List ClassContent
 
--- the world of the given classes
+-- the world of the given classes: the built-in classes and then the given ones
 abbrev pub world_of : List ClassContent → World
 world_of given = built_ins ++ given
 
@@ -72,6 +73,7 @@ world_of given = built_ins ++ given
 abbrev pub class_of : World → List ℕ → Option ℕ
 class_of world name = position (λ class. bytes_eq name class.name) world
 
+-- a class that may be missing, as a list of one class or of none
 abbrev pub listed : Option ℕ → List ℕ
 listed (Some class) = class ∷ []
 listed None = []
@@ -93,7 +95,8 @@ supers_of world class = listed (super_of world class) ++ interfaces_of world cla
 unfoldable pub is_interface_class : World → ℕ → Bool
 is_interface_class world class = option_map_or (λ c. is_interface c.flags) (slice_get world class) false
 
--- some way of at most so many steps up, and at least one, leads from class `a` to class `b`
+-- Class `b` can be reached from class `a` by at least one and at most so many steps, each from a class to one of those that `up` has
+-- for it.
 abbrev pub leads_up : (ℕ → List ℕ) → ℕ → ℕ → ℕ → Bool
 leads_up up zero a b = false
 leads_up up (suc steps) a b = list_any (λ c. (b == c) || leads_up up steps c b) (up a)
@@ -103,11 +106,11 @@ leads_up up (suc steps) a b = list_any (λ c. (b == c) || leads_up up steps c b)
 unfoldable pub is_above : World → ℕ → ℕ → Bool
 is_above world a b = leads_up (supers_of world) (length world) a b
 
--- a class, its superclass, and so on, up to so many classes
+-- a class, its superclass, the superclass of that one, and so on, up to so many classes
 abbrev pub line_from : (ℕ → Option ℕ) → ℕ → ℕ → List ℕ
 line_from super zero class = []
 line_from super (suc most) class = class ∷ option_map_or (line_from super most) (super class) []
 
--- the superclass chain of a class, itself first
+-- the superclass chain of a class: the class itself first, and the topmost class, Object, last
 unfoldable pub line_of : World → ℕ → List ℕ
 line_of world class = line_from (super_of world) (length world) class

@@ -4,7 +4,7 @@ ghost use Rattle.class_read.specs.View.{field_content};
 ghost use Rattle.class_world.specs.World.{line_of};
 ghost use Rattle.class_world.specs.Descriptors.{meaning_of, slot_of};
 ghost use Rattle.class_world.specs.Fields.{field_slot, own_slots, fields_of};
-ghost use Rattle.class_world.specs.Tables.{values_to};
+ghost use Rattle.class_world.specs.inner.Tables.{values_to};
 
 use crate::meaning::Meaning;
 use crate::roster::Roster;
@@ -130,7 +130,7 @@ impl<'a> Roster<'a> {
     }
 
     /// What the fields of the instances of each class hold.
-    #[tactic(auto, using(crate::proofs::Tables::values_more), unfolding(crate::specs::Tables::values_to))]
+    #[tactic(auto, using(crate::proofs::Tables::values_more), unfolding(crate::specs::inner::Tables::values_to))]
     pub(crate) fn fields_table(&self, alloc: Global) -> Result<Seq<Seq<Slot>>, AllocError>
         ensures { IfOk result (λ table. table ≡ values_to (fields_of self.now.classes) (length self.now.classes)) }
     {
@@ -143,7 +143,7 @@ impl<'a> Roster<'a> {
     }
 
     /// What the fields that each class declares add to its objects.
-    #[tactic(auto, using(crate::proofs::Tables::values_more), unfolding(crate::specs::Tables::values_to))]
+    #[tactic(auto, using(crate::proofs::Tables::values_more), unfolding(crate::specs::inner::Tables::values_to))]
     pub(crate) fn own_table(&self, alloc: Global) -> Result<Seq<Seq<Slot>>, AllocError>
         ensures { IfOk result (λ table. table ≡ values_to (own_slots self.now.classes) (length self.now.classes)) }
     {

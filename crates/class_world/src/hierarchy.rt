@@ -1,8 +1,8 @@
 //! What is above each class.
 ghost use Rattle.std.specs.Prelude.{◌≡◌, ◌<◌, [], length, All, IfOk, OnOk};
-ghost use Rattle.class_world.specs.Once.{supers_once};
-ghost use Rattle.class_world.specs.Tables.{above_table, values_to};
-ghost use Rattle.class_world.specs.Marking.{marks_after, todo_after, listed_at, IsRow, IsClosed};
+ghost use Rattle.class_world.specs.inner.Once.{supers_once};
+ghost use Rattle.class_world.specs.inner.Tables.{above_table, values_to};
+ghost use Rattle.class_world.specs.inner.Marking.{marks_after, todo_after, listed_at, IsRow, IsClosed};
 
 use crate::roster::Roster;
 use list_views::Seq;
@@ -48,7 +48,7 @@ fn above_row(alloc: Global, supers: &[Seq<u32>], class: usize) -> Result<Seq<boo
 }
 
 /// Puts the row of each class into a table that is empty before.
-#[tactic(auto, using(crate::proofs::Tables::values_more), unfolding(crate::specs::Tables::values_to))]
+#[tactic(auto, using(crate::proofs::Tables::values_more), unfolding(crate::specs::inner::Tables::values_to))]
 fn put_rows(
     alloc: Global,
     roster: &Roster<'_>,

@@ -6,8 +6,8 @@ ghost use Rattle.std.specs.Option.{option_len};
 ghost use Rattle.class_world.specs.Fields.{field_slot};
 ghost use Rattle.class_world.specs.Linking.{has_few_members};
 ghost use Rattle.class_world.specs.Resolve.{is_initialiser, is_initialised};
-ghost use Rattle.class_world.specs.Tables.{values_to};
-ghost use Rattle.class_world.specs.Index.{HasDistinctMembers, method_keys, field_keys, kept_counts, kept_row, IsIndex};
+ghost use Rattle.class_world.specs.inner.Tables.{values_to};
+ghost use Rattle.class_world.specs.inner.Index.{HasDistinctMembers, method_keys, field_keys, kept_counts, kept_row, IsIndex};
 
 use crate::members::{field_names, method_names};
 use crate::roster::Roster;
@@ -103,7 +103,7 @@ impl<'a> Roster<'a> {
         self.kept_counts(alloc, view.fields.as_slice())
     }
 
-    #[tactic(auto, using(crate::proofs::Tables::values_more), unfolding(crate::specs::Tables::values_to))]
+    #[tactic(auto, using(crate::proofs::Tables::values_more), unfolding(crate::specs::inner::Tables::values_to))]
     fn put_method_table(&self, alloc: Global, table: &mut Seq<KeySet<'a>>) -> Result<(), AllocError>
         requires each { AllByRecursion HasDistinctMembers self.now.classes }
         requires empty { table.old ≡ [] }
@@ -115,7 +115,7 @@ impl<'a> Roster<'a> {
         Ok(())
     }
 
-    #[tactic(auto, using(crate::proofs::Tables::values_more), unfolding(crate::specs::Tables::values_to))]
+    #[tactic(auto, using(crate::proofs::Tables::values_more), unfolding(crate::specs::inner::Tables::values_to))]
     fn put_field_table(&self, alloc: Global, table: &mut Seq<KeySet<'a>>) -> Result<(), AllocError>
         requires each { AllByRecursion HasDistinctMembers self.now.classes }
         requires empty { table.old ≡ [] }
@@ -127,7 +127,7 @@ impl<'a> Roster<'a> {
         Ok(())
     }
 
-    #[tactic(auto, using(crate::proofs::Tables::values_more), unfolding(crate::specs::Tables::values_to))]
+    #[tactic(auto, using(crate::proofs::Tables::values_more), unfolding(crate::specs::inner::Tables::values_to))]
     fn put_initialised_table(&self, table: &mut Seq<bool>) -> Result<(), AllocError>
         requires { table.old ≡ [] }
         ensures { OnOk result (table.new ≡ values_to (is_initialised self.now.classes) (length self.now.classes)) }
@@ -138,7 +138,7 @@ impl<'a> Roster<'a> {
         Ok(())
     }
 
-    #[tactic(auto, using(crate::proofs::Tables::values_more), unfolding(crate::specs::Tables::values_to))]
+    #[tactic(auto, using(crate::proofs::Tables::values_more), unfolding(crate::specs::inner::Tables::values_to))]
     fn put_kept_table(&self, alloc: Global, table: &mut Seq<Seq<u32>>) -> Result<(), AllocError>
         requires each { IsTrue (list_all has_few_members self.now.classes) }
         requires empty { table.old ≡ [] }

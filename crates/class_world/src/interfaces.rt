@@ -4,9 +4,9 @@ ghost use Rattle.std.specs.List.{flat_map};
 ghost use Rattle.class_world.specs.World.{line_of};
 ghost use Rattle.class_world.specs.declared.resolve.Wanted.TheVariants.{Method};
 ghost use Rattle.class_world.specs.Linking.{is_linked};
-ghost use Rattle.class_world.specs.Once.{interfaces_once, IsSought, AreSought};
+ghost use Rattle.class_world.specs.inner.Once.{interfaces_once, IsSought, AreSought};
 ghost use Rattle.class_world.specs.Resolve.{first_found, superinterfaces_of};
-ghost use Rattle.class_world.specs.Seeking.{place_in};
+ghost use Rattle.class_world.specs.inner.Seeking.{place_in};
 
 use crate::resolve::Wanted;
 use crate::roster::Roster;

@@ -7,7 +7,7 @@ ghost use Rattle.class_world.specs.Linking.{Refuses, first_broken, first_missing
 ghost use Rattle.class_world.specs.Linking.{missing_super, cyclic_hierarchy, bad_super, default_method, is_default};
 ghost use Rattle.class_world.specs.Linking.{is_bad_superclass, rule_of};
 ghost use Rattle.class_read.specs.View.{method_content};
-ghost use Rattle.class_world.specs.Tables.{above_table};
+ghost use Rattle.class_world.specs.inner.Tables.{above_table};
 
 use crate::fault::LinkFault;
 use crate::named::is_array_interface;

@@ -2,7 +2,7 @@
 ghost use Rattle.std.specs.Prelude.{◌≡◌, map, IfOk};
 ghost use Rattle.std.specs.List.{IsDistinct};
 ghost use Rattle.class_read.specs.Rules.{same_key};
-ghost use Rattle.class_world.specs.Index.{field_key, method_key};
+ghost use Rattle.class_world.specs.inner.Index.{field_key, method_key};
 
 use class_base::KeySet;
 use class_read::{FieldView, MethodView};

@@ -4,8 +4,8 @@ ghost use Rattle.std.specs.List.{list_any};
 ghost use Rattle.std.specs.Str.{bytes_eq};
 ghost use Rattle.class_world.specs.World.{class_of, super_of, interfaces_of};
 ghost use Rattle.class_world.specs.Linking.{Refuses, first_broken, duplicate_class, is_array_interface};
-ghost use Rattle.class_world.specs.Once.{once, interfaces_once};
-ghost use Rattle.class_world.specs.Tables.{names_of, values_to};
+ghost use Rattle.class_world.specs.inner.Once.{once, interfaces_once};
+ghost use Rattle.class_world.specs.inner.Tables.{names_of, values_to};
 
 use crate::fault::LinkFault;
 use crate::once::once;
@@ -106,7 +106,7 @@ impl<'a> Named<'a> {
     }
 
     /// The direct superinterfaces of a class, each once.
-    #[tactic(auto, unfolding(crate::specs::Once::interfaces_once))]
+    #[tactic(auto, unfolding(crate::specs::inner::Once::interfaces_once))]
     fn interfaces_once(&self, alloc: Global, class: usize) -> Result<Seq<u32>, AllocError>
         requires { class < length self.now.classes }
         ensures { IfOk result (λ found. found ≡ interfaces_once self.now.classes class) }
@@ -116,7 +116,7 @@ impl<'a> Named<'a> {
     }
 
     /// The direct superclass of each class.
-    #[tactic(auto, using(crate::proofs::Tables::values_more), unfolding(crate::specs::Tables::values_to))]
+    #[tactic(auto, using(crate::proofs::Tables::values_more), unfolding(crate::specs::inner::Tables::values_to))]
     pub(crate) fn supers_table(&self, alloc: Global) -> Result<Seq<Option<u32>>, AllocError>
         ensures { IfOk result (λ table. table ≡ values_to (super_of self.now.classes) (length self.now.classes)) }
     {
@@ -128,7 +128,7 @@ impl<'a> Named<'a> {
     }
 
     /// The direct superinterfaces of each class, each once.
-    #[tactic(auto, using(crate::proofs::Tables::values_more), unfolding(crate::specs::Tables::values_to))]
+    #[tactic(auto, using(crate::proofs::Tables::values_more), unfolding(crate::specs::inner::Tables::values_to))]
     pub(crate) fn interfaces_table(&self, alloc: Global) -> Result<Seq<Seq<u32>>, AllocError>
         ensures { IfOk result (λ table. table ≡ values_to (interfaces_once self.now.classes) (length self.now.classes)) }
     {

@@ -1,6 +1,6 @@
 //! Lists of numbers without repeats.
 ghost use Rattle.std.specs.Prelude.{◌≡◌, IfOk, OnOk};
-ghost use Rattle.class_world.specs.Once.{with_number, once};
+ghost use Rattle.class_world.specs.inner.Once.{with_number, once};
 
 use indexmap::IndexSet;
 use list_views::Seq;

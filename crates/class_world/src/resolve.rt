@@ -7,7 +7,7 @@ ghost use Rattle.class_world.specs.World.{line_of};
 ghost use Rattle.class_world.specs.Resolve.{first_found, declared_field, is_static_field, found_field, resolve_field, field_at};
 ghost use Rattle.class_world.specs.Resolve.{method_ref, resolve_method, method_at, is_initialised, first_static_init};
 ghost use Rattle.class_world.specs.Select.{is_selectable, selectable_method};
-ghost use Rattle.class_world.specs.Seeking.{place_in};
+ghost use Rattle.class_world.specs.inner.Seeking.{place_in};
 
 use crate::world::{MethodRef, World};
 use class_base::{PRIVATE, STATIC, has_flag};

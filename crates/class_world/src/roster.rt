@@ -4,8 +4,8 @@ ghost use Rattle.std.specs.Option.{option_map};
 ghost use Rattle.class_world.specs.Fields.{can_be_made};
 ghost use Rattle.class_world.specs.World.{class_of, super_of, is_interface_class};
 ghost use Rattle.class_world.specs.Linking.{Refuses, first_broken, duplicate_class};
-ghost use Rattle.class_world.specs.Once.{interfaces_once, supers_once};
-ghost use Rattle.class_world.specs.Tables.{names_of, values_to};
+ghost use Rattle.class_world.specs.inner.Once.{interfaces_once, supers_once};
+ghost use Rattle.class_world.specs.inner.Tables.{names_of, values_to};
 
 use crate::fault::LinkFault;
 use crate::named::{Named, names_of};
@@ -112,7 +112,7 @@ impl<'a> Roster<'a> {
     }
 
     /// What a class directly extends or implements, each superinterface once.
-    #[tactic(auto, unfolding(crate::specs::Once::supers_once))]
+    #[tactic(auto, unfolding(crate::specs::inner::Once::supers_once))]
     fn supers_once(&self, alloc: Global, class: usize) -> Result<Seq<u32>, AllocError>
         ensures { IfOk result (λ found. found ≡ supers_once self.now.classes class) }
     {
@@ -125,7 +125,7 @@ impl<'a> Roster<'a> {
     }
 
     /// What every class directly extends or implements.
-    #[tactic(auto, using(crate::proofs::Tables::values_more), unfolding(crate::specs::Tables::values_to))]
+    #[tactic(auto, using(crate::proofs::Tables::values_more), unfolding(crate::specs::inner::Tables::values_to))]
     pub(crate) fn supers_table(&self, alloc: Global) -> Result<Seq<Seq<u32>>, AllocError>
         ensures { IfOk result (λ table. table ≡ values_to (supers_once self.now.classes) (length self.now.classes)) }
     {

@@ -87,7 +87,7 @@ impl<'a> Types for World<'a> {
     ghost use Rattle.std.specs.Prelude.{length};
     ghost use Rattle.class_world.specs.Types.{is_sub, erase};
     ghost use Rattle.class_world.specs.Fields.{fields_of, can_be_made};
-    ghost use Rattle.class_world.specs.WorldLaws.{world_laws};
+    ghost use Rattle.class_world.specs.lemmas.WorldLaws.{world_laws};
 
     ghost sub = { λ w. is_sub w.roster.classes };
 

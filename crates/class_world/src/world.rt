@@ -5,11 +5,11 @@ ghost use Rattle.class_world.specs.Linking.{Refuses, CanBeRead, has_few_members,
 ghost use Rattle.std.specs.List.{list_all, AllByRecursion};
 ghost use Rattle.class_world.specs.Fields.{fields_of};
 ghost use Rattle.class_world.specs.Members.{declared_method, find_method};
-ghost use Rattle.class_world.specs.Index.{HasDistinctMembers, IsIndex, has_places};
+ghost use Rattle.class_world.specs.inner.Index.{HasDistinctMembers, IsIndex, has_places};
 ghost use Rattle.std.proofs.Props.{props};
 ghost use Rattle.class_world.specs.BuiltIns.{IsWorld};
-ghost use Rattle.class_world.specs.Once.{AreSought};
-ghost use Rattle.class_world.specs.Tables.{above_table, values_to};
+ghost use Rattle.class_world.specs.inner.Once.{AreSought};
+ghost use Rattle.class_world.specs.inner.Tables.{above_table, values_to};
 
 use crate::built_in::with_built_ins;
 use crate::fault::LinkFault;

@@ -14,6 +14,7 @@ use Rattle.code_decode.specs.Reading.{◌>>=◌, insn_at}
 
 -- ---- what a code's instructions are
 
+-- the targets of an instruction's form: that of a jump, or the default target and the targets of all keys of a switch
 abbrev pub spelling_targets : Spelling → List ℕ
 spelling_targets (Plain op) = []
 spelling_targets (Byte op n) = []
@@ -30,11 +31,11 @@ spelling_targets (Array op code) = []
 spelling_targets (WideLocal op n) = []
 spelling_targets (WideIncrement op n v) = []
 
--- where an instruction may jump to
+-- the targets of an instruction: where in its code it may jump to
 abbrev pub targets : Insn → List ℕ
 targets insn = spelling_targets (spelling insn)
 
--- the place of the first instruction that has a target which isn't good
+-- the place of the first instruction that has a target which isn't good, none where all targets are good
 abbrev pub first_stray : (ℕ → Bool) → List (ℕ × Insn) → Option ℕ
 first_stray is_good [] = None
 first_stray is_good (x ∷ xs) = if list_all is_good (targets x.1) then first_stray is_good xs else Some x.0
@@ -47,14 +48,15 @@ Spells pc (x ∷ xs) bytes =
     (padding : List ℕ) × (rest : List ℕ) × (x.0 ≡ pc) × (length padding ≡ padding_of pc) × Fits pc x.1
     × (bytes ≡ text pc padding x.1 ++ rest) × Spells (pc + length (text pc padding x.1)) xs rest
 
--- These are the code's instructions: its bytes are theirs, and each target is the place of one of them.
+-- These are the code's instructions: its bytes are theirs, and each target is the place of one of them (JVM specification,
+-- section 4.9.1).
 pub record IsReading (code : List ℕ) (insns : List (ℕ × Insn)) : Type 0 where
   pub spelled : Spells 0 insns code
   pub targets : first_stray (stands (starts insns)) insns ≡ None
 
 -- ---- reading a whole code, with the first fault
 
--- The instructions from a place on, where the given number of bytes is passed over first.
+-- the instructions of a code from a place on, where the given number of bytes is passed over first
 unfoldable pub insns_from : ℕ → ℕ → List ℕ → Result (List (ℕ × Insn)) CodeFault
 insns_from passed pc [] = Ok []
 insns_from zero pc (op ∷ bytes) = do
@@ -63,11 +65,12 @@ insns_from zero pc (op ∷ bytes) = do
   Ok ((pc, x.0) ∷ rest)
 insns_from (suc passed) pc (b ∷ bytes) = insns_from passed (pc + 1) bytes
 
+-- the instructions of a code, or a BadTarget at the first one that has a stray target
 abbrev pub with_targets : List (ℕ × Insn) → Option ℕ → Result (List (ℕ × Insn)) CodeFault
 with_targets insns None = Ok insns
 with_targets insns (Some pc) = Err (BadTarget pc)
 
--- A stray target comes after all other faults.
+-- the instructions of a code, or its first fault; a stray target comes after all other faults
 unfoldable pub decode_of : List ℕ → Result (List (ℕ × Insn)) CodeFault
 decode_of code = do
   insns ← insns_from 0 0 code

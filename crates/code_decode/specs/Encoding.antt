@@ -11,16 +11,16 @@ use Rattle.code_decode.specs.Codes.{first_stray}
 abbrev pub plain_text : ℕ → Insn → List ℕ
 plain_text pc insn = text pc (zeros (padding_of pc)) insn
 
--- the bytes of the instructions, one behind the other
+-- the bytes of a code: those of its instructions, one behind the other
 abbrev pub code_of : List (ℕ × Insn) → List ℕ
 code_of insns = flat_map (λ x. plain_text x.0 x.1) insns
 
--- Each instruction stands where the one before it ends.
+-- the instructions stand one behind the other, the first at a given place, with no byte between them
 abbrev pub ArePlaced : ℕ → List (ℕ × Insn) → Type 0
 ArePlaced pc [] = Unit {0}
 ArePlaced pc (x ∷ xs) = (x.0 ≡ pc) × ArePlaced (pc + length (plain_text pc x.1)) xs
 
--- The list is one of a code: its places follow from the lengths, its bytes are at most 65,535, every number and distance
+-- The list is that of a code: its places follow from the lengths, its bytes are at most 65,535, every number and distance
 -- fits its field, the rules on switches and operands hold, and each target is the place of an instruction.
 pub record IsCode (insns : List (ℕ × Insn)) : Type 0 where
   pub placed : ArePlaced 0 insns

@@ -5,7 +5,7 @@ use Rattle.std.specs.Prelude.{Bool, true, false}
 use Rattle.code_forms.specs.declared.insn.Insn.{Insn}
 use Rattle.code_forms.specs.declared.insn.Insn.TheVariants.{Goto, GotoW, Tableswitch, Lookupswitch, Ireturn, Areturn, Return, Athrow}
 
--- whether the instruction behind this one may run after it
+-- the instruction behind this one may run after it
 abbrev pub falls_through : Insn → Bool
 falls_through (Goto target) = false
 falls_through (GotoW target) = false

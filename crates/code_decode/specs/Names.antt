@@ -17,6 +17,7 @@ use Rattle.code_forms.specs.declared.insn.Insn.TheVariants.{Lookupswitch, New, N
 use Rattle.code_forms.specs.declared.insn.Insn.TheVariants.{Return, Saload, Sastore, Sipush, Swap, Tableswitch, WideAload}
 use Rattle.code_forms.specs.declared.insn.Insn.TheVariants.{WideAstore, WideIinc, WideIload, WideIstore}
 
+-- the name of an instruction: its mnemonic in JVM specification 6.5, with `wide_` before it where it stands behind `wide`
 abbrev pub name_of : Insn → List ℕ
 name_of Nop = codes "nop"
 name_of AconstNull = codes "aconst_null"

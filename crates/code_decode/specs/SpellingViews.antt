@@ -4,6 +4,7 @@ use Rattle.code_decode.specs.declared.spelling.SpellingView.TheVariants as views
 use Rattle.code_forms.specs.Spellings.{Spelling, Plain, Byte, Pair, SignedByte, SignedPair, Jump, FarJump, Increment, Table, Lookup}
 use Rattle.code_forms.specs.Spellings.{Interface, Array, WideLocal, WideIncrement}
 
+-- an instruction's form as the program has it, seen as the form in the table of the instructions
 abbrev pub shown : SpellingView → Spelling
 shown (views.Plain op) = Plain op
 shown (views.Byte op n) = Byte op n

@@ -11,34 +11,37 @@ use Rattle.code_forms.specs.Cases.{is_rising}
 use Rattle.code_forms.specs.Spellings.{Spelling, Plain, Byte, Pair, SignedByte, SignedPair, Jump, FarJump, Increment, Table, Lookup}
 use Rattle.code_forms.specs.Spellings.{Interface, Array, WideLocal, WideIncrement, spelling}
 
--- the bytes of a signed number, in two's complement and big-endian
+-- a signed number in bytes: in two's complement, the highest byte first
 abbrev pub signed : Width → ℤ → List ℕ
 signed w v = to_be_bytes w (cast_unsigned w v)
 
--- A target stands in the bytes as its distance from the instruction's own place.
+-- a target in the bytes of a jump or switch: its distance from the instruction's own place
 abbrev pub distance : ℕ → ℕ → ℤ
 distance pc target = pos target -ℤ pos pc
 
--- how many bytes of padding a switch at a place has, so that its default begins at a multiple of four
+-- how many bytes of padding a switch at a place has, so that its default begins at a multiple of four (JVM specification,
+-- 6.5.tableswitch, 6.5.lookupswitch)
 abbrev pub padding_of : ℕ → ℕ
 padding_of pc = 3 - pc % 4
 
+-- a case of a lookupswitch: its key, and the distance of its target (JVM specification, 6.5.lookupswitch)
 abbrev pub case_text : ℕ → Case → List ℕ
 case_text pc c = signed w32 c.key ++ signed w32 (distance pc c.target)
 
--- padding, default, low, high and the targets of the keys from low to high
+-- a tableswitch behind its opcode: padding, default, low, high and the targets of the keys from low to high (JVM specification,
+-- 6.5.tableswitch)
 abbrev pub table_text : ℕ → List ℕ → ℕ → ℤ → List ℕ → List ℕ
 table_text pc padding default low targets =
     padding ++ (signed w32 (distance pc default)
     ++ (signed w32 low ++ (signed w32 (low +ℤ pos (length targets - 1)) ++ flat_map
     (λ target. signed w32 (distance pc target)) targets)))
 
--- padding, default, count and the cases
+-- a lookupswitch behind its opcode: padding, default, the number of cases and the cases (JVM specification, 6.5.lookupswitch)
 abbrev pub lookup_text : ℕ → List ℕ → ℕ → List Case → List ℕ
 lookup_text pc padding default cases =
     padding ++ (signed w32 (distance pc default) ++ (to_be_bytes w32 (length cases) ++ flat_map (case_text pc) cases))
 
--- the bytes of a spelling at a place; the padding counts in switches alone
+-- the bytes of an instruction's form at a place (JVM specification, section 6.5); the padding counts in switches alone
 abbrev pub spelling_text : ℕ → List ℕ → Spelling → List ℕ
 spelling_text pc padding (Plain op) = op ∷ []
 spelling_text pc padding (Byte op n) = op ∷ n ∷ []
@@ -55,16 +58,17 @@ spelling_text pc padding (Array op code) = op ∷ code ∷ []
 spelling_text pc padding (WideLocal op n) = 196 ∷ op ∷ to_be_bytes w16 n
 spelling_text pc padding (WideIncrement op n v) = 196 ∷ op ∷ (to_be_bytes w16 n ++ signed w16 v)
 
--- the bytes of an instruction at a place
+-- the bytes of an instruction at a place, with these bytes as a switch's padding
 abbrev pub text : ℕ → List ℕ → Insn → List ℕ
 text pc padding insn = spelling_text pc padding (spelling insn)
 
--- a target of two bytes whose distance fits
+-- a jump at a place reaches a target: the target is a place of two bytes, and its distance fits the field
 pub record Reaches (w : Width) (pc target : ℕ) : Type 0 where
   pub place : target < 2 ^ 16
   pub fits : FitsSigned w (distance pc target)
 
--- A table has at least one key, and the highest fits.
+-- A tableswitch at a place can be written: it has at least one key, its lowest and its highest key fit four bytes, and its default
+-- and its targets are reached.
 pub record IsTable (pc default : ℕ) (low : ℤ) (targets : List ℕ) : Type 0 where
   pub otherwise : Reaches w32 pc default
   pub lowest : FitsSigned w32 low
@@ -72,14 +76,16 @@ pub record IsTable (pc default : ℕ) (low : ℤ) (targets : List ℕ) : Type 0 
   pub highest : FitsSigned w32 (low +ℤ pos (length targets - 1))
   pub each : AllByRecursion (Reaches w32 pc) targets
 
--- The cases' number fits, and their keys rise.
+-- A lookupswitch at a place can be written: the number of its cases and every key fit four bytes, its default and its targets are
+-- reached, and the keys rise.
 pub record IsLookup (pc default : ℕ) (cases : List Case) : Type 0 where
   pub otherwise : Reaches w32 pc default
   pub few : length cases < 2 ^ 31
   pub each : AllByRecursion (λ c. FitsSigned w32 c.key × Reaches w32 pc c.target) cases
   pub rising : IsTrue (is_rising cases)
 
--- Every number and distance fits its field, and the rules on switches and operands hold.
+-- an instruction's form has bytes at a place: every number and distance fits its field, and the rules on switches and operands
+-- hold
 abbrev pub FitsSpelling : ℕ → Spelling → Type 0
 FitsSpelling pc (Plain op) = Unit {0}
 FitsSpelling pc (Byte op n) = n < 2 ^ 8
@@ -96,11 +102,11 @@ FitsSpelling pc (Array op code) = (4 ≤ code) × (code ≤ 11)
 FitsSpelling pc (WideLocal op n) = n < 2 ^ 16
 FitsSpelling pc (WideIncrement op n v) = (n < 2 ^ 16) × FitsSigned w16 v
 
--- an instruction that has bytes at a place
+-- an instruction has bytes at a place
 abbrev pub Fits : ℕ → Insn → Type 0
 Fits pc insn = FitsSpelling pc (spelling insn)
 
--- padding of zero bytes
+-- so many bytes of zero, the padding of a switch where a code is written
 abbrev pub zeros : ℕ → List ℕ
 zeros zero = []
 zeros (suc n) = 0 ∷ zeros n

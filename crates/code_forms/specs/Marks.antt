@@ -4,13 +4,14 @@ use Rattle.std.specs.List.{list_any}
 use Rattle.code_forms.specs.declared.insn.Insn.{Insn}
 use Rattle.code_forms.specs.declared.starts.Starts.{Starts}
 
--- where the instructions begin
+-- the places where the instructions of a code begin
 abbrev pub starts : List (ℕ × Insn) → List ℕ
 starts insns = map (λ x. x.0) insns
 
+-- the place is among these places
 abbrev pub stands : List ℕ → ℕ → Bool
 stands places place = list_any (λ start. start == place) places
 
--- whether the place is marked
+-- the place is marked among the places where instructions begin
 abbrev pub marked : Starts → ℕ → Bool
 marked s place = slice_index_or s.marks.items place false

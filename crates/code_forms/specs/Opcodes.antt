@@ -17,6 +17,7 @@ use Rattle.code_forms.specs.declared.insn.Insn.TheVariants.{WideAstore, WideIloa
 use Rattle.code_forms.specs.Spellings as spellings
 use Rattle.code_forms.specs.Spellings.{Spelling, spelling}
 
+-- the opcode of an instruction's form; behind the opcode 196, `wide`, it is the second opcode
 abbrev pub opcode_of : Spelling → ℕ
 opcode_of (spellings.Plain op) = op
 opcode_of (spellings.Byte op n) = op
@@ -33,16 +34,17 @@ opcode_of (spellings.Array op code) = op
 opcode_of (spellings.WideLocal op n) = op
 opcode_of (spellings.WideIncrement op n v) = op
 
--- the first instruction of the opcode
+-- the first of these instructions that has the opcode, none where none has it
 abbrev pub find : List Insn → ℕ → Option Insn
 find [] op = None
 find (i ∷ is) op = if op == opcode_of (spelling i) then Some i else find is op
 
+-- the first of these families of instructions, each over its one operand, that has the opcode
 abbrev pub find_by : List (ℕ → Insn) → ℕ → Option (ℕ → Insn)
 find_by [] op = None
 find_by (i ∷ is) op = if op == opcode_of (spelling (i 0)) then Some i else find_by is op
 
--- no operands: constants, loads, stores
+-- the instructions without operands: constants, loads, stores
 abbrev pub plain_low : List Insn
 plain_low =
     Nop ∷ AconstNull ∷ IconstM1 ∷ Iconst0 ∷ Iconst1 ∷ Iconst2 ∷ Iconst3 ∷ Iconst4 ∷
@@ -51,7 +53,7 @@ plain_low =
     Istore2 ∷ Istore3 ∷ Astore0 ∷ Astore1 ∷ Astore2 ∷ Astore3 ∷ Iastore ∷ Aastore ∷
     Bastore ∷ Castore ∷ Sastore ∷ []
 
--- no operands: the stack, numbers, returns
+-- the instructions without operands: the stack, numbers, returns, arrays and throws
 abbrev pub plain_high : List Insn
 plain_high =
     Pop ∷ Pop2 ∷ Dup ∷ DupX1 ∷ DupX2 ∷ Dup2 ∷ Dup2X1 ∷ Dup2X2 ∷
@@ -59,31 +61,32 @@ plain_high =
     Ishr ∷ Iushr ∷ Iand ∷ Ior ∷ Ixor ∷ I2b ∷ I2c ∷ I2s ∷
     Ireturn ∷ Areturn ∷ Return ∷ Arraylength ∷ Athrow ∷ []
 
--- a number of one byte
+-- the instructions with a number of one byte: a pool entry or a local
 abbrev pub with_byte : List (ℕ → Insn)
 with_byte = Ldc ∷ Iload ∷ Aload ∷ Istore ∷ Astore ∷ []
 
--- a number of two bytes
+-- the instructions with a number of two bytes, which is a pool entry
 abbrev pub with_pair : List (ℕ → Insn)
 with_pair =
     LdcW ∷ Getstatic ∷ Putstatic ∷ Getfield ∷ Putfield ∷ Invokevirtual ∷ Invokespecial ∷ Invokestatic ∷
     New ∷ Anewarray ∷ Checkcast ∷ Instanceof ∷ []
 
--- a target, as a distance of two bytes
+-- the instructions with a target, as a distance of two bytes
 abbrev pub with_jump : List (ℕ → Insn)
 with_jump =
     Ifeq ∷ Ifne ∷ Iflt ∷ Ifge ∷ Ifgt ∷ Ifle ∷ IfIcmpeq ∷ IfIcmpne ∷
     IfIcmplt ∷ IfIcmpge ∷ IfIcmpgt ∷ IfIcmple ∷ IfAcmpeq ∷ IfAcmpne ∷ Goto ∷ Ifnull ∷
     Ifnonnull ∷ []
 
--- a local of two bytes, behind `wide`
+-- the instructions behind `wide` with a local of two bytes
 abbrev pub wide_local : List (ℕ → Insn)
 wide_local = WideIload ∷ WideAload ∷ WideIstore ∷ WideAstore ∷ []
 
+-- the first of two that is there
 abbrev pub first_of : {A : Type 0} → Option A → Option A → Option A
 first_of (Some f) other = Some f
 first_of None other = other
 
--- the instruction of an opcode without operands
+-- the instruction without operands that has the opcode
 abbrev pub plain : ℕ → Option Insn
 plain op = first_of (find plain_low op) (find plain_high op)

@@ -18,34 +18,38 @@ use Rattle.code_forms.specs.declared.insn.Insn.TheVariants.{Lookupswitch, New, N
 use Rattle.code_forms.specs.declared.insn.Insn.TheVariants.{Return, Saload, Sastore, Sipush, Swap, Tableswitch, WideAload}
 use Rattle.code_forms.specs.declared.insn.Insn.TheVariants.{WideAstore, WideIinc, WideIload, WideIstore}
 
--- What an instruction is in a code. The first number is the opcode wherever instructions of more than one opcode have
--- the form.
+-- The form of an instruction in a code: its opcode, which is the first number, and the operands behind it.
 pub data Spelling : Type 0 where
   -- the opcode alone
   Plain : ℕ → Spelling
-  -- a number of one byte, of two, and the same signed
+  -- a number of one byte
   Byte : ℕ → ℕ → Spelling
+  -- a number of two bytes
   Pair : ℕ → ℕ → Spelling
+  -- a signed number of one byte
   SignedByte : ℕ → ℤ → Spelling
+  -- a signed number of two bytes
   SignedPair : ℕ → ℤ → Spelling
-  -- a target, as a distance of two bytes or of four
+  -- a target, as a distance of two bytes
   Jump : ℕ → ℕ → Spelling
+  -- a target, as a distance of four bytes
   FarJump : ℕ → ℕ → Spelling
   -- a local of one byte and a signed number of one byte
   Increment : ℕ → ℕ → ℤ → Spelling
-  -- default, lowest key, targets
+  -- a tableswitch: the default target, the lowest key, and the targets of the keys from there on
   Table : ℕ → ℕ → ℤ → List ℕ → Spelling
-  -- default, cases
+  -- a lookupswitch: the default target and the cases
   Lookup : ℕ → ℕ → List Case → Spelling
-  -- a pool entry, a count
+  -- an invokeinterface: a pool entry, and the count of the words that its arguments take
   Interface : ℕ → ℕ → ℕ → Spelling
-  -- the code of an element type
+  -- the code of a primitive element type
   Array : ℕ → ℕ → Spelling
   -- behind the opcode 196: the opcode, and a local of two bytes
   WideLocal : ℕ → ℕ → Spelling
   -- behind the opcode 196: the opcode, a local of two bytes and a signed number of two bytes
   WideIncrement : ℕ → ℕ → ℤ → Spelling
 
+-- the form and the opcode of each instruction, as JVM specification 6.5 gives them under the instruction's name
 abbrev pub spelling : Insn → Spelling
 spelling Nop = Plain 0
 spelling AconstNull = Plain 1

@@ -14,7 +14,7 @@ use Rattle.code_forms.specs.declared.insn.Case.{Case}
 use Rattle.frame_types.specs.declared.table.Table.{Table}
 use Rattle.frame_types.specs.Tables.{Flow}
 use Rattle.frame_types.specs.Growth.{IsTable, IsGrown, AreRefused}
-use Rattle.frame_types.specs.GrowthLaws.{grown_none, grown_more, refused_after, refused_first}
+use Rattle.frame_types.proofs.GrowthLaws.{grown_none, grown_more, refused_after, refused_first}
 use Rattle.code_verify.specs.Answers.{Comes}
 use Rattle.code_verify.specs.Flows.{covers, caught_frame, onward, caught}
 

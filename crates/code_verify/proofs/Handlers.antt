@@ -16,7 +16,7 @@ use Rattle.frame_types.specs.declared.table.Table.{Table}
 use Rattle.frame_types.specs.Places.{IsOfWorld, IsSet, IsProper}
 use Rattle.frame_types.specs.Tables.{Flow}
 use Rattle.frame_types.specs.Growth.{IsTable, IsGrown}
-use Rattle.frame_types.specs.GrowthLaws.{grown_none}
+use Rattle.frame_types.proofs.GrowthLaws.{grown_none}
 use Rattle.code_verify.specs.Answers.{Comes}
 use Rattle.code_verify.specs.Flows.{covers, caught_class, CanCatch, caught_frame, caught}
 use Rattle.code_verify.proofs.TypeShapes.{erased_of_world}

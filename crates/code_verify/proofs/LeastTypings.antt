@@ -21,15 +21,15 @@ use Rattle.class_program.specs.Good.{IsGood, IsGoodMethod}
 use Rattle.frame_types.specs.Places.{IsWithin, IsFrameWithin, IsOfWorld, IsSet, IsProper, IsFrame}
 use Rattle.frame_types.specs.Tables.{CodeTypes, Flow, Takes, IsAtMost}
 use Rattle.frame_types.specs.Growth.{is_led_to}
-use Rattle.frame_types.specs.GrowthLaws.{takes_more, frame_refl}
-use Rattle.frame_types.specs.HeightLaws.{same_up, frame_antisym}
-use Rattle.frame_types.specs.JoinLaws.{frame_join}
+use Rattle.frame_types.proofs.GrowthLaws.{takes_more, frame_refl}
+use Rattle.frame_types.proofs.HeightLaws.{same_up, frame_antisym}
+use Rattle.frame_types.proofs.JoinLaws.{frame_join}
 use Rattle.frame_types.specs.Work.{way_up, sum_below}
-use Rattle.frame_types.specs.WorkLaws.{sum_less, way_down}
+use Rattle.frame_types.proofs.WorkLaws.{sum_less, way_down}
 use Rattle.code_verify.specs.Flows.{ways, covers, caught_class, caught_frame, onward, caught, flows_from, CanCatch, IsReachable}
 use Rattle.code_verify.specs.Flows.IsReachable.{start, onwards}
 use Rattle.code_verify.specs.Typings.{IsTyping, IsLeastTyping, entry_frame, entry_flow}
-use Rattle.code_verify.specs.Solving.{IsClosedAt}
+use Rattle.code_verify.specs.inner.Solving.{IsClosedAt}
 use Rattle.code_verify.proofs.Running.{caught_of_world, run_proper, flows_ran, did_run, flows_within, takes_flows, led_places}
 use Rattle.code_verify.proofs.Solved.{reached_typed, entry_proper, too_many}
 

@@ -15,11 +15,11 @@ use Rattle.class_world.specs.Types.{erase}
 use Rattle.class_world.specs.WorldTypes.{types_of}
 use Rattle.class_program.specs.declared.program.CatchRange.{CatchRange}
 use Rattle.frame_types.specs.Tables.{CodeTypes, Flow, Takes, IsAtMost}
-use Rattle.frame_types.specs.GrowthLaws.{takes_more}
+use Rattle.frame_types.proofs.GrowthLaws.{takes_more}
 use Rattle.code_verify.specs.declared.passed.Passed.{Passed}
 use Rattle.code_verify.specs.declared.passed.Stretch.{Stretch}
 use Rattle.code_verify.specs.Flows.{covers, caught_class, caught}
-use Rattle.code_verify.specs.Solving.{IsPassed, narrowed}
+use Rattle.code_verify.specs.inner.Solving.{IsPassed, narrowed}
 
 -- ---- places of a range
 

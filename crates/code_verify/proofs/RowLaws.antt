@@ -35,7 +35,7 @@ use Rattle.op_forms.specs.Forms.Form.{Areturn, Return, Getstatic, Putstatic, Get
 use Rattle.op_forms.specs.Forms.Form.{Invokestatic, Invokeinterface, New, Newarray, Anewarray, Arraylength, NumberLoad, Aaload}
 use Rattle.op_forms.specs.Forms.Form.{NumberStore, Aastore, Athrow, Checkcast, Instanceof}
 use Rattle.frame_types.specs.Places.{IsWithin, IsFrameWithin, IsOfWorld, IsSet, IsProper}
-use Rattle.frame_types.specs.GrowthLaws.{within_refl}
+use Rattle.frame_types.proofs.GrowthLaws.{within_refl}
 use Rattle.code_verify.specs.declared.want.Want.{Want}
 use Rattle.code_verify.specs.declared.want.Want.TheVariants as wants
 use Rattle.code_verify.specs.Operands.{is_int, is_reference, item_place, place_of, want_of}

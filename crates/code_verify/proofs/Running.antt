@@ -28,7 +28,7 @@ use Rattle.op_forms.specs.Forms.{Form, form_of}
 use Rattle.frame_types.specs.Places.{IsFrameWithin, IsOfWorld, IsProper}
 use Rattle.frame_types.specs.Tables.{CodeTypes, Flow, Takes}
 use Rattle.frame_types.specs.Growth.{is_led_to}
-use Rattle.frame_types.specs.GrowthLaws.{within_refl, frame_trans}
+use Rattle.frame_types.proofs.GrowthLaws.{within_refl, frame_trans}
 use Rattle.code_verify.specs.Rows.{types_after}
 use Rattle.code_verify.specs.Flows.{is_inside, ways, covers, caught_class, CanCatch, caught_frame, onward, caught, runs_at}
 use Rattle.code_verify.specs.Flows.{flows_from, ways_of_op, places_from}

@@ -24,13 +24,13 @@ use Rattle.frame_types.specs.declared.table.Table.{Table}
 use Rattle.frame_types.specs.Places.{IsWithin, IsOfWorld, IsSet, IsProper, IsFrame}
 use Rattle.frame_types.specs.Tables.{CodeTypes, Flow, Takes, IsAtMost, types_at}
 use Rattle.frame_types.specs.Growth.{IsTable, AreFrames, is_led_to, IsGrown, AreRefused, waits}
-use Rattle.frame_types.specs.GrowthLaws.{takes_more, all_one, one_of, all_map}
+use Rattle.frame_types.proofs.GrowthLaws.{takes_more, all_one, one_of, all_map}
 use Rattle.code_verify.specs.Operands.{place_of}
 use Rattle.code_verify.specs.Flows.{flows_from, CanCatch, IsReachable}
 use Rattle.code_verify.specs.Flows.IsReachable.{start, onwards}
 use Rattle.code_verify.specs.Typings.{IsTyping, HasTyping, IsLeastTyping, entry_frame, entry_flow}
 use Rattle.code_verify.specs.Answers.{Looks}
-use Rattle.code_verify.specs.Solving.{IsClosedAt, IsSolving}
+use Rattle.code_verify.specs.inner.Solving.{IsClosedAt, IsSolving}
 use Rattle.code_verify.proofs.OperandLaws.{slot_of_world}
 use Rattle.code_verify.proofs.Running.{flows_within, takes_flows, led_places, leads_there}
 

@@ -17,11 +17,11 @@ use Rattle.frame_types.specs.Places.{IsProper}
 use Rattle.frame_types.specs.Tables.{Flow, types_at}
 use Rattle.frame_types.specs.Growth.{IsGrown, AreRefused, waits}
 use Rattle.frame_types.specs.Work.{work_left}
-use Rattle.frame_types.specs.WorkLaws.{taken_work, looked_work}
+use Rattle.frame_types.proofs.WorkLaws.{taken_work, looked_work}
 use Rattle.code_verify.specs.Flows.{flows_from, CanCatch}
 use Rattle.code_verify.specs.Typings.{HasTyping, IsLeastTyping, entry_frame}
 use Rattle.code_verify.specs.Answers.{Looks}
-use Rattle.code_verify.specs.Solving.{IsSolving}
+use Rattle.code_verify.specs.inner.Solving.{IsSolving}
 use Rattle.code_verify.proofs.FlowLaws.{came}
 use Rattle.code_verify.proofs.Solved.{refused, solved, finished, first_solving, first_refused, entry_proper}
 

@@ -13,11 +13,12 @@ use Rattle.code_verify.specs.declared.fault.VerifyFault.{VerifyFault}
 use Rattle.code_verify.specs.declared.fault.VerifyFault.TheVariants.{NoTyping, Memory}
 use Rattle.code_verify.specs.Rows.{static_slot}
 
--- the table takes the flows, or nothing that has what it has does
+-- a call has given flows of types to a method's table: the table takes them, or no table that has what this one has can
+-- take them
 abbrev pub Comes : WorldTypes → List Flow → Bool → Table → Table → Type 0
 Comes types flows ok old new = MatchBool ok (IsGrown types flows old new) (AreRefused types flows old)
 
--- the types that a form brings into a frame are the world's
+-- the types that a form of instruction brings into a frame are the world's
 abbrev pub IsGoodForm : Program → Form → Type 0
 IsGoodForm p (Getstatic place) = IfSome (static_slot p place) (IsSlot (length p.world))
 IsGoodForm p (Getfield used) = IsSlot (length p.world) used.slot
@@ -30,12 +31,13 @@ IsGoodForm p (Anewarray t) = IsReference (length p.world) t × (t.dims < 255)
 IsGoodForm p (Checkcast t) = IsReference (length p.world) t
 IsGoodForm p _ = Unit {0}
 
--- what a place of a method leads to comes to the table; where it leads to nothing, nothing comes
+-- a call has given to a method's table all flows from a place of the method; where the place leads to nothing, since no
+-- types fit there, the call refuses
 abbrev pub Looks : WorldTypes → Option (List Flow) → Bool → Table → Table → Type 0
 Looks types None ok old new = ok ≡ false
 Looks types (Some flows) ok old new = Comes types flows ok old new
 
--- the fault names that number, or there is none of 32 bits
+-- a fault of verification names the method with a number, or it is want of memory
 abbrev pub Names : ℕ → VerifyFault → Type 0
 Names number (NoTyping method) = method ≡ number
 Names number Memory = Unit {0}

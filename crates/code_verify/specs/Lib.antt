@@ -1,7 +1,13 @@
-pub mod Operands
-pub mod Rows
-pub mod Flows
-pub mod Answers
+-- typings of methods and of programs, and the least of them
 pub mod Typings
-pub mod Solving
+-- states of the machine that have the types of a typing
 pub mod TypedStates
+-- what each form of instruction makes of the types of its frame
+pub mod Rows
+pub mod Operands
+-- where code leads, and with what types
+pub mod Flows
+-- what calls answer
+pub mod Answers
+-- the words of private calls
+pub mod inner

@@ -14,7 +14,7 @@ ghost use Rattle.frame_types.specs.Work.{work_left};
 ghost use Rattle.code_verify.specs.Answers.{Looks};
 ghost use Rattle.code_verify.specs.Flows.{CanCatch, runs_at, flows_from};
 ghost use Rattle.code_verify.specs.Typings.{entry_frame, HasTyping, IsLeastTyping};
-ghost use Rattle.code_verify.specs.Solving.{IsSolving, IsPassed};
+ghost use Rattle.code_verify.specs.inner.Solving.{IsSolving, IsPassed};
 
 use crate::after::types_after;
 use crate::flows::{caught_class, enter_ways, falls};

@@ -8,7 +8,7 @@ ghost use Rattle.frame_types.specs.Tables.{types_at};
 ghost use Rattle.frame_types.specs.Growth.{IsTable};
 ghost use Rattle.code_verify.specs.Answers.{Comes};
 ghost use Rattle.code_verify.specs.Flows.{CanCatch, covers, caught};
-ghost use Rattle.code_verify.specs.Solving.{IsPassed, narrowed};
+ghost use Rattle.code_verify.specs.inner.Solving.{IsPassed, narrowed};
 
 use crate::flows::enter_handlers;
 use class_program::CatchRange;

@@ -21,9 +21,9 @@ use Rattle.descent.specs.declared.faults.DescentFault.{DescentFault}
 use Rattle.descent.specs.declared.proof.CutForm.{CutForm}
 use Rattle.descent.specs.declared.rules.PathRule.{PathRule}
 use Rattle.descent.specs.declared.rules.SlotForm.{SlotForm}
-use Rattle.descent.specs.Shown.{IsMet, met_of, met_is, Under}
+use Rattle.descent.specs.lemmas.Shown.{IsMet, met_of, met_is, Under}
 use Rattle.descent.specs.Conditions.{AreForms, AreMultiples, AreSlots, IsForm, IsRule}
-use Rattle.descent.specs.Lines.{AddsLine}
+use Rattle.descent.specs.inner.Lines.{AddsLine}
 use Rattle.descent.specs.Rankings.{form_at, ints_of, sizes_of, shows_target, need, need_fault, slot_at, scaled, terms_of}
 use Rattle.descent.specs.Rankings.{constant_of, entry_terms, entry_constant}
 

@@ -15,7 +15,8 @@ use Rattle.descent.specs.declared.proof.ProofStep.{ProofStep}
 use Rattle.descent.specs.declared.proof.RankRule.{RankRule}
 use Rattle.descent.specs.declared.proof.RankRule.TheVariants.{Weak, Strict}
 use Rattle.descent.specs.declared.rules.PathRule.{PathRule}
-use Rattle.descent.specs.Handing.{Gives, IsHanded, AreOver}
+use Rattle.descent.specs.inner.Handing.{Gives, IsHanded}
+use Rattle.descent.specs.Conditions.{AreOver}
 use Rattle.descent.specs.Splits.{edge_fault}
 use Rattle.descent.specs.Orders.{Says}
 use Rattle.descent.specs.Rankings.{minus_one, dead_fault}

@@ -9,7 +9,7 @@ use Rattle.std.proofs.lemmas.Bool.{and_parts, cases_lt, lt-ltb, false_from_ne_tr
 use Rattle.std.proofs.lemmas.Bool.Decides.{nat_tests}
 use Rattle.descent.specs.declared.rules.PathRule.{PathRule}
 use Rattle.descent.specs.Components.{IsWay, Reaches, AreClasses}
-use Rattle.descent.specs.Inserting.{tells, IsRow, IsTable, head_of, placed_at, insert_into, insert_all, first_at, joins, put_at}
+use Rattle.descent.specs.inner.Inserting.{tells, IsRow, IsTable, head_of, placed_at, insert_into, insert_all, first_at, joins, put_at}
 use Rattle.descent.specs.Splits.{has, stands_in, stands_once, place_from, is_followed}
 use Rattle.descent.proofs.Parted.{IsPlaced, placed}
 

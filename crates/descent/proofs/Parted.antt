@@ -44,7 +44,7 @@ find_cases test true here x rule rest t e h more = absurd (cc)
 find_cases test false true x rule rest t e h more = subst (λ (y : ℕ). test y ≡ false) (eqb-true x rule e) t
 find_cases test false false x rule rest t e h more = more refl h
 
-find_none : (test : ℕ → Bool) (set : List ℕ) (rule : ℕ) → find test set ≡ None → has set rule ≡ true → test rule ≡ false
+pub find_none : (test : ℕ → Bool) (set : List ℕ) (rule : ℕ) → find test set ≡ None → has set rule ≡ true → test rule ≡ false
 find_none test [] rule h e = absurd (false≢true e)
 find_none test (x ∷ rest) rule h e = find_cases test (test x) (eqb x rule) x rule rest refl refl h
     (λ b m. find_none test rest rule m (or_second (eqb x rule) (has rest rule) b e))
@@ -77,11 +77,11 @@ placed n [] rule place h = absurd (cc)
 placed n (part ∷ rest) rule place h = placed_cases (has part rule) n rule place part rest refl h (λ b m. placed (suc n) rest rule place m)
 
 -- what a split without a fault says
-cover_none : (a : Option ℕ) (b : Option DescentFault) → cover_fault a b ≡ None → (a ≡ None) × (b ≡ None)
+pub cover_none : (a : Option ℕ) (b : Option DescentFault) → cover_fault a b ≡ None → (a ≡ None) × (b ≡ None)
 cover_none None b e = (refl, e)
 cover_none (Some rule) b e = absurd (cc)
 
-loop_none : (a : Option ℕ) → loop_fault a ≡ None → a ≡ None
+pub loop_none : (a : Option ℕ) → loop_fault a ≡ None → a ≡ None
 loop_none None e = refl
 loop_none (Some rule) e = absurd (cc)
 
@@ -99,11 +99,11 @@ covered set parts rule e h =
     let none = least_none (is_misplaced set parts) (set ++ concat parts) rule e (has_both set (concat parts) rule h) in
     some_place (place_in parts rule) (in_set (has set rule) (is_none (place_in parts rule)) (stands_in parts rule) h none)
 
-back_none : (rule : ℕ) (lower : Option ℕ) (rest : Option DescentFault) → back_fault rule lower rest ≡ None → (lower ≡ None) × (rest ≡ None)
+pub back_none : (rule : ℕ) (lower : Option ℕ) (rest : Option DescentFault) → back_fault rule lower rest ≡ None → (lower ≡ None) × (rest ≡ None)
 back_none rule None rest e = (refl, e)
 back_none rule (Some next) rest e = absurd (cc)
 
-none_lower : (rules : List PathRule) (set : List ℕ) (parts : List (List ℕ)) (list : List ℕ) (rule : ℕ)
+pub none_lower : (rules : List PathRule) (set : List ℕ) (parts : List (List ℕ)) (list : List ℕ) (rule : ℕ)
     → back_edge rules set parts list ≡ None → has list rule ≡ true → lower_one rules set parts rule ≡ None
 none_lower rules set parts [] rule e h = absurd (false≢true h)
 none_lower rules set parts (x ∷ rest) rule e h =
@@ -113,7 +113,7 @@ none_lower rules set parts (x ∷ rest) rule e h =
       | inr later ↦ none_lower rules set parts rest rule both.1 later
     ]
 
-not_below : (a : Bool) (one other : Option ℕ) (j k : ℕ) → a ≡ true → one ≡ Some j → other ≡ Some k
+pub not_below : (a : Bool) (one other : Option ℕ) (j k : ℕ) → a ≡ true → one ≡ Some j → other ≡ Some k
     → (a && is_below one other) ≡ false → k ≤ j
 not_below false one other j k h e f g = absurd (false≢true h)
 not_below true one other j k h e f g =
@@ -121,7 +121,7 @@ not_below true one other j k h e f g =
     (subst (λ (o : Option ℕ). is_below one o ≡ false) f g) in
     ltb-false j k both
 
-ordered : (rules : List PathRule) (set : List ℕ) (parts : List (List ℕ)) (rule next k j : ℕ) → back_edge rules set parts set ≡ None
+pub ordered : (rules : List PathRule) (set : List ℕ) (parts : List (List ℕ)) (rule next k j : ℕ) → back_edge rules set parts set ≡ None
     → has set rule ≡ true → has set next ≡ true → is_followed rules rule next ≡ true → place_in parts rule ≡ Some k
     → place_in parts next ≡ Some j → k ≤ j
 ordered rules set parts rule next k j e h n follows at to =
@@ -129,7 +129,7 @@ ordered rules set parts rule next k j e h n follows at to =
     next (none_lower rules set parts set rule e h) n in
     not_below (is_followed rules rule next) (place_in parts next) (place_in parts rule) j k follows to at none
 
-lone : (rules : List PathRule) (set : List ℕ) (parts : List (List ℕ)) (steps : List (Option ℕ)) (rule k : ℕ) (part : List ℕ)
+pub lone : (rules : List PathRule) (set : List ℕ) (parts : List (List ℕ)) (steps : List (Option ℕ)) (rule k : ℕ) (part : List ℕ)
     → first_loop rules set parts steps ≡ None → has set rule ≡ true → place_in parts rule ≡ Some k → slice_get parts k ≡ Some part
     → slice_get steps k ≡ Some None → is_lone rules rule part ≡ true
 lone rules set parts steps rule k part e h at is step =
@@ -140,7 +140,7 @@ lone rules set parts steps rule k part e h at is step =
     not-false (is_lone rules rule part) three
 
 -- the one rule of a lone part doesn't follow itself
-not_itself : (rules : List PathRule) (rule next : ℕ) (part : List ℕ) → is_lone rules rule part ≡ true → has part rule ≡ true
+pub not_itself : (rules : List PathRule) (rule next : ℕ) (part : List ℕ) → is_lone rules rule part ≡ true → has part rule ≡ true
     → has part next ≡ true → is_followed rules rule next ≡ true → ⊥
 not_itself rules rule next [] e h n f = false≢true e
 not_itself rules rule next (only ∷ one ∷ rest) e h n f = false≢true e
@@ -187,7 +187,7 @@ left_at rules set (p ∷ rest) (Some s ∷ more) zero step part all is at = let 
 left_at rules set (p ∷ rest) (None ∷ more) (suc k) step part all is at = left_at rules set rest more k step part all is at
 left_at rules set (p ∷ rest) (Some s ∷ more) (suc k) step part all is at = left_at rules set rest more k step part all.1 is at
 
-follows_is : (rules : List PathRule) (u v : Turn) → Follows rules u v → is_followed rules u.rule v.rule ≡ true
+pub follows_is : (rules : List PathRule) (u v : Turn) → Follows rules u v → is_followed rules u.rule v.rule ≡ true
 follows_is rules u v f = ap (λ (o : Option PathRule). meet_at o (slice_get rules v.rule)) f.before.is
     ∙ ap (meet_at (Some f.before.taken)) f.after.is ∙ eq-eqb f.before.taken.to f.after.taken.from f.cut
 
@@ -232,7 +232,7 @@ after_cases rules set parts k v true e next same higher =
       | inr above ↦ higher n.j above n.member n.place
     ]
 
-stands_at : (parts : List (List ℕ)) (part : List ℕ) (rule k : ℕ) → place_in parts rule ≡ Some k → slice_get parts k ≡ Some part
+pub stands_at : (parts : List (List ℕ)) (part : List ℕ) (rule k : ℕ) → place_in parts rule ≡ Some k → slice_get parts k ≡ Some part
     → has part rule ≡ true
 stands_at parts part rule k p is =
     let w = placed 0 parts rule k p in

@@ -12,8 +12,8 @@ use Rattle.list_views.proofs.Marks.{unmarked, mark_keeps, marked_within}
 use Rattle.list_views.proofs.Truths.{or_second}
 use Rattle.descent.specs.declared.faults.DescentFault.{DescentFault}
 use Rattle.descent.specs.declared.rules.PathRule.{PathRule}
-use Rattle.descent.specs.Marking.{IsDone, mark_all, take_part, then_marks, take_all, all_off, ends_marked, enters, mark_start}
-use Rattle.descent.specs.Marking.{mark_starts, flow, is_light, all_light}
+use Rattle.descent.specs.inner.Marking.{IsDone, mark_all, take_part, then_marks, take_all, all_off, ends_marked, enters, mark_start}
+use Rattle.descent.specs.inner.Marking.{mark_starts, flow, is_light, all_light}
 use Rattle.descent.specs.Splits.{has, stands_in, stands_once, place_from, place_in, is_misplaced, least, uncovered, meet_at}
 use Rattle.descent.specs.Splits.{is_followed, is_below, lower_one, back_fault, back_edge, is_lone, loops_in, loops_at, first_loop}
 use Rattle.descent.specs.Splits.{loop_fault, edge_fault, cover_fault, split_fault}

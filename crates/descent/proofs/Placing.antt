@@ -7,7 +7,7 @@ use Rattle.std.proofs.lemmas.Bool.Decides.{nat_tests}
 use Rattle.std.proofs.lemmas.List.{at_drop_more, at_drop_all}
 use Rattle.std.proofs.lemmas.List.Elements.{filter-append}
 use Rattle.descent.specs.declared.rules.PathRule.{PathRule}
-use Rattle.descent.specs.Placed.{lesser, placed_of, lower_among, back_among, loop_among}
+use Rattle.descent.specs.inner.Placed.{lesser, placed_of, lower_among, back_among, loop_among}
 use Rattle.descent.specs.Splits.{place_in, is_followed, is_below, lower_one, back_fault, back_edge, loops_at, first_loop, least}
 use Rattle.descent.specs.Splits.{least_of_two, uncovered, edge_fault, loop_fault, cover_fault, split_fault}
 use Rattle.descent.specs.declared.faults.DescentFault.{DescentFault}

@@ -11,10 +11,10 @@ use Rattle.std.proofs.lemmas.Option.{slice_get_within, same_Some}
 use Rattle.list_views.proofs.Marks.{none_marked, mark_keeps}
 use Rattle.descent.specs.declared.rules.PathRule.{PathRule}
 use Rattle.descent.specs.Components.{IsWay, Reaches}
-use Rattle.descent.specs.Inserting.{IsRow}
+use Rattle.descent.specs.inner.Inserting.{IsRow}
 use Rattle.descent.specs.Splits.{has, meet_at, is_followed}
 use Rattle.list_views.specs.Lists.{open_count}
-use Rattle.descent.specs.Spreading.{first_from, all_from, next_of, is_at, group_at, groups_of, Noted, Front, noted, spread}
+use Rattle.descent.specs.inner.Spreading.{first_from, all_from, next_of, is_at, group_at, groups_of, Noted, Front, noted, spread}
 use Rattle.descent.proofs.Classes.{reach_both, reach_self, reach_next, has_end, end_has_old, end_has, alone}
 
 set_sound : (marks : List Bool) (b x : ℕ) → get_or (set marks b true) x false ≡ true → (get_or marks x false ≡ true) ⊎ (b ≡ x)

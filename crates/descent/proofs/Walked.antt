@@ -18,9 +18,10 @@ use Rattle.descent.specs.declared.proof.RankStep.{RankStep}
 use Rattle.descent.specs.declared.rules.PathRule.{PathRule}
 use Rattle.descent.specs.Chains.{Turn, IsTurn, Follows, ChainsEnd, NoInfiniteChain}
 use Rattle.descent.specs.Conditions.{AreRules, AreSteps, IsStep, IsRanked}
-use Rattle.descent.specs.Laws.{ranking_laws, start_value, end_value, no_weights}
+use Rattle.descent.specs.lemmas.RankingLaws.{ranking_laws, no_weights}
+use Rattle.descent.specs.Laws.{start_value, end_value}
 use Rattle.descent.specs.Rankings.{weak_fault, strict_fault, bounded_fault, takes_start, takes_end, minus_one, dead_fault}
-use Rattle.descent.specs.Shown.{need_holds}
+use Rattle.descent.specs.lemmas.Shown.{need_holds}
 use Rattle.descent.specs.Splits.{has}
 use Rattle.descent.specs.Steps.{numbers_from, ranking_of, ranking_fault, weak_ones, without, dead_at, empty_fault, step_fault}
 use Rattle.descent.specs.Steps.{leaves, Given, is_free, give, set_of, go_on, try_step, first_fault_from, given_first, proof_fault}
@@ -44,7 +45,7 @@ never rules number rule multipliers u fit is shown turn at =
     below_zero : pos 0 ≤ℤ (pos 0 +ℤ negsuc 0) → ⊥
     below_zero h = omega (arith, ints)
 
-not_dead : (here : Bool) (x number : ℕ) → eqb x number ≡ here → (x ≡ number → ⊥) → not here ≡ true
+pub not_dead : (here : Bool) (x number : ℕ) → eqb x number ≡ here → (x ≡ number → ⊥) → not here ≡ true
 not_dead true x number e n = absurd (n (eqb-true x number e))
 not_dead false x number e n = refl
 
@@ -64,7 +65,7 @@ dead_member true found fault other e = e
 dead_member false found fault other e = absurd (cc)
 
 -- the weights of a rank step's order
-weighs : (size : Bool) (weights : List (ℕ × ℤ)) → AreWeights weights → AreWeights (cond size weights [])
+pub weighs : (size : Bool) (weights : List (ℕ × ℤ)) → AreWeights weights → AreWeights (cond size weights [])
 weighs true weights fit = fit
 weighs false weights fit = no_weights
 
@@ -164,7 +165,7 @@ all_end rules number after (left ∷ rest) all ends =
     (ends left.0 left.1 (omega (arith, all.0)) all.1, all_end rules number after rest all.2 ends)
 
 -- a step that has no fault, with what it gives
-record IsDone (rules : List PathRule) (number : ℕ) (step : ProofStep) (given : Given) (next : Given → Option StepFault) : Type 0 where
+pub record IsDone (rules : List PathRule) (number : ℕ) (step : ProofStep) (given : Given) (next : Given → Option StepFault) : Type 0 where
   pub set : List ℕ
   pub after : Given
   pub own : slice_get given number ≡ Some (Some set)
@@ -184,7 +185,7 @@ gone number fault None next e = absurd (cc)
 gone number None (Some given) next e = record { after = given; holds = refl; is = refl; others = e }
 gone number (Some fault) (Some given) next e = absurd (cc)
 
-done : (rules : List PathRule) (number : ℕ) (step : ProofStep) (given : Given) (found : Option (Option (List ℕ))) (next : Given
+pub done : (rules : List PathRule) (number : ℕ) (step : ProofStep) (given : Given) (found : Option (Option (List ℕ))) (next : Given
     → Option StepFault) → slice_get given number ≡ found → try_step rules number step given (set_of found) next ≡ None
     → IsDone rules number step given next
 done rules number step given None next is e = absurd (cc)
@@ -247,7 +248,7 @@ all_follow rules turn (Acc.intro t h) = Acc.intro t
           (omega (arith, slice_get_within rules t.rule f.before.taken f.before.is));
     })))
 
-first_length : (rules steps : ℕ) → length (given_first rules steps) ≡ steps
+pub first_length : (rules steps : ℕ) → length (given_first rules steps) ≡ steps
 first_length rules zero = refl
 first_length rules (suc steps) = ap suc (length-replicate {A = Option (List ℕ)} steps None)
 

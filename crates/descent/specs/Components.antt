@@ -3,7 +3,7 @@ use Rattle.std.specs.Prelude.{ℕ, ◌≡◌, ◌<◌, ◌≤◌, List, [], ◌�
 use Rattle.descent.specs.declared.rules.PathRule.{PathRule}
 use Rattle.descent.specs.Splits.{is_followed, place_in, stands_in}
 
--- from one rule to another over these rules, each followed by the next
+-- from one rule over these rules to a last one, each rule being followed by the next
 abbrev pub IsWay : List PathRule → ℕ → List ℕ → ℕ → Type 0
 IsWay rules rule [] goal = rule ≡ goal
 IsWay rules rule (next ∷ way) goal = IsTrue (is_followed rules rule next) × IsWay rules next way goal

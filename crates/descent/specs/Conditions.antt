@@ -19,6 +19,7 @@ pub record IsSlot (end : ℕ) (slot : SlotForm) : Type 0 where
   pub constant : unsigned_abs slot.constant ≤ 2 ^ 40
   pub weights : total_size slot.weights ≤ 2 ^ 40
 
+-- each slot is over the variables below `end`, within the limits of numbers
 abbrev pub AreSlots : ℕ → List SlotForm → Type 0
 AreSlots end slots = All (λ (slot : SlotForm). IsSlot end slot) slots
 
@@ -28,19 +29,27 @@ pub record IsRule (rule : PathRule) : Type 0 where
   pub first : AreSlots rule.vars rule.first
   pub last : AreSlots rule.vars rule.last
 
+-- each rule has rows and slots over its own variables
 abbrev pub AreRules : List PathRule → Type 0
 AreRules rules = All (λ (rule : PathRule). IsRule rule) rules
+
+-- each rule has at most so many variables
+abbrev pub AreOver : ℕ → List PathRule → Type 0
+AreOver count rules = All (λ (rule : PathRule). rule.vars ≤ count) rules
 
 -- multiples of ids: the ids rise and are below 65,536, and no multiple is above 2^31 in size
 pub record AreMultiples (entries : List (ℕ × ℤ)) : Type 0 where
   pub rise : Rise 65536 entries
   pub size : All (λ (entry : ℕ × ℤ). unsigned_abs entry.1 ≤ 2 ^ 31) entries
 
+-- the form of a cut is within its limits: its constant is at most 2^40 in size, and its multiples of ints and of sizes are as
+-- `AreMultiples` has it
 pub record IsForm (form : CutForm) : Type 0 where
   pub number : unsigned_abs form.constant ≤ 2 ^ 40
   pub ints : AreMultiples form.ints
   pub sizes : AreMultiples form.sizes
 
+-- each form of a cut is within its limits
 abbrev pub AreForms : List CutForm → Type 0
 AreForms forms = All (λ (form : CutForm). IsForm form) forms
 
@@ -48,10 +57,12 @@ AreForms forms = All (λ (form : CutForm). IsForm form) forms
 abbrev pub AreFew : List (ℕ × ℤ) → Type 0
 AreFew multipliers = length multipliers ≤ 65536
 
+-- a rule that a rank step lists has few multipliers: for its fall, and for its bound where it is listed as strict
 abbrev pub IsListed : RankRule → Type 0
 IsListed (Weak rule fall) = AreFew fall
 IsListed (Strict rule fall bound) = AreFew fall × AreFew bound
 
+-- a rank step is within its limits: its forms, its weights of classes, and the multipliers of the rules that it lists
 pub record IsRanked (step : RankStep) : Type 0 where
   pub forms : AreForms step.forms
   pub weights : AreWeights step.weights
@@ -64,5 +75,6 @@ IsStep (Split parts steps) = length steps ≡ length parts
 IsStep (Rank step rest) = IsRanked step
 IsStep (Dead rule multipliers rest) = AreFew multipliers
 
+-- each step of a proof is within its limits
 abbrev pub AreSteps : List ProofStep → Type 0
 AreSteps steps = All IsStep steps

@@ -6,11 +6,11 @@ use Rattle.descent.specs.Conditions.{IsRule}
 use Rattle.descent.specs.Valuations.{Valuation, Meets}
 use Rattle.descent.specs.Chains.{Agree}
 
--- the fault of a row for a rule of this number, with these multipliers
+-- what an order says of a rule's number, the rule and multipliers: the fault of a row that is to be shown, or none
 abbrev pub Says : Type 0
 Says = ℕ → PathRule → List (ℕ × ℤ) → Option DescentFault
 
--- the form's value at one end of a rule
+-- the value that an order's form has at one end of a rule, under a valuation
 abbrev pub Worth : Type 0
 Worth = PathRule → Valuation → ℤ
 

@@ -4,7 +4,8 @@ ghost use Rattle.lin_core.specs.Sums.{variables};
 ghost use Rattle.descent.specs.declared.faults.StepFault.{StepFault};
 ghost use Rattle.descent.specs.Chains.{ChainsEnd, NoInfiniteChain};
 ghost use Rattle.descent.specs.Conditions.{AreRules, AreSteps, IsStep};
-ghost use Rattle.descent.specs.Handing.{AreOver, GoesOn};
+ghost use Rattle.descent.specs.Conditions.{AreOver};
+ghost use Rattle.descent.specs.inner.Handing.{GoesOn};
 ghost use Rattle.descent.specs.Steps.{Given, try_step, set_of, proof_fault, Refuses};
 
 use crate::faults::{DescentFault, StepFault};

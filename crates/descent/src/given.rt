@@ -1,7 +1,7 @@
 //! The sets that steps are given, by the steps' numbers.
 ghost use Rattle.std.specs.Prelude.{◌≡◌, ◌≤◌, List, Option, Some, None, IfOk, slice_get};
 ghost use Rattle.std.specs.List.{filter_map};
-ghost use Rattle.descent.specs.Handing.{Gives, IsHanded};
+ghost use Rattle.descent.specs.inner.Handing.{Gives, IsHanded};
 ghost use Rattle.descent.specs.Steps.{given_first, is_free, give, set_of, leaves, part_left, parts_left, same_option};
 
 use crate::proof::ProofStep;

@@ -1,7 +1,7 @@
 //! The classes of rules that reach each other.
 ghost use Rattle.std.specs.Prelude.{◌≡◌, ◌<◌, ◌≤◌, true, false, [], length, IfOk, OnOk};
 ghost use Rattle.descent.specs.Components.{AreClasses};
-ghost use Rattle.descent.specs.Inserting.{tells, head_of, first_at, joins, put_at, insert_into, insert_all};
+ghost use Rattle.descent.specs.inner.Inserting.{tells, head_of, first_at, joins, put_at, insert_into, insert_all};
 
 use crate::reaching::table;
 use crate::rules::PathRule;

@@ -6,7 +6,7 @@ ghost use Rattle.lin_core.specs.Combination.{Shows, IsSumOf, first_fault};
 ghost use Rattle.lin_core.specs.Sums.{variables, IsWithin};
 ghost use Rattle.lin_core.specs.Weights.{AreWeights, weight_in, rows_under};
 ghost use Rattle.descent.specs.Conditions.{AreForms, AreFew, AreSlots, IsRule};
-ghost use Rattle.descent.specs.Lines.{AddsLine};
+ghost use Rattle.descent.specs.inner.Lines.{AddsLine};
 ghost use Rattle.descent.specs.Rankings.{Ranking, weigh_of, form_at, ints_of, sizes_of, base_of, is_taken, takes_start, takes_end};
 ghost use Rattle.descent.specs.Rankings.{line_of, beyond_base, start_of, fall_of, need, refuses, dead_fault};
 

@@ -114,7 +114,8 @@ pub struct SizeOrder<'a> {
 }
 
 impl Order for LinearOrder<'_> {
-    ghost use Rattle.descent.specs.Laws.{linear_ranking, ranking_laws, start_value, end_value, no_weights};
+    ghost use Rattle.descent.specs.Laws.{linear_ranking, start_value, end_value};
+    ghost use Rattle.descent.specs.lemmas.RankingLaws.{ranking_laws, no_weights};
     ghost use Rattle.descent.specs.Rankings.{takes_start, takes_end};
 
     ghost is_ready = { λ order. AreForms order.forms.now };
@@ -184,7 +185,8 @@ impl Order for LinearOrder<'_> {
 }
 
 impl Order for SizeOrder<'_> {
-    ghost use Rattle.descent.specs.Laws.{size_ranking, ranking_laws, start_value, end_value, no_weights};
+    ghost use Rattle.descent.specs.Laws.{size_ranking, start_value, end_value};
+    ghost use Rattle.descent.specs.lemmas.RankingLaws.{ranking_laws, no_weights};
     ghost use Rattle.descent.specs.Rankings.{takes_start, takes_end};
 
     ghost is_ready = { λ order. AreForms order.forms.now × AreWeights order.weights.now };

@@ -1,7 +1,7 @@
 //! A split that holds, found by one walk over its parts.
 ghost use Rattle.std.specs.Prelude.{◌≡◌, ◌≤◌, ◌&&◌, None, IfOk, IsTrue, false, get_or, slice_get, length};
-ghost use Rattle.descent.specs.Marking.{IsDone, mark_all, take_part, take_all, all_off, ends_marked, enters, mark_start};
-ghost use Rattle.descent.specs.Marking.{mark_starts, flow, is_light, all_light};
+ghost use Rattle.descent.specs.inner.Marking.{IsDone, mark_all, take_part, take_all, all_off, ends_marked, enters, mark_start};
+ghost use Rattle.descent.specs.inner.Marking.{mark_starts, flow, is_light, all_light};
 ghost use Rattle.descent.specs.Splits.{split_fault};
 
 use crate::rules::PathRule;

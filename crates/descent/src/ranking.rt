@@ -5,7 +5,7 @@ ghost use Rattle.lin_core.specs.Sums.{variables, IsWithin};
 ghost use Rattle.lin_core.specs.Weights.{AreWeights, weight_in};
 ghost use Rattle.descent.specs.Conditions.{AreMultiples, AreSlots, IsSlot};
 ghost use Rattle.descent.specs.Rankings.{form_at, slot_at, is_slot_of, have_slots, entry_terms, entry_constant};
-ghost use Rattle.descent.specs.Lines.{AddsLine};
+ghost use Rattle.descent.specs.inner.Lines.{AddsLine};
 ghost use Rattle.descent.specs.Valuations.{slot_constant};
 
 use crate::proof::CutForm;

@@ -1,7 +1,7 @@
 //! The rules that each rule reaches.
 ghost use Rattle.std.specs.Prelude.{◌≡◌, ◌<◌, true, false, None, Some, [], get_or, slice_set, length, IfOk, OnOk};
-ghost use Rattle.descent.specs.Inserting.{IsRow, IsTable};
-ghost use Rattle.descent.specs.Spreading.{first_from, all_from, next_of, group_at, groups_of, noted, spread};
+ghost use Rattle.descent.specs.inner.Inserting.{IsRow, IsTable};
+ghost use Rattle.descent.specs.inner.Spreading.{first_from, all_from, next_of, group_at, groups_of, noted, spread};
 
 use crate::rules::PathRule;
 use list_views::Seq;

@@ -1,6 +1,6 @@
 //! Sets of rules and parts of them. A set is the list of its rules' numbers, rising.
 ghost use Rattle.std.specs.Prelude.{◌≡◌, ◌&&◌, Some, None, IfOk, MatchOption, slice_get, filter, ◌+◌};
-ghost use Rattle.descent.specs.Placed.{placed_of};
+ghost use Rattle.descent.specs.inner.Placed.{placed_of};
 ghost use Rattle.descent.specs.Splits.{has, stands_in, stands_once, place_in, is_followed};
 ghost use Rattle.descent.specs.Steps.{numbers_from, weak_ones, without};
 

@@ -1,6 +1,6 @@
 //! Whether a set of rules is divided into parts as a split says.
 ghost use Rattle.std.specs.Prelude.{◌≡◌, Some, None, IfOk, filter, if◌then◌else◌};
-ghost use Rattle.descent.specs.Placed.{lesser, lower_among, back_among, loop_among};
+ghost use Rattle.descent.specs.inner.Placed.{lesser, lower_among, back_among, loop_among};
 ghost use Rattle.descent.specs.Splits.{is_misplaced, least, uncovered, is_below, is_lone, loops_at, edge_fault, loop_fault, split_fault};
 
 use crate::faults::DescentFault;

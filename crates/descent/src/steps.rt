@@ -4,7 +4,7 @@ ghost use Rattle.descent.specs.declared.faults.DescentFault.TheVariants.{NotCove
 ghost use Rattle.std.specs.Result.{result_err};
 ghost use Rattle.lin_core.specs.Sums.{variables};
 ghost use Rattle.descent.specs.Conditions.{AreFew, AreRules, IsListed, IsRanked, IsRule, IsStep};
-ghost use Rattle.descent.specs.Handing.{AreOver};
+ghost use Rattle.descent.specs.Conditions.{AreOver};
 ghost use Rattle.descent.specs.Splits.{has};
 ghost use Rattle.descent.specs.Steps.{rule_of, listed_fault, rank_fault, ranking_of, ranking_fault, dead_at, step_fault};
 

@@ -14,7 +14,8 @@ use Rattle.term_graph.specs.Graphs.{GraphPart, by_at, state_at}
 use Rattle.filled_graphs.specs.declared.origins.Origin.{Origin}
 use Rattle.filled_graphs.specs.declared.origins.Origin.TheVariants.{Given, Lacking, Named}
 use Rattle.filled_graphs.specs.Filling.{Names, IsFirstNamed, CanBeFilled, ways_of}
-use Rattle.filled_graphs.specs.Origins.{IsOriginOf, HaveOrigins, unnamed, is_lacking, noted, ComesBefore, IsNoted, AreNoted}
+use Rattle.filled_graphs.specs.Origins.{IsOriginOf, HaveOrigins}
+use Rattle.filled_graphs.specs.inner.Noting.{unnamed, is_lacking, noted, ComesBefore, IsNoted, AreNoted}
 use Rattle.filled_graphs.proofs.Lists.{image_at, set_other, mapped_of}
 
 -- ---- by place

@@ -1,2 +1,3 @@
 pub mod Filling
 pub mod Origins
+pub mod inner

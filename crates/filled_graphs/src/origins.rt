@@ -4,7 +4,8 @@ ghost use Rattle.std.specs.Option.{option_map};
 ghost use Rattle.term_graph.specs.declared.nodes.By.TheVariants.{Expand};
 ghost use Rattle.term_graph.specs.Graphs.{GraphPart, state_at};
 ghost use Rattle.filled_graphs.specs.Filling.{CanBeFilled, ways_of};
-ghost use Rattle.filled_graphs.specs.Origins.{HaveOrigins, AreNoted, unnamed, is_lacking, noted};
+ghost use Rattle.filled_graphs.specs.Origins.{HaveOrigins};
+ghost use Rattle.filled_graphs.specs.inner.Noting.{AreNoted, unnamed, is_lacking, noted};
 
 use abs_cells::Pairs;
 use list_views::Seq;

@@ -17,8 +17,10 @@ use Rattle.filled_graphs.specs.Filling.{ChildRules, HasStateOf, IsNodeOf, AreFir
 use Rattle.filled_graphs.specs.Origins.{IsOriginOf, HaveOrigins}
 use Rattle.filled_graphs.proofs.Lists.{in_more}
 use Rattle.filled_graphs.proofs.Once.{state_once, filling_prop}
-use Rattle.filled_nodes.specs.Children.{HasThemOrNone, AreChildren, AreChildrenOf}
-use Rattle.filled_nodes.specs.Holding.{IsFull, AreEmpty, AreKept, IsNamedBy}
+use Rattle.filled_nodes.specs.Children.{HasThemOrNone}
+use Rattle.filled_nodes.specs.inner.ChildStates.{AreChildren, AreChildrenOf}
+use Rattle.filled_nodes.specs.inner.Slots.{IsFull, AreEmpty, IsNamedBy}
+use Rattle.filled_nodes.specs.Holding.{AreKept}
 
 -- ---- propositions
 

@@ -18,8 +18,9 @@ use Rattle.filled_graphs.specs.Filling.{ChildRules, HasStateOf, AreFirstFilled, 
 use Rattle.filled_graphs.specs.Origins.{HaveOrigins}
 use Rattle.filled_graphs.proofs.Noting.{named_here, IsOther, not_expanded}
 use Rattle.filled_graphs.proofs.Lists.{image_at}
-use Rattle.filled_nodes.specs.Children.{AreChildren, AreChildrenOf, IsChildsState, IsChildOrFirst}
-use Rattle.filled_nodes.specs.Holding.{IsFull, AreKept, IsNamedBy, Leads, IsFullOrNamed, MayDrop}
+use Rattle.filled_nodes.specs.inner.ChildStates.{AreChildren, AreChildrenOf, IsChildsState, IsChildOrFirst}
+use Rattle.filled_nodes.specs.inner.Slots.{IsFull, IsNamedBy, Leads, IsFullOrNamed, MayDrop}
+use Rattle.filled_nodes.specs.Holding.{AreKept}
 use Rattle.filled_nodes.proofs.Knowing.{part_there, way_there, named_within, named_low, inside, outside}
 use Rattle.filled_nodes.proofs.SlotStates.{in_set, full_set, full_beside}
 

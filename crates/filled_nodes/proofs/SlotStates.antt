@@ -10,7 +10,7 @@ use Rattle.abs_cells.specs.AbstractStates.{AbstractState}
 use Rattle.filled_graphs.specs.declared.origins.Origin.{Origin}
 use Rattle.filled_graphs.specs.declared.origins.Origin.TheVariants.{Given, Lacking, Named}
 use Rattle.filled_graphs.proofs.Lists.{in_more, set_other}
-use Rattle.filled_nodes.specs.Holding.{IsFull, AreEmpty, has_state, IsNamedBy, names_it, IsNamerIn}
+use Rattle.filled_nodes.specs.inner.Slots.{IsFull, AreEmpty, has_state, IsNamedBy, names_it, IsNamerIn}
 
 abbrev Slots : Type 0
 Slots = List (Option AbstractState)

@@ -1,8 +1,9 @@
 //! The children of a node whose state is held.
 ghost use Rattle.std.specs.Prelude.{◌≡◌, ◌<◌, length, Some, slice_get, IfOk};
 ghost use Rattle.term_graph.specs.Graphs.{GraphPart};
-ghost use Rattle.filled_nodes.specs.Children.{AreChildren, AreChildrenOf, IsChildOrFirst};
-ghost use Rattle.filled_nodes.specs.Holding.{IsFull, AreKept};
+ghost use Rattle.filled_nodes.specs.inner.ChildStates.{AreChildren, AreChildrenOf, IsChildOrFirst};
+ghost use Rattle.filled_nodes.specs.inner.Slots.{IsFull};
+ghost use Rattle.filled_nodes.specs.Holding.{AreKept};
 
 use crate::expanding::Expands;
 use crate::ground::Ground;

@@ -15,8 +15,8 @@ use std::alloc::{AllocError, Global};
 use std::marker::Model;
 use term_graph::{By, Node, NodeSource, PartSource};
 
-/// The filled graph of parts as a source, seen as the list of its nodes. Of these it holds those states that are still looked at in the pass at
-/// hand, each from the expansion of its first namer until the last edge that leads to it was looked at.
+/// The filled graph of parts as a source, seen as the list of its nodes. Of these it holds those states that are still looked at in the
+/// pass at hand, each from the expansion of its first namer until the last edge that leads to it was looked at.
 ///
 /// A pass that looks at the nodes in the order of their numbers, and at the other ends of each node's edges, makes each state once. Every
 /// order is answered rightly: a state that isn't held is made again, from the nearest namer above it that has one.

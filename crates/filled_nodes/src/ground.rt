@@ -3,7 +3,8 @@ ghost use Rattle.std.specs.Prelude.{◌≡◌, ◌<◌, ◌≤◌, ◌+◌, ◌^
 ghost use Rattle.filled_graphs.specs.Filling.{Filling, CanBeFilled};
 ghost use Rattle.filled_graphs.specs.Origins.{HaveOrigins};
 ghost use Rattle.filled_graphs.proofs.Once.{filling_prop};
-ghost use Rattle.filled_nodes.specs.Holding.{IsFull, AreKept};
+ghost use Rattle.filled_nodes.specs.inner.Slots.{IsFull};
+ghost use Rattle.filled_nodes.specs.Holding.{AreKept};
 
 use crate::expanding::Expands;
 use abs_cells::{AbsState, Pairs};

@@ -1,8 +1,9 @@
 //! States that are held: those that parts have, and those of children where a node is first named.
 ghost use Rattle.std.specs.Prelude.{◌≡◌, ◌<◌, ◌≤◌, ℕ, length, Some, slice_get, [], IsTrue, IsFalse, IfOk, OnOk};
 ghost use Rattle.std.specs.Option.{option_map};
-ghost use Rattle.filled_nodes.specs.Children.{AreChildrenOf};
-ghost use Rattle.filled_nodes.specs.Holding.{IsFull, AreKept, IsNamedBy, names_it, IsNamerIn, Leads, IsFullOrNamed, MayDrop};
+ghost use Rattle.filled_nodes.specs.inner.ChildStates.{AreChildrenOf};
+ghost use Rattle.filled_nodes.specs.inner.Slots.{IsFull, IsNamedBy, names_it, IsNamerIn, Leads, IsFullOrNamed, MayDrop};
+ghost use Rattle.filled_nodes.specs.Holding.{AreKept};
 
 use crate::children::{child_state, children_of};
 use crate::expanding::Expands;

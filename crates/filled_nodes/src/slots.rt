@@ -1,6 +1,6 @@
 //! Slots of states, one for each node of a graph: empty where none is held.
 ghost use Rattle.std.specs.Prelude.{◌≡◌, ◌<◌, length, Some, None, slice_get, slice_set, IfOk};
-ghost use Rattle.filled_nodes.specs.Holding.{IsFull, AreEmpty, has_state};
+ghost use Rattle.filled_nodes.specs.inner.Slots.{IsFull, AreEmpty, has_state};
 
 use abs_cells::{AbsState, Pairs};
 use list_views::Seq;

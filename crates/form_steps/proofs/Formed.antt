@@ -12,7 +12,7 @@ use Rattle.abs_cells.specs.Sound.{given_ids, ids_of_frame, ids_used, IsWellForme
 use Rattle.abs_reach.proofs.Walks.{named_has_cell}
 use Rattle.abs_heap.specs.Given.{IsGiven, first_cell, with_cells}
 use Rattle.abs_heap.proofs.Placing.{cell_there}
-use Rattle.abs_expand.specs.Building.{HoldsIds}
+use Rattle.abs_expand.specs.inner.Building.{HoldsIds}
 use Rattle.form_steps.proofs.Carry.{in_list, still_there}
 
 -- ---- lists

@@ -30,9 +30,9 @@ use Rattle.jvm_step.specs.Table.{Work, effect_of, on_frame, on_heap, on_statics}
 use Rattle.jvm_step.specs.Running.{Step, step, step_in, normal_step, with_object, applied, work_of}
 use Rattle.jvm_run.specs.Laws.{GoesTyped}
 use Rattle.jvm_run.proofs.Named.{IsNamed}
-use Rattle.abs_expand.specs.Building.{HoldsIds}
+use Rattle.abs_expand.specs.inner.Building.{HoldsIds}
 use Rattle.abs_expand.specs.Turns.{Here}
-use Rattle.form_steps.specs.Laws.{Lows}
+use Rattle.form_steps.specs.inner.Lows.{Lows}
 use Rattle.form_steps.proofs.Formed.{frames_held}
 use Rattle.form_steps.proofs.Tops.{FitFrames}
 use Rattle.form_steps.proofs.Bottoms.{StandsOnStatics, last_of}

@@ -26,9 +26,10 @@ use Rattle.term_graph.specs.Graphs.{GraphChild}
 use Rattle.term_graph.specs.declared.links.Link.{Link}
 use Rattle.term_graph.specs.declared.links.LinkRow.{LinkRow}
 use Rattle.term_graph.specs.Edges.{HoldsBetween, is_size_variable, HasSameSize, id_after, Edge}
-use Rattle.abs_expand.specs.Building.{HoldsIds}
+use Rattle.abs_expand.specs.inner.Building.{HoldsIds}
 use Rattle.abs_expand.specs.Children.{IsLean}
-use Rattle.form_steps.specs.Laws.{DroppedKeepSized, Moved}
+use Rattle.form_steps.specs.inner.Lows.{DroppedKeepSized}
+use Rattle.form_steps.specs.Laws.{Moved}
 use Rattle.form_steps.proofs.Carry.{IsAlike, alike_of, described_of, sort_stays, all_kept, given_fits, sizes_kept}
 use Rattle.form_steps.proofs.Formed.{changed_formed, stays as changed_there}
 use Rattle.form_steps.proofs.SameTerms.{size_kept}

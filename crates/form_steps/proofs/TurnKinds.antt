@@ -43,11 +43,12 @@ use Rattle.term_graph.specs.Edges.{HoldsBetween}
 use Rattle.term_graph.specs.declared.links.LinkRow.{LinkRow}
 use Rattle.abs_expand.specs.Plans.{Goal, nowhere, on_stack, in_local, nothing, makes, writes, item, object, array, no_rows, Turn}
 use Rattle.abs_expand.specs.Plans.{Plan, ends, steps, by_null, by_class, by_equal}
-use Rattle.abs_expand.specs.Building.{HoldsIds}
+use Rattle.abs_expand.specs.inner.Building.{HoldsIds}
 use Rattle.abs_expand.specs.Children.{IsTurnChild, IsLean, gone_to, top_with}
 use Rattle.abs_expand.specs.Expansions.{AreChildren}
 use Rattle.abs_expand.specs.Turns.{emptied, throws_after}
-use Rattle.form_steps.specs.Laws.{IsPlainCell, Moved}
+use Rattle.form_steps.specs.inner.Lows.{IsPlainCell}
+use Rattle.form_steps.specs.Laws.{Moved}
 use Rattle.form_steps.proofs.Carry.{in_list, IsAlike, alike_of, sort_stays}
 use Rattle.form_steps.proofs.Steps.{FitsChild, formed, ints_stay, mid_fits, moved_goes, kept_goes, written_goes, made_goes}
 use Rattle.form_steps.proofs.Tops.{FitFrames, tops, from_tops, pushed_id, local_set}

@@ -7,7 +7,7 @@ use Rattle.frame_types.specs.declared.merges.Coming.{Coming}
 use Rattle.frame_types.specs.declared.merges.Coming.TheVariants as comings
 use Rattle.frame_types.specs.Joins.{IsFrameJoin, AreFramesApart, IsMergedAs}
 use Rattle.frame_types.specs.Growth.{IsMerged, IsApart, IsComing}
-use Rattle.frame_types.specs.GrowthLaws.{frame_refl}
+use Rattle.frame_types.proofs.GrowthLaws.{frame_refl}
 use Rattle.jvm_values.proofs.Options.{some_is}
 
 module _ (types : WorldTypes) (laws : AreLawful types) (max_locals : ℕ) where

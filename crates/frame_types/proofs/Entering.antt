@@ -14,7 +14,7 @@ use Rattle.frame_types.specs.declared.table.Table.{Table}
 use Rattle.frame_types.specs.Places.{IsWithin, IsFrameWithin, IsProper, IsFrame}
 use Rattle.frame_types.specs.Tables.{CodeTypes, Takes, IsAtMost, types_at}
 use Rattle.frame_types.specs.Growth.{IsMerged, IsApart, IsTable, AreFrames, is_led_to, IsGrown, AreRefused, IsRoomier, waits}
-use Rattle.frame_types.specs.GrowthLaws.{frame_refl, all_one, one_of}
+use Rattle.frame_types.proofs.GrowthLaws.{frame_refl, all_one, one_of}
 use Rattle.jvm_values.proofs.Lists.{get_set_other}
 use Rattle.jvm_values.proofs.Options.{some_is}
 use Rattle.frame_types.proofs.Lists.{get_set_same}

@@ -1,3 +1,7 @@
+pub mod HeightLaws
+pub mod GrowthLaws
+pub mod WorkLaws
+pub mod JoinLaws
 pub mod Lists
 pub mod Merging
 pub mod StackCopies

@@ -20,7 +20,7 @@ pub record IsMerged (types : WorldTypes) (max_locals : ℕ) (old : Option PlaceT
       → ((frame : PlaceTypes) → old ≡ Some frame → IsFrameWithin types frame top) → IsFrameWithin types more top
       → IsFrameWithin types new top
 
--- no proper frame is as wide as both
+-- what comes to a place cannot be joined to what is there: no proper frame is as wide as both
 abbrev pub IsApart : WorldTypes → ℕ → Option PlaceTypes → PlaceTypes → Type 0
 IsApart types max_locals old more = (top : PlaceTypes) → IsProper types max_locals top
     → ((frame : PlaceTypes) → old ≡ Some frame → IsFrameWithin types frame top) → IsFrameWithin types more top → ⊥
@@ -35,7 +35,7 @@ IsComing types max_locals old more new comings.Apart = IsApart types max_locals 
 
 -- ---- tables
 
--- the place is to be looked at
+-- a place of a code waits to be looked at, since its types have grown since it was looked at last
 abbrev pub waits : List Bool → ℕ → Bool
 waits waiting place = slice_index_or waiting place false
 
@@ -48,12 +48,12 @@ pub record IsTable (types : WorldTypes) (table : Table) : Type 0 where
   pub frames : (place : ℕ) (frame : PlaceTypes) → types_at table.types place ≡ Some frame
       → IsFrame types table.max_locals table.max_stack frame
 
--- frames of a method are at all places
+-- a typing gives only frames of the table's method, within its locals and its stack
 abbrev pub AreFrames : WorldTypes → Table → CodeTypes → Type 0
 AreFrames types table typing = (place : ℕ) (frame : PlaceTypes) → typing place ≡ Some frame
     → IsFrame types table.max_locals table.max_stack frame
 
--- the place is one that a flow leads to
+-- one of the flows leads to a place
 abbrev pub is_led_to : List Flow → ℕ → Bool
 is_led_to flows place = list_any (λ flow. nat_eq place flow.to) flows
 
@@ -74,12 +74,12 @@ pub record IsGrown (types : WorldTypes) (flows : List Flow) (old new : Table) : 
   pub begun : (place : ℕ) → IsTrue (waits new.waiting place) → IsTrue (waits old.waiting place)
       ⊎ (types_at new.types place ≡ types_at old.types place → ⊥)
 
--- nothing has all that the table has and takes the flows
+-- a table cannot grow to take some flows: no typing by frames of the method has all that the table has and takes them
 abbrev pub AreRefused : WorldTypes → List Flow → Table → Type 0
 AreRefused types flows table = (other : CodeTypes) → AreFrames types table other → IsAtMost types (types_at table.types) other
     → All (Takes types other) flows → ⊥
 
--- the same types, marks and limits; there may be more places without types
+-- a table with the same types, marks and limits as another, in which there may be more places without types
 pub record IsRoomier (old new : Table) : Type 0 where
   pub even : length new.waiting ≡ length new.types
   pub small : length new.types ≤ 65536

@@ -10,11 +10,12 @@ use Rattle.jvm_values.specs.TypedHeaps.{WorldTypes}
 
 -- ---- the types of a world
 
--- the classes of the first numbers, and the kinds of numbers
+-- the kinds of numbers, and the classes of a world of so many, which types are made of by array dimensions
 abbrev pub bases : ℕ → List Base
 bases zero = Num kinds.Boolean ∷ Num kinds.Char ∷ Num kinds.Byte ∷ Num kinds.Short ∷ Num kinds.Int ∷ []
 bases (suc classes) = Class classes ∷ bases classes
 
+-- the type of so many array dimensions over a class or a kind of numbers
 abbrev pub of_dims : ℕ → Base → Ty
 of_dims dims base = record { dims = dims; base = base }
 
@@ -29,6 +30,7 @@ all_types types = types_below 256 (bases types.classes)
 
 -- ---- heights
 
+-- how many items of a list a test holds of
 abbrev pub count : {A : Type 0} → (A → Bool) → List A → ℕ
 count p [] = 0
 count p (x ∷ xs) = (if p x then 1 else 0) + count p xs
@@ -44,11 +46,12 @@ rank types places.Int = 1
 rank types (places.Ref t) = height types t + 1
 rank types places.Null = length (all_types types) + 2
 
+-- the ranks of some types, added up
 abbrev pub ranks : WorldTypes → List PlaceType → ℕ
 ranks types [] = 0
 ranks types (x ∷ xs) = rank types x + ranks types xs
 
--- the most that so many places rank
+-- the highest rank, as often as there are places: no frame of so many places ranks higher
 abbrev pub most : WorldTypes → ℕ → ℕ
 most types zero = 0
 most types (suc n) = (length (all_types types) + 2) + most types n

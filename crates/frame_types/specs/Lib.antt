@@ -2,10 +2,6 @@ pub mod Places
 pub mod Tables
 pub mod Joins
 pub mod Growth
+-- how often a table can still grow
 pub mod Heights
 pub mod Work
--- proofs, for this crate and for those above it
-pub mod HeightLaws
-pub mod GrowthLaws
-pub mod WorkLaws
-pub mod JoinLaws

@@ -11,7 +11,7 @@ use Rattle.jvm_values.specs.TypedHeaps.{WorldTypes}
 
 -- ---- wider types
 
--- what holds the first also holds the second, which is wider
+-- a type of a place is within another, wider one: every value that the first takes the second takes too
 abbrev pub IsWithin : WorldTypes → PlaceType → PlaceType → Type 0
 IsWithin types a places.Unset = Unit {0}
 IsWithin types places.Int places.Int = Unit {0}
@@ -27,14 +27,15 @@ IsWithin types places.Null places.Int = ⊥
 IsWithin types (places.Ref s) places.Int = ⊥
 IsWithin types (places.Ref s) places.Null = ⊥
 
--- place by place, in equally many
+-- a frame's types are within a wider frame's, place by place, in equally many locals and stack entries
 pub record IsFrameWithin (types : WorldTypes) (narrow wide : PlaceTypes) : Type 0 where
   pub locals : AllZip (IsWithin types) narrow.locals wide.locals
   pub stack : AllZip (IsWithin types) narrow.stack wide.stack
 
 -- ---- types of a world
 
--- nothing, an int, null, or a reference type of the world that is its own erasure
+-- a type of a place is one of a world: nothing, an int, null, or a reference type of the world that is its own
+-- erasure
 abbrev pub IsOfWorld : WorldTypes → PlaceType → Type 0
 IsOfWorld types places.Unset = Unit {0}
 IsOfWorld types places.Int = Unit {0}
@@ -52,7 +53,7 @@ pub record IsProper (types : WorldTypes) (max_locals : ℕ) (frame : PlaceTypes)
   pub locals : All (IsOfWorld types) frame.locals
   pub stack : All (IsOfWorld types) frame.stack
 
--- it also fits the most entries of the method's stack
+-- a frame of a method with so many locals and at most so many stack entries
 pub record IsFrame (types : WorldTypes) (max_locals max_stack : ℕ) (frame : PlaceTypes) : Type 0 where
   pub proper : IsProper types max_locals frame
   pub depth : length frame.stack ≤ max_stack

@@ -15,17 +15,17 @@ pub record Flow : Type 0 where
   pub to : ℕ
   pub frame : PlaceTypes
 
--- there are types at the place that are as wide as those that come there
+-- the types of a code take what comes to a place: there are types at that place, as wide as those that come
 pub record Takes (types : WorldTypes) (typing : CodeTypes) (flow : Flow) : Type 0 where
   pub there : PlaceTypes
   pub is_there : typing flow.to ≡ Some there
   pub wide : IsFrameWithin types flow.frame there
 
--- Each place of the first is a place of the second, with types at most as wide.
+-- one typing of a code is at most another: each place that it gives types has types in the other, at least as wide
 abbrev pub IsAtMost : WorldTypes → CodeTypes → CodeTypes → Type 0
 IsAtMost types typing other = (place : ℕ) (frame : PlaceTypes) → typing place ≡ Some frame
     → Takes types other (record { to = place; frame = frame })
 
--- the types at a place of a list by places
+-- the typing that a list of frames gives, one for each place of a code, where it has one
 abbrev pub types_at : List (Option FrameType) → CodeTypes
 types_at found place = option_and_then (option_map types_of) (slice_get found place)

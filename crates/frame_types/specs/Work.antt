@@ -12,14 +12,16 @@ abbrev pub way_up : WorldTypes → ℕ → ℕ → Option PlaceTypes → ℕ
 way_up types max_locals max_stack None = most types max_locals + most types max_stack + 1
 way_up types max_locals max_stack (Some frame) = ranks types frame.locals + ranks types frame.stack
 
+-- what a function gives for each number below a bound, added up
 abbrev pub sum_below : ℕ → (ℕ → ℕ) → ℕ
 sum_below zero f = 0
 sum_below (suc n) f = f n + sum_below n f
 
+-- a place that waits counts as one look that is still to be taken
 abbrev pub mark : Bool → ℕ
 mark waiting = if waiting then 1 else 0
 
--- a place can still grow so often, and then waits
+-- the looks that are left at a place: twice as often as it can still grow, and one more where it waits
 abbrev pub work_at : WorldTypes → Table → ℕ → ℕ
 work_at types table place = 2 * way_up types table.max_locals table.max_stack (types_at table.types place) + mark
     (waits table.waiting place)

@@ -6,7 +6,7 @@ use Rattle.std.proofs.lemmas.Bool.{false≢true, cases_lt}
 use Rattle.std.proofs.lemmas.List.{length_push, length-append, append_assoc}
 use Rattle.abs_cells.specs.AbstractStates.{AbstractState}
 use Rattle.list_views.specs.Lists.{numbers_from}
-use Rattle.graph_build.specs.Working.{Work, todo, with_one, with_all}
+use Rattle.graph_build.specs.inner.Working.{Work, todo, with_one, with_all}
 
 pub with_all_push : (work : Work) (xs : List AbstractState) (x : AbstractState) (parent : ℕ)
     → with_all work (xs ++ x ∷ []) parent ≡ with_one (with_all work xs parent) x parent

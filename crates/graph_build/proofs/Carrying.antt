@@ -11,7 +11,7 @@ use Rattle.graph_build.specs.Rules.{GrowthRules}
 use Rattle.graph_build.specs.Disciplined.{IsNode, IsStateAt}
 use Rattle.graph_build.specs.Disciplined.Due.{growing, matching, widening}
 use Rattle.list_views.specs.Lists.{numbers_from}
-use Rattle.graph_build.specs.Working.{Work, todo, with_all, without, left, tail_of, grown, IsSound, MayGrow}
+use Rattle.graph_build.specs.inner.Working.{Work, todo, with_all, without, left, tail_of, grown, IsSound, MayGrow}
 use Rattle.graph_build.specs.declared.growth.Plan.{Plan}
 use Rattle.graph_build.specs.declared.growth.Plan.TheVariants as plan
 use Rattle.graph_build.proofs.Growths.{pushed, with_all_is, number_is, fresh_end, fresh_joining, fresh_opening, fresh_expanding}

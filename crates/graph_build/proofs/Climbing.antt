@@ -9,7 +9,7 @@ use Rattle.term_graph.specs.Graphs.{GraphNode}
 use Rattle.graph_build.specs.Rules.{GrowthRules, HaveSamePositions}
 use Rattle.graph_build.specs.Disciplined.{IsNode, IsAbove, IsAtOrAbove, is_expanded}
 use Rattle.graph_build.specs.Growing.{MatchesOr}
-use Rattle.graph_build.specs.Working.{IsPassed, IsFirstFound, IsAlike, IsNearest, IsNodeAlike, NodeMatches, IsFound}
+use Rattle.graph_build.specs.inner.Working.{IsPassed, IsFirstFound, IsAlike, IsNearest, IsNodeAlike, NodeMatches, IsFound}
 use Rattle.graph_build.proofs.Ancestry.{own_then}
 use Rattle.graph_build.proofs.Extending.{same_by, same_state}
 

@@ -12,8 +12,8 @@ use Rattle.graph_build.specs.Rules.{GrowthRules}
 use Rattle.graph_build.specs.Disciplined.{IsNode, Names, IsWidening, IsMatch, IsAlikeAbove, IsSeeking, IsFirstMatch, HasNoMatch}
 use Rattle.graph_build.specs.Disciplined.{IsWidenedBy, IsDueAt}
 use Rattle.graph_build.specs.Disciplined.Due.{growing, widening}
-use Rattle.graph_build.specs.Working.{parent_in, is_instance, is_instance_of, is_instance_at, IsPassed, IsFirstFound, IsAlike}
-use Rattle.graph_build.specs.Working.{IsNearest, IsNextOpen}
+use Rattle.graph_build.specs.inner.Working.{parent_in, is_instance, is_instance_of, is_instance_at, IsPassed, IsFirstFound, IsAlike}
+use Rattle.graph_build.specs.inner.Working.{IsNearest, IsNextOpen}
 use Rattle.graph_build.proofs.Extending.{todo_not_expanded}
 
 module _ (rules : GrowthRules) (good : AbstractState → Type 0) (nodes : List GraphNode) (parents : List ℕ) (n : ℕ)

@@ -11,7 +11,7 @@ use Rattle.term_graph.specs.declared.nodes.By.TheVariants.{Expand, Instance, End
 use Rattle.term_graph.specs.Graphs.{GraphNode}
 use Rattle.graph_build.specs.Disciplined.{IsBefore, is_expanded}
 use Rattle.list_views.specs.Lists.{Has, numbers_from}
-use Rattle.graph_build.specs.Working.{Work, with_all, todo, AreInOrder}
+use Rattle.graph_build.specs.inner.Working.{Work, with_all, todo, AreInOrder}
 use Rattle.graph_build.proofs.Extending.{names_no_todo}
 use Rattle.graph_build.proofs.Nodes.{Fresh}
 

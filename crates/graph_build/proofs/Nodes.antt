@@ -10,7 +10,7 @@ use Rattle.term_graph.specs.declared.nodes.By.{By}
 use Rattle.term_graph.specs.declared.nodes.By.TheVariants.{Expand, Todo}
 use Rattle.term_graph.specs.Graphs.{GraphNode, left_by}
 use Rattle.graph_build.specs.Disciplined.{IsNode, Names}
-use Rattle.graph_build.specs.Working.{parent_in, todo}
+use Rattle.graph_build.specs.inner.Working.{parent_in, todo}
 use Rattle.graph_build.proofs.Extending.{Extends}
 
 -- ---- lists

@@ -14,7 +14,7 @@ use Rattle.term_graph.specs.Graphs.{GraphNode, left_by}
 use Rattle.graph_build.specs.Rules.{GrowthRules}
 use Rattle.graph_build.specs.Disciplined.{IsNode, IsBefore, IsTree, IsLeftAsDue, IsDueAt, Due, IsStateAt}
 use Rattle.list_views.specs.Lists.{Has}
-use Rattle.graph_build.specs.Working.{parent_in, todo, AreInOrder, IsSound}
+use Rattle.graph_build.specs.inner.Working.{parent_in, todo, AreInOrder, IsSound}
 use Rattle.graph_build.proofs.Ancestry.{one_is_before}
 use Rattle.graph_build.proofs.Extending.{Extends, same_by, same_state, before_kept, fresh_before, fresh_order}
 use Rattle.graph_build.proofs.Keeping.{grown_disciplined, due_kept, state_kept}

@@ -8,7 +8,7 @@ use Rattle.term_graph.specs.Graphs.{GraphNode}
 use Rattle.graph_build.specs.Rules.{GrowthRules}
 use Rattle.graph_build.specs.Disciplined.{IsNode, IsTree, IsLeftAsDue, IsDisciplinedBy}
 use Rattle.list_views.specs.Lists.{Has}
-use Rattle.graph_build.specs.Working.{parent_in, todo, of_root, IsSound}
+use Rattle.graph_build.specs.inner.Working.{parent_in, todo, of_root, IsSound}
 use Rattle.graph_build.proofs.Extending.{same_by, same_state, todo_not_expanded}
 
 module _ (rules : GrowthRules) (good : AbstractState → Type 0) (root : AbstractState) where

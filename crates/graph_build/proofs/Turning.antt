@@ -11,8 +11,8 @@ use Rattle.graph_build.specs.Rules.{GrowthRules}
 use Rattle.graph_build.specs.Disciplined.{IsNode, IsBefore, IsDisciplined}
 use Rattle.graph_build.specs.Answers.{IsClosed, IsFirstOpen, IsStopped}
 use Rattle.list_views.specs.Lists.{Has, numbers_from}
-use Rattle.graph_build.specs.Working.{Work, parent_in, todo, with_all, with_one, without, tail_of, grown, AreInOrder, IsSound}
-use Rattle.graph_build.specs.Working.{IsNextOpen, MayGrow, HasRoom, work_left}
+use Rattle.graph_build.specs.inner.Working.{Work, parent_in, todo, with_all, with_one, without, tail_of, grown, AreInOrder, IsSound}
+use Rattle.graph_build.specs.inner.Working.{IsNextOpen, MayGrow, HasRoom, work_left}
 use Rattle.graph_build.specs.declared.growth.Plan.{Plan}
 use Rattle.graph_build.specs.declared.growth.Plan.TheVariants as plan
 use Rattle.graph_build.proofs.Nodes.{length_left}

@@ -10,21 +10,22 @@ use Rattle.graph_build.specs.declared.building.Built.{Built}
 use Rattle.graph_build.specs.declared.building.Built.TheVariants as built
 use Rattle.graph_build.specs.declared.building.BuildFault.{BuildFault}
 
--- no node is left open
+-- a graph is closed: none of its nodes is still to be done
 abbrev pub IsClosed : List GraphNode → Type 0
 IsClosed nodes = (n : ℕ) (state : AbstractState) → IsNode nodes n state Todo → ⊥
 
--- the first node that is not known yet, in the order of growth
+-- the first node that is still to be done, in the order of growth
 pub record IsFirstOpen (nodes : List GraphNode) (parent : ℕ → ℕ) (n : ℕ) (state : AbstractState) : Type 0 where
   pub is : IsNode nodes n state Todo
   pub first : (m : ℕ) (other : AbstractState) → IsNode nodes m other Todo → m ≢ n → IsBefore nodes parent n m
 
--- its growth would give the graph more nodes than the limit
+-- the children of a state would give the graph more nodes than its limit
 pub record HasManyChildren (rules : GrowthRules) (nodes : List GraphNode) (state : AbstractState) (limit : ℕ) : Type 0 where
   pub children : List AbstractState
   pub are : rules.HasChildren state children
   pub many : limit < length nodes + length children
 
+-- at a node a widening is due of the state of a node above, and something holds of that state
 pub record HasWide (rules : GrowthRules) (nodes : List GraphNode) (parent : ℕ → ℕ) (n : ℕ) (state : AbstractState)
     (Is : AbstractState → Type 0) : Type 0 where
   pub u : ℕ
@@ -37,18 +38,19 @@ pub record HasWide (rules : GrowthRules) (nodes : List GraphNode) (parent : ℕ 
 abbrev pub CanBeWidened : GrowthRules → AbstractState → AbstractState → Type 0
 CanBeWidened rules state above = (wide : AbstractState) × rules.HasWidening above state wide
 
+-- the growth that is due at a node would give the graph more nodes than its limit: by the children of its state, or by a widening
 abbrev pub PassesLimit : GrowthRules → List GraphNode → (ℕ → ℕ) → ℕ → AbstractState → ℕ → Type 0
 PassesLimit rules nodes parent n state limit =
     (IsDueAt rules nodes parent n state growing × HasManyChildren rules nodes state limit)
     ⊎ (HasWide rules nodes parent n state (CanBeWidened rules state) × (limit < length nodes + 1))
 
--- its growth has a state with too many ids
+-- the growth that is due at a node has a state with too many ids: a child, or a widening
 abbrev pub HasLarge : GrowthRules → List GraphNode → (ℕ → ℕ) → ℕ → AbstractState → Type 0
 HasLarge rules nodes parent n state =
     (IsDueAt rules nodes parent n state growing × rules.HasLargeChild state)
     ⊎ HasWide rules nodes parent n state (λ above. rules.HasLargeWidening above state)
 
--- a disciplined graph whose first open node has a growth that is not to be
+-- the growth of a graph has stopped: the graph is disciplined, and what is due at its first open node can't be done, for this reason
 pub record IsStopped (rules : GrowthRules) (root : AbstractState) (nodes : List GraphNode) (Why : (ℕ → ℕ) → ℕ → AbstractState
     → Type 0) : Type 0 where
   pub parent : ℕ → ℕ
@@ -58,8 +60,8 @@ pub record IsStopped (rules : GrowthRules) (root : AbstractState) (nodes : List 
   pub first : IsFirstOpen nodes parent n state
   pub why : Why parent n state
 
--- a disciplined graph with no open node; one whose next growth would pass the limit; or one whose next growth has a state with too many
--- ids. Want of memory says nothing
+-- what building a graph answers, with no more nodes than the limit: a disciplined graph with no open node; one whose next growth would pass
+-- the limit; or one whose next growth has a state with too many ids. Want of memory says nothing
 abbrev pub BuildsOr : {P : Type 0} → GrowthRules → AbstractState → ℕ → Result (Built P) BuildFault → Type 0
 BuildsOr rules root limit (Ok (built.Closed nodes)) = (IsDisciplined rules root nodes × IsClosed nodes) × (length nodes ≤ limit)
 BuildsOr rules root limit (Ok (built.Nodes nodes)) = IsStopped rules root nodes

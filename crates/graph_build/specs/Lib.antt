@@ -2,4 +2,4 @@ pub mod Rules
 pub mod Disciplined
 pub mod Growing
 pub mod Answers
-pub mod Working
+pub mod inner

@@ -4,8 +4,8 @@ ghost use Rattle.abs_cells.specs.AbstractStates.{AbstractState};
 ghost use Rattle.term_graph.specs.declared.nodes.By.{By};
 ghost use Rattle.graph_build.specs.Rules.{HaveSamePositions};
 ghost use Rattle.graph_build.specs.Disciplined.{IsNode, is_expanded};
-ghost use Rattle.graph_build.specs.Working.{is_instance, is_instance_at, parent_in, IsFound, NearestOr, NextOr, IsNextOpen};
-ghost use Rattle.graph_build.specs.Working.{IsNodeAlike, NodeMatches};
+ghost use Rattle.graph_build.specs.inner.Working.{is_instance, is_instance_at, parent_in, IsFound, NearestOr, NextOr, IsNextOpen};
+ghost use Rattle.graph_build.specs.inner.Working.{IsNodeAlike, NodeMatches};
 
 use crate::grower::Grower;
 use abs_cells::{AbsState, Id, Pairs};

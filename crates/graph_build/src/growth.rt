@@ -3,7 +3,7 @@ ghost use Rattle.std.specs.Prelude.{◌≡◌, ◌+◌, ◌-◌, ◌^◌, ◌<�
 ghost use Rattle.graph_build.specs.Disciplined.{IsDueAt};
 ghost use Rattle.graph_build.specs.Disciplined.Due.{growing, widening};
 ghost use Rattle.list_views.specs.Lists.{numbers_from};
-ghost use Rattle.graph_build.specs.Working.{seen, parent_in, IsNextOpen, PlanOr, HasRoom, of_root, with_one, with_all, grown};
+ghost use Rattle.graph_build.specs.inner.Working.{seen, parent_in, IsNextOpen, PlanOr, HasRoom, of_root, with_one, with_all, grown};
 
 use crate::due::{Next, next_at};
 use crate::grower::{GrowFault, Grower, Grown};

@@ -26,7 +26,7 @@ use Rattle.graph_check.specs.declared.fault.CheckFault.TheVariants as faults
 use Rattle.graph_check.specs.declared.failure.Failure.{Failure}
 use Rattle.graph_check.specs.declared.failure.Failure.TheVariants.{Fails, Memory}
 use Rattle.graph_check.specs.Good.{HasChildren, HasEnded, IsStateAt, IsGoodNode, FailsBy, IsFirstBadNode, Tells}
-use Rattle.graph_check.specs.Checked.{failure_of, fault_of, LinksOr, MatchesOr, LeavesOr, NodeLeavesOr, GoodNodesOr}
+use Rattle.graph_check.specs.inner.Checked.{failure_of, fault_of, LinksOr, MatchesOr, LeavesOr, NodeLeavesOr, GoodNodesOr}
 
 -- ---- one node
 

@@ -3,7 +3,7 @@ use Rattle.std.proofs.Common.{◌≡◌, ◌≤◌, ℕ, zero, suc, List, [], �
 use Rattle.std.specs.List.{AllZip}
 use Rattle.term_graph.specs.Graphs.{GraphNode, GraphChild}
 use Rattle.graph_check.specs.Good.{NamesChild}
-use Rattle.graph_check.specs.Checked.{FirstNamed}
+use Rattle.graph_check.specs.inner.Checked.{FirstNamed}
 
 pub all_named : (nodes : List GraphNode) (children : List GraphChild) (named : List ℕ) (count : ℕ) → length children ≡ length named
     → length children ≤ count → FirstNamed nodes children named count → AllZip (NamesChild nodes) children named

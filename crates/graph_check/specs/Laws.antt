@@ -17,7 +17,7 @@ use Rattle.term_graph.specs.Edges.{Edge, InstanceEdge}
 use Rattle.abs_expand.specs.Laws.{IsAfter, IsMet}
 use Rattle.graph_check.specs.Good.{GraphOk}
 
--- the n-th of the named nodes is reached by the n-th link
+-- an edge of an expanded node, from a state of the machine to the one after it: the n-th link leads to the n-th of the named nodes
 pub record GoesByChild (p : Program) (state : AbstractState) (machine : MachineState) (meaning : Meaning) (named : List ℕ)
     (links : List Link) (to : ℕ) (child : AbstractState) (after : MachineState) (meaning_after : Meaning) : Type 0 where
   pub n : ℕ
@@ -27,6 +27,8 @@ pub record GoesByChild (p : Program) (state : AbstractState) (machine : MachineS
   pub is_after : IsAfter p link.step machine after
   pub edge : Edge state machine meaning link child after meaning_after
 
+-- an edge from a node to the one of which it is an instance: the machine's state stays, and each id of the other node means what its image
+-- by the map means
 pub record GoesByInstance (machine : MachineState) (meaning : Meaning) (target : ℕ) (entries : List (ℕ × ℕ)) (to : ℕ)
     (after : MachineState) (meaning_after : Meaning) : Type 0 where
   pub is_target : to ≡ target
@@ -41,6 +43,7 @@ GoesBy p state machine meaning (Instance target entries) links to child after me
 GoesBy p state machine meaning End links to child after meaning_after = ⊥
 GoesBy p state machine meaning Todo links to child after meaning_after = ⊥
 
+-- from a state of the machine that fits a node, the run goes on to a state that fits another node of the graph, by an edge of this node
 pub record GoesOn (p : Program) (nodes : List GraphNode) (node : GraphNode) (links : List Link) (machine : MachineState)
     (meaning : Meaning) : Type 0 where
   pub to : ℕ
@@ -55,6 +58,8 @@ pub record GoesOn (p : Program) (nodes : List GraphNode) (node : GraphNode) (lin
 abbrev pub EndsHere : Program → GraphNode → MachineState → Type 0
 EndsHere p node machine = (node.by ≡ End) × IsEnd (step p machine)
 
+-- good graphs hold runs: where a typed state of the machine fits a node of a good graph, the run ends with the next step and the node says
+-- so, or it goes on by an edge to a state that fits a node of the graph
 abbrev pub GraphsHoldRuns : Type 0
 GraphsHoldRuns =
     (p : Program) (typing : ℕ → CodeTypes) (nodes : List GraphNode) (root : AbstractState) (links : List (List Link)) → IsClosed p

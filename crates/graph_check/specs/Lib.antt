@@ -1,4 +1,4 @@
 pub mod Good
 pub mod Laws
 pub mod OneVerdict
-pub mod Checked
+pub mod inner

@@ -9,7 +9,7 @@ use Rattle.graph_check.specs.declared.fault.CheckFault.{CheckFault}
 use Rattle.graph_check.specs.declared.fault.CheckFault.TheVariants.{Memory}
 use Rattle.graph_check.specs.Good.{Tells}
 
--- It is good, and its links are one list; or it has one first fault; and never both. Want of memory aside.
+-- a graph is good, and its links are one list; or it has one first fault; and never both. Want of memory is left aside
 abbrev pub GraphsHaveOneVerdict : Type 0
 GraphsHaveOneVerdict =
     (p : Program) (typing : ℕ → CodeTypes) (nodes : List GraphNode) (root : AbstractState) (one other : Result Links CheckFault)

@@ -3,7 +3,7 @@ ghost use Rattle.std.specs.Prelude.{◌≡◌};
 ghost use Rattle.class_program.specs.Views.{program_of};
 ghost use Rattle.code_verify.specs.Typings.{typing_at};
 ghost use Rattle.graph_check.specs.Good.{Tells};
-ghost use Rattle.graph_check.specs.Checked.{GoodNodesOr};
+ghost use Rattle.graph_check.specs.inner.Checked.{GoodNodesOr};
 
 use crate::children::is_state_at;
 use crate::failure::fault_of;

@@ -1,7 +1,7 @@
 //! Whether the children of a state are those of the nodes that its node names.
 ghost use Rattle.std.specs.Prelude.{◌≡◌, ◌↔◌, ◌<◌, length, map, IsTrue, IfOk};
 ghost use Rattle.graph_check.specs.Good.{IsStateAt};
-ghost use Rattle.graph_check.specs.Checked.{AreNamedOr, LinksOr};
+ghost use Rattle.graph_check.specs.inner.Checked.{AreNamedOr, LinksOr};
 
 use crate::failure::Failure;
 use crate::fault::What;

@@ -1,7 +1,7 @@
 //! Why a node is no good one, while a graph is tested.
 ghost use Rattle.std.specs.Prelude.{◌≡◌};
 ghost use Rattle.graph_check.specs.declared.failure.Failure.TheVariants.{Memory};
-ghost use Rattle.graph_check.specs.Checked.{failure_of, fault_of};
+ghost use Rattle.graph_check.specs.inner.Checked.{failure_of, fault_of};
 
 use crate::fault::{CheckFault, What};
 use abs_expand::ExpandFault;

@@ -5,7 +5,7 @@ ghost use Rattle.code_verify.specs.Typings.{typing_at};
 ghost use Rattle.term_graph.specs.declared.nodes.By.TheVariants.{Expand, Instance, End};
 ghost use Rattle.abs_cells.specs.Sound.{IsWellFormed};
 ghost use Rattle.abs_expand.specs.BadStates.{IsGoodState};
-ghost use Rattle.graph_check.specs.Checked.{MatchesOr, LeavesOr, NodeLeavesOr};
+ghost use Rattle.graph_check.specs.inner.Checked.{MatchesOr, LeavesOr, NodeLeavesOr};
 
 use crate::children::named_links;
 use crate::failure::{Failure, failure_of};

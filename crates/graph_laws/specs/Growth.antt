@@ -11,13 +11,13 @@ use Rattle.term_graph.specs.Graphs.{GraphChild}
 use Rattle.graph_build.specs.Rules.{GrowthRules}
 use Rattle.graph_check.specs.Good.{HasChildren, HasEnded, HasTooMany}
 
--- the states of the children that a state's expansion has
+-- the states of the children that the expansion of a state gives
 pub record HasStates (p : Program) (typing : ℕ → CodeTypes) (state : AbstractState) (states : List AbstractState) : Type 0 where
   pub children : List GraphChild
   pub are : HasChildren p typing state children
   pub states_are : states ≡ map (λ (child : GraphChild). child.state) children
 
--- with some states as heads
+-- what the graph of a program's runs grows by, with these states as heads: the expansion of states, instances, and widenings
 abbrev pub growth_by : Program → (ℕ → CodeTypes) → (AbstractState → Bool) → GrowthRules
 growth_by p typing is_head = record {
   is_head = is_head;

@@ -16,7 +16,9 @@ use Rattle.path_rules.specs.Paths.{is_cut, IsCut}
 use Rattle.graph_check.specs.Good.{GraphOk}
 use Rattle.graph_laws.specs.Growth.{growth_by}
 
--- Each state of a disciplined graph is one from which a graph can grow, where the root is.
+-- disciplined graphs keep growing. Premises: the program is closed, and its numbers are of their fields' widths; the typing is the
+-- program's own; the root's state is one from which a graph can grow; and the graph is disciplined for that root, with whatever heads. Then
+-- each state of the graph is one from which a graph can grow
 abbrev pub DisciplinedGraphsGrow : Type 0
 DisciplinedGraphsGrow =
     (p : Program) (typing : ℕ → CodeTypes) (is_head : AbstractState → Bool) (root : AbstractState) (nodes : List GraphNode) → IsClosed p
@@ -25,7 +27,9 @@ DisciplinedGraphsGrow =
     → IsNode nodes n state by
     → IsGrowing p typing state
 
--- One with no open node is good.
+-- a disciplined graph without an open node is good. Premises: the program is closed, and its numbers are of their fields' widths; the
+-- typing is the program's own; the root's state is one from which a graph can grow; and the graph is disciplined for that root, with
+-- whatever heads, and has no open node. Then it has links with which it is a good graph
 abbrev pub DisciplinedGraphsAreGood : Type 0
 DisciplinedGraphsAreGood =
     (p : Program) (typing : ℕ → CodeTypes) (is_head : AbstractState → Bool) (root : AbstractState) (nodes : List GraphNode) → IsClosed p
@@ -39,6 +43,7 @@ HasTargetsCut nodes cuts =
     (n target : ℕ) (state : AbstractState) (entries : List (ℕ × ℕ)) → IsNode nodes n state (Instance target entries)
     → is_cut cuts target ≡ true
 
--- Then each cycle of a tree of nodes has a cut: along the other edges numbers rise.
+-- where the nodes are a tree and each node of which another one is an instance is a cut, each cycle has a cut: along the other edges
+-- numbers rise
 abbrev pub TreesAreCut : Type 0
 TreesAreCut = (nodes : List GraphNode) (parent : ℕ → ℕ) (cuts : List ℕ) → IsTree nodes parent → HasTargetsCut nodes cuts → IsCut nodes cuts

@@ -39,7 +39,7 @@ use Rattle.abs_turns.specs.Plans.{in_field, is_thrown, Turn}
 use Rattle.abs_plans.proofs.WellFormed.{well_with, all_still}
 use Rattle.abs_expand.specs.BadStates.{ArePlaced}
 use Rattle.abs_expand.specs.Children.{IsActed, IsTurnChild, gone_to, set_field, field_with}
-use Rattle.abs_expand.specs.Making.{frames_to, thrown_to, cells_to}
+use Rattle.abs_expand.specs.inner.Making.{frames_to, thrown_to, cells_to}
 use Rattle.abs_expand.proofs.Acting.{still_there, made_names}
 use Rattle.abs_expand.proofs.GoingTo.{gone_is, gone_good}
 use Rattle.abs_expand.proofs.HeapChildren.{well_with_cell, well_object, well_item, well_new_array, well_write}

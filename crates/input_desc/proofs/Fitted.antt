@@ -13,7 +13,7 @@ use Rattle.input_desc.specs.declared.desc.Desc.{Desc}
 use Rattle.input_desc.specs.Due.{IsFault, is_memory, fault_if, IsMemoryOr}
 use Rattle.input_desc.specs.Given.{params_of, statics_of, slots_of}
 use Rattle.input_desc.specs.Descs.{inputs_from, later_fault, desc_fault, Describes, IsGoodDesc, IsOwnDesc}
-use Rattle.input_desc.specs.Words.{Finds, IsMade, Fitted}
+use Rattle.input_desc.specs.inner.Words.{Finds, IsMade, Fitted}
 use Rattle.input_desc.proofs.Faultless.{memory_due}
 use Rattle.input_desc.proofs.GoodDescs.{made_is_good}
 

@@ -24,7 +24,7 @@ use Rattle.input_desc.specs.Given.{params_of, statics_of, field_slot, argument_s
 use Rattle.input_desc.specs.Pairs.{is_reference_at, is_pair, is_no_pair, IsPairBelow}
 use Rattle.input_desc.specs.Typed.{first_unfit}
 use Rattle.input_desc.specs.Descs.{inputs_from, has_ints, has_a_type, found_fault, later_fault, desc_fault, IsGoodDesc}
-use Rattle.input_desc.specs.Words.{Finds, IsMade}
+use Rattle.input_desc.specs.inner.Words.{Finds, IsMade}
 use Rattle.input_desc.proofs.Faultless.{not_mapped}
 
 -- ---- each input is there

@@ -11,8 +11,8 @@ use Rattle.class_world.specs.World.{World, class_of}
 use Rattle.class_world.specs.declared.meaning.Meaning.{Meaning}
 use Rattle.class_world.specs.declared.meaning.Meaning.TheVariants.{Known, Unsupported, Missing}
 use Rattle.class_world.specs.Descriptors.{meaning_of, known_slot}
-use Rattle.class_world.specs.Linked.{class_of_within}
-use Rattle.class_world.specs.SlotLaws.{meaning_is}
+use Rattle.class_world.specs.lemmas.Linked.{class_of_within}
+use Rattle.class_world.specs.lemmas.SlotLaws.{meaning_is}
 use Rattle.class_program.proofs.GoodTypes.{whole_dims}
 use Rattle.input_desc.specs.TypeNames.{reference_of, array_of_type, type_named}
 

@@ -4,11 +4,12 @@ pub use Rattle.list_views.specs.Results.{IsFault}
 use Rattle.input_text.specs.declared.fault.DescFault.{DescFault}
 use Rattle.input_text.specs.declared.fault.DescFault.TheVariants.{Memory}
 
--- want of memory
+-- a fault is want of memory
 abbrev pub is_memory : DescFault → Bool
 is_memory Memory = true
 is_memory fault = false
 
+-- a fault that is due where a test passes
 abbrev pub fault_if : Bool → DescFault → Option DescFault
 fault_if test fault = if test then Some fault else None
 

@@ -19,7 +19,8 @@ use Rattle.input_desc.specs.Given.{statics_of}
 
 -- ---- one input
 
--- an int of the interval; or a reference, null only where allowed, of the erased type and the shape
+-- a value fits what is described of an input: an int of the interval; or a reference, null only where allowed, of the erased type
+-- and the shape
 abbrev pub FitsInput : WorldTypes → Heap → Input → Value → Type 0
 FitsInput types heap (Int interval) value = (n : ℤ) × ((value ≡ values.Int n) × IsIn n interval)
 FitsInput types heap (Ref ty null shape) value = (value ≡ values.Null → IsTrue null)
@@ -34,7 +35,8 @@ IsListed i j (pair ∷ pairs) = ((pair.0 ≡ i) × (pair.1 ≡ j)) ⊎ (((pair.0
 
 -- ---- the whole
 
--- the frame of a method at its start: the arguments in the first locals, the others unset, an empty stack
+-- the frame of a method at its start (JVM specification, section 2.6): the arguments in the first locals, the others unset, an
+-- empty operand stack
 pub record IsStart (method : Method) (args : List Value) (frame : MachineFrame) : Type 0 where
   pub number : frame.method ≡ 0
   pub place : frame.pc ≡ 0
@@ -42,9 +44,10 @@ pub record IsStart (method : Method) (args : List Value) (frame : MachineFrame) 
   pub room : length frame.locals ≡ method.max_locals
   pub stack : frame.stack ≡ []
 
--- One frame of the entry method at its start, in normal mode; as many values of static fields as the program has, each of its
--- erased declared type and each int in its kind's range; a typed heap that holds every reference. Each input fits. Two inputs
--- are one object only where `same` lists them, and what they reach has an object in common only where `share` or `same` does.
+-- A state of the machine fits a description: one frame of the entry method at its start, in normal mode; as many values of static
+-- fields as the program has, each of its erased declared type and each int in its kind's range; a typed heap that holds every
+-- reference. Each input fits. Two inputs are one object only where `same` lists them, and what they reach has an object in common
+-- only where `share` or `same` does.
 pub record FitsDescription (p : Program) (desc : Desc) (state : MachineState) : Type 0 where
   pub method : Method
   pub entry : slice_get p.methods 0 ≡ Some method

@@ -15,6 +15,7 @@ use Rattle.input_desc.specs.declared.desc.Input.TheVariants.{Int, Ref}
 use Rattle.input_desc.specs.declared.desc.Desc.{Desc}
 use Rattle.input_desc.specs.Given.{params_of, statics_of}
 
+-- the cell of what is described of an input: an int by its interval, a reference by its type, its shape and whether it may be null
 abbrev pub cell_of : Input → Cell
 cell_of (Int interval) = cells.Int interval
 cell_of (Ref ty null shape) = cells.Unk ty null shape
@@ -29,7 +30,7 @@ abbrev pub with_pairs : List (ℕ × ℕ) → List (ℕ × ℕ) → List (ℕ ×
 with_pairs pairs [] = pairs
 with_pairs pairs (pair ∷ more) = with_pairs (added pair.0 pair.1 pairs) more
 
--- two inputs may be one object, by their types
+-- two inputs may be one object by their types: both are references, and the type of the one is below that of the other
 abbrev pub are_alike : World → List Input → ℕ × ℕ → Bool
 are_alike world inputs pair = option_map_or (λ a. option_map_or (λ b. are_compatible (is_sub world) (cell_of a) (cell_of b))
     (slice_get inputs pair.1) false) (slice_get inputs pair.0) false
@@ -47,8 +48,8 @@ given_from first count = map Some (range_with_len first count)
 abbrev pub initial_locals : ℕ → ℕ → ℕ → List (Option ℕ)
 initial_locals places params statics = given_from 0 params ++ (replicate (places - params) None ++ given_from params statics)
 
--- The frame of the entry method at its start, with an empty stack. Pairs share as they are listed; pairs of `same` that may be
--- one object are equal.
+-- The abstract state that a description begins with: the frame of the entry method at its start, with an empty stack. Pairs share
+-- as they are listed; pairs of `same` that may be one object are equal.
 unfoldable pub initial_of : Program → Desc → AbstractState
 initial_of p desc = record {
   frames = record {

@@ -20,7 +20,8 @@ use Rattle.input_desc.specs.Typed.{Objects, object_of, first_unfit, is_held, is_
 abbrev pub objects_of : Program → StateText → Objects
 objects_of p text = map (object_of p.world) text.heap
 
--- the first fault of as many values as there are inputs, and then of objects
+-- the first fault of as many values as there are inputs, and then of objects: a value that its input can't hold, an object that
+-- isn't typed
 unfoldable pub value_fault : WorldTypes → List Slot → Objects → List Value → Option DescFault
 value_fault types inputs objects given = option_or (option_map ParamKind (first_unfit (is_held types objects) 0 inputs given))
     (option_map BadObject (position_from (is_bad types objects) 0 objects))
@@ -32,29 +33,29 @@ first_fault types params fields objects args statics =
     (option_or (fault_if (not (length statics == length fields)) StaticCount)
     (value_fault types (inputs_of params fields) objects (args ++ statics)))
 
--- the first fault of what is given to a program
+-- the first fault of the arguments, values of static fields and objects that are given to a program
 abbrev pub fault_of : Program → Objects → List Value → List Value → Option DescFault
 fault_of p objects args statics = first_fault (types_of p.world) (params_of p) (statics_of p) objects args statics
 
 -- ---- what is given
 
--- what is given is typed: the heap, and each argument and value of a static field
+-- an input of a run is typed: its heap, and each argument and value of a static field
 pub record IsTypedInput (p : Program) (given : StateInput) : Type 0 where
   pub heap_is : IsTypedHeap (types_of p.world) given.heap
   pub args_are : AllZip (Holds (types_of p.world) given.heap) (map argument_slot (params_of p)) given.args
   pub statics_are : AllZip (Holds (types_of p.world) given.heap) (statics_of p) given.statics
 
--- arguments, values of static fields and a heap that has the objects
+-- an input of a run has these arguments and values of static fields, and a heap of these objects
 pub record IsGiven (objects : Objects) (args statics : List Value) (given : StateInput) : Type 0 where
   pub args_are : given.args ≡ args
   pub statics_are : given.statics ≡ statics
   pub heap_is : map Some given.heap.objects ≡ objects
 
--- What is given where it has no fault, or its first fault.
+-- the answer to values and objects: an input of a run where they have no fault, or their first fault
 abbrev pub Gives : Program → Objects → List Value → List Value → Result StateInput DescFault → Type 0
 Gives p objects args statics (Ok given) = (fault_of p objects args statics ≡ None) × IsGiven objects args statics given
 Gives p objects args statics (Err fault) = IsFault is_memory fault (fault_of p objects args statics)
 
--- what a state gives to a program, or its first fault
+-- the answer to a text of a state: what it gives to a program, or its first fault
 abbrev pub GivesState : Program → StateText → Result StateInput DescFault → Type 0
 GivesState p text result = Gives p (objects_of p text) text.args (static_values (statics_of p) text.statics) result

@@ -26,6 +26,7 @@ object_of world (texts.Instance class fields) = option_map (λ number. Instance 
 object_of world (texts.Nums kind items) = Some (Nums kind items)
 object_of world (texts.Refs element items) = option_map (λ t. Refs t items) (type_named world element)
 
+-- the objects of a text by their numbers; None for one whose names aren't there
 abbrev pub Objects : Type 0
 Objects = List (Option Object)
 
@@ -47,16 +48,17 @@ all_fit test xs ys = (length xs == length ys) && is_none (first_unfit test 0 xs 
 
 -- ---- values
 
--- null, or an object of a type or below it
+-- a value is null, or an object whose type is this one or below it
 abbrev pub has_type : WorldTypes → Objects → Ty → Value → Bool
 has_type types objects t (values.Int n) = false
 has_type types objects t values.Null = true
 has_type types objects t (values.Ref r) = option_map_or (λ object. types.sub (type_of object) t) (object_at objects r) false
 
+-- a number lies in the range of a kind (JVM specification, sections 2.3.1 and 2.3.4)
 abbrev pub is_of_kind : Kind → ℤ → Bool
 is_of_kind kind n = int_le (least_of kind) n && int_le n (greatest_of kind)
 
--- a value of a field: a number of its kind, or a value of its erased type
+-- a slot can hold a value: a number of its kind, or a value of its erased type
 abbrev pub is_held : WorldTypes → Objects → Slot → Value → Bool
 is_held types objects (slots.Num kind) (values.Int n) = is_of_kind kind n
 is_held types objects (slots.Num kind) values.Null = false
@@ -65,8 +67,8 @@ is_held types objects (slots.Ref t) value = has_type types objects (types.erase 
 
 -- ---- typed objects
 
--- an instance of a class of the world that can be made, with a value for each field; an array of at most 2^31 - 1 items, each of its kind
--- or type
+-- an object is typed: an instance of a class of the world that can be made, with a value for each field; an array of at most
+-- 2^31 - 1 items, each of its kind or type, and of at most 255 dimensions (JVM specification, section 4.3.2)
 abbrev pub is_typed : WorldTypes → Objects → Object → Bool
 is_typed types objects (Instance class fields) = nat_lt class types.classes
     && (types.can_be_made class && all_fit (is_held types objects) (types.fields class) fields)
@@ -74,7 +76,7 @@ is_typed types objects (Nums kind items) = nat_le (length items) 2147483647 && l
 is_typed types objects (Refs element items) = nat_le (length items) 2147483647
     && (nat_lt element.dims 255 && list_all (has_type types objects element) items)
 
--- one that isn't there, or not typed
+-- an object isn't there, or isn't typed
 abbrev pub is_bad : WorldTypes → Objects → Option Object → Bool
 is_bad types objects (Some object) = not (is_typed types objects object)
 is_bad types objects None = true

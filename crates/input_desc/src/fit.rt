@@ -9,7 +9,7 @@ ghost use Rattle.input_desc.specs.Typed.{first_unfit};
 ghost use Rattle.input_desc.specs.Pairs.{is_reference_at, is_no_pair};
 ghost use Rattle.input_desc.specs.Descs.{has_receiver, is_alike, begins_null, first_of_other_kind, ints_of, erased_below, type_for};
 ghost use Rattle.input_desc.specs.Descs.{input_of, inputs_from, has_ints, has_a_type, found_fault, IsGoodDesc, IsOwnDesc, Describes};
-ghost use Rattle.input_desc.specs.Words.{Finds, IsMade, Fitted};
+ghost use Rattle.input_desc.specs.inner.Words.{Finds, IsMade, Fitted};
 
 use crate::desc::{Desc, Input};
 use crate::given::inputs;

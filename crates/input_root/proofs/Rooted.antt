@@ -27,7 +27,7 @@ use Rattle.jvm_values.specs.TypedHeaps.{WorldTypes, type_of, Holds}
 use Rattle.jvm_values.proofs.Typed.{value_in_heap}
 use Rattle.class_world.specs.World.{World}
 use Rattle.class_world.specs.WorldTypes.{types_of}
-use Rattle.class_world.specs.WorldLaws.{world_laws}
+use Rattle.class_world.specs.lemmas.WorldLaws.{world_laws}
 use Rattle.class_world.specs.Types.{is_sub}
 use Rattle.class_program.specs.declared.program.Method.{Method}
 use Rattle.class_program.specs.Programs.{Program}

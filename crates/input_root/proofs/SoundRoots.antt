@@ -24,7 +24,7 @@ use Rattle.jvm_values.specs.Subtyping.{IsReference, IsErased}
 use Rattle.jvm_values.proofs.Ranges.{kind_ints}
 use Rattle.class_world.specs.World.{World}
 use Rattle.class_world.specs.WorldTypes.{types_of}
-use Rattle.class_world.specs.WorldLaws.{world_laws}
+use Rattle.class_world.specs.lemmas.WorldLaws.{world_laws}
 use Rattle.class_world.specs.Types.{erase}
 use Rattle.class_program.specs.Programs.{Program}
 use Rattle.abs_cells.specs.declared.cells.Cell.{Cell}

@@ -36,10 +36,11 @@ FittingStatesAreDescribed =
     → (fits : FitsDescription p desc state)
     → Fits (types_of p.world) (initial_of p desc) state (input_values (fits.args ++ state.statics))
 
--- That state is sound for the program's types: it is well-formed, and what its cells say is of the world.
+-- The initial abstract state of a description is sound for the program's types: it is well-formed, and what its cells say is of
+-- the world.
 abbrev pub RootsAreSound : Type 0
 RootsAreSound = (p : Program) (desc : Desc) → IsClosed p → IsOwnDesc p desc → IsSound (types_of p.world) (initial_of p desc)
 
--- It has at most as many ids as an abstract state may have.
+-- The initial abstract state of a description has at most as many ids as an abstract state may have.
 abbrev pub RootsHaveFewIds : Type 0
 RootsHaveFewIds = (p : Program) (desc : Desc) → IsOwnDesc p desc → length (initial_of p desc).cells ≤ most_ids

@@ -12,18 +12,20 @@ use Rattle.input_text.specs.declared.texts.EntryName.{EntryName}
 use Rattle.input_text.specs.declared.texts.InputText.{InputText}
 use Rattle.input_text.specs.declared.texts.DescText.{DescText}
 
+-- a description or a state is of form 1, the form before static fields were added
 abbrev pub is_first_form : ℤ → Bool
 is_first_form form = int_eq form (pos 1)
 
+-- the names of the fields of a description of this form, all of which must be there, and no others
 abbrev pub desc_names : ℤ → List ℕ
 desc_names form = if is_first_form form then codes "form class method desc params same share" else codes
     "form class method desc params same share statics"
 
--- a text of form 1 says nothing of static fields
+-- the inputs of static fields that a description says: its field `statics`; a text of form 1 says none
 unfoldable pub static_inputs : ℤ → Reader (List InputText)
 static_inputs form here = if is_first_form form then Ok [] else field (codes "statics") (list_of input_of) here
 
--- the fields behind the parameters
+-- what a description says behind its parameters: the pairs of equal and of sharing inputs, and the static fields
 unfoldable pub desc_end : ℤ → EntryName → List InputText → Reader DescText
 desc_end form entry params here = do
   same ← field (codes "same") (list_of pair_of) here
@@ -31,7 +33,7 @@ desc_end form entry params here = do
   statics ← static_inputs form here
   Ok (record { entry = entry; params = params; same = same; share = share; statics = statics })
 
--- the fields behind `form`
+-- what a description says behind `form`: its method, its parameters, and the rest
 unfoldable pub desc_fields : ℤ → Reader DescText
 desc_fields form here = do
   only ← only_of (desc_names form) here
@@ -39,5 +41,6 @@ desc_fields form here = do
   params ← field (codes "params") (list_of input_of) here
   desc_end form entry params here
 
+-- the description that a JSON value says, of form 1 or 2
 unfoldable pub description_of : Reader DescText
 description_of here = field (codes "form") (int_of (pos 1) (pos 2)) here >>= λ form. desc_fields form here

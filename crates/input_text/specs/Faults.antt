@@ -6,6 +6,7 @@ use Rattle.input_text.specs.declared.fault.DescFault.{DescFault}
 use Rattle.input_text.specs.declared.fault.DescFault.TheVariants.{Json, NoMethod, Abstract, ParamCount, ParamKind, EmptyInterval}
 use Rattle.input_text.specs.declared.fault.DescFault.TheVariants.{UnknownType, BadPair, BadObject, StaticCount, Memory}
 
+-- the name of a fault of a description or a state, by which a line of errors says it
 abbrev pub fault_name : DescFault → List ℕ
 fault_name (Json fault) = json_name fault
 fault_name NoMethod = codes "NoMethod"
@@ -19,6 +20,8 @@ fault_name (BadObject n) = codes "BadObject"
 fault_name StaticCount = codes "StaticCount"
 fault_name Memory = codes "Memory"
 
+-- what a fault's name is followed by: the number of the input, the object or the pair that it is about, of every
+-- fault that has one
 abbrev pub fault_fields : DescFault → List ℕ
 fault_fields (Json fault) = json_fields fault
 fault_fields NoMethod = []
@@ -32,6 +35,6 @@ fault_fields (BadObject n) = number_field (codes "n") n
 fault_fields StaticCount = []
 fault_fields Memory = []
 
--- the name, and then the fields
+-- a fault in words: its name and then its fields
 abbrev pub fault_text : DescFault → List ℕ
 fault_text fault = joined (fault_name fault ∷ fault_fields fault ∷ [])

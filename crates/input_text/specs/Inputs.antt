@@ -13,6 +13,7 @@ use Rattle.input_text.specs.Fields.{◌>>=◌, field, an_int, a_number}
 use Rattle.input_text.specs.declared.texts.InputText.{InputText}
 use Rattle.input_text.specs.declared.texts.InputText.TheVariants.{Int, Ref}
 
+-- the int that a description asks for, by the least and the greatest number that it may be
 unfoldable pub int_input : Reader InputText
 int_input here = do
   only ← only_of (codes "lo hi") here
@@ -28,9 +29,11 @@ shape_named place word =
     else if bytes_eq word (codes "any") then Ok Any
     else Err (WrongKind place)
 
+-- the shape that a text names: `tree`, `dag` or `any`
 unfoldable pub shape_of : Reader Shape
 shape_of here = text_of here >>= shape_named here.place
 
+-- what a reference's fields say: its type, whether it may be null, and its shape
 unfoldable pub ref_fields : Reader InputText
 ref_fields here = do
   ty ← field (codes "type") text_of here
@@ -38,12 +41,15 @@ ref_fields here = do
   shape ← field (codes "shape") shape_of here
   Ok (Ref ty null shape)
 
+-- the names of the fields of a reference's object
 abbrev pub ref_names : List ℕ
 ref_names = codes "type null shape"
 
+-- the reference that a description asks for, where its object has exactly those fields
 unfoldable pub ref_input : Reader InputText
 ref_input here = only_of ref_names here >>= λ _. ref_fields here
 
+-- an input that a description asks for: an int where there is a field `lo`, else a reference
 unfoldable pub input_of : Reader InputText
 input_of here = if has_field (codes "lo") here then int_input here else ref_input here
 
@@ -52,15 +58,17 @@ abbrev pub number_in : List ℕ → Option Located → Result ℕ JsonFault
 number_in place (Some there) = a_number there
 number_in place None = Err (WrongKind place)
 
+-- the number of an input that stands at place `n` of a list
 unfoldable pub nth_number : ℕ → Reader ℕ
 nth_number n here = number_in here.place (item_of n here)
 
+-- the numbers of two inputs, the first two items of a list
 unfoldable pub both_numbers : Reader (ℕ × ℕ)
 both_numbers here = do
   first ← nth_number 0 here
   second ← nth_number 1 here
   Ok (first, second)
 
--- two numbers of inputs; a list of another length is of the wrong kind
+-- a pair of inputs: a list of exactly two numbers; a list of another length is of the wrong kind
 unfoldable pub pair_of : Reader (ℕ × ℕ)
 pair_of here = items_of here >>= λ count. if count == 2 then both_numbers here else Err (WrongKind here.place)

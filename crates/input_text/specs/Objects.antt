@@ -12,9 +12,11 @@ use Rattle.input_text.specs.Values.{value_of}
 use Rattle.input_text.specs.declared.texts.ObjectText.{ObjectText}
 use Rattle.input_text.specs.declared.texts.ObjectText.TheVariants.{Instance, Nums, Refs}
 
+-- the names of the fields of an instance's object
 abbrev pub instance_names : List ℕ
 instance_names = codes "class fields"
 
+-- an instance: the name of its class, and the values of its fields in their order
 unfoldable pub instance_of : Reader ObjectText
 instance_of here = do
   only ← only_of instance_names here
@@ -22,6 +24,7 @@ instance_of here = do
   fields ← field (codes "fields") (list_of value_of) here
   Ok (Instance class fields)
 
+-- a number from 0 to 255
 unfoldable pub a_byte : Reader ℕ
 a_byte here = int_of (pos 0) (pos 255) here >>= λ n. Ok (nat_abs n)
 
@@ -29,6 +32,7 @@ a_byte here = int_of (pos 0) (pos 255) here >>= λ n. Ok (nat_abs n)
 unfoldable pub kind_of : Reader Kind
 kind_of here = a_byte here >>= λ n. ok_or (kind_of_code n) (OutOfRange here.place)
 
+-- an array of numbers: the kind of its items, and the items as ints
 unfoldable pub nums_of : Reader ObjectText
 nums_of here = do
   only ← only_of (codes "nums items") here
@@ -36,6 +40,7 @@ nums_of here = do
   items ← field (codes "items") (list_of an_int) here
   Ok (Nums kind items)
 
+-- an array of references: the type of its items, and the items
 unfoldable pub refs_of : Reader ObjectText
 refs_of here = do
   only ← only_of (codes "refs items") here
@@ -43,6 +48,7 @@ refs_of here = do
   items ← field (codes "items") (list_of value_of) here
   Ok (Refs element items)
 
+-- an object of a state's heap: an instance, an array of numbers, or an array of references
 unfoldable pub object_of : Reader ObjectText
 object_of here =
     if has_field (codes "class") here then instance_of here

@@ -13,16 +13,17 @@ use Rattle.input_text.specs.Descriptions.{is_first_form}
 use Rattle.input_text.specs.declared.texts.EntryName.{EntryName}
 use Rattle.input_text.specs.declared.texts.StateText.{StateText}
 
+-- the names of the fields of a state of this form, all of which must be there, and no others
 abbrev pub state_names : ℤ → List ℕ
 state_names form = if is_first_form form then codes "form class method desc args heap" else codes
     "form class method desc args heap statics"
 
--- a text of form 1 says nothing of static fields
+-- the values of static fields that a state says: its field `statics`; a text of form 1 says nothing of them
 unfoldable pub static_values : ℤ → Reader (Option (List Value))
 static_values form here = if is_first_form form then Ok None else
     (field (codes "statics") (list_of value_of) here >>= λ values. Ok (Some values))
 
--- the fields behind the method
+-- what a state says behind its method: the arguments, the objects of the heap, and the static fields
 unfoldable pub state_end : ℤ → EntryName → Reader StateText
 state_end form entry here = do
   args ← field (codes "args") (list_of value_of) here
@@ -30,12 +31,13 @@ state_end form entry here = do
   statics ← static_values form here
   Ok (record { entry = entry; args = args; heap = heap; statics = statics })
 
--- the fields behind `form`
+-- what a state says behind `form`: its method, and the rest
 unfoldable pub state_fields : ℤ → Reader StateText
 state_fields form here = do
   only ← only_of (state_names form) here
   entry ← entry_of here
   state_end form entry here
 
+-- the state that a JSON value says, of form 1 or 2
 unfoldable pub state_of : Reader StateText
 state_of here = field (codes "form") (int_of (pos 1) (pos 2)) here >>= λ form. state_fields form here

@@ -1,4 +1,3 @@
-pub mod Faults
 pub mod Names
 pub mod Words
 pub mod Terms
@@ -6,3 +5,4 @@ pub mod Rows
 pub mod Reading
 pub mod Systems
 pub mod Steps
+pub mod Faults

@@ -26,17 +26,18 @@ pub record IsStep (its : Its) (s t : Standing) : Type 0 where
   pub to : rule.to ≡ t.place
   pub rows : AllHold (numbers_between (length its.vars) s.numbers t.numbers) (rows_under unweighed rule.rows)
 
--- every standing is accessible: whatever steps come after it, one after another, they come to an end
+-- the steps of a system end: from every standing, whatever steps come after it, one after another, they come to an end
 abbrev pub StepsEnd : Its → Type 0
 StepsEnd its = (standing : Standing) → Acc (λ (t s : Standing). IsStep its s t) standing
 
--- there is no infinite sequence of steps
+-- a system has no infinite sequence of steps
 abbrev pub NoInfiniteWalk : Its → Type 0
 NoInfiniteWalk its = (walk : ℕ → Standing) → ((n : ℕ) → IsStep its (walk n) (walk (suc n))) → ⊥
 
--- where no chain of a system's rules is infinite, its steps end
+-- where no chain of a system's rules is infinite, the system's steps end
 abbrev pub ChainsEndSteps : Type 0
 ChainsEndSteps = (its : Its) → IsSystem its → ChainsEnd its.rules → StepsEnd its
 
+-- where a system's steps end, it has no infinite sequence of steps
 abbrev pub StepsEndWalks : Type 0
 StepsEndWalks = (its : Its) → StepsEnd its → NoInfiniteWalk its

@@ -23,7 +23,7 @@ use Rattle.its_front.specs.declared.reading.Its.{Its}
 use Rattle.its_front.specs.Systems.{IsSystemRule, AreSystemRules, IsSystem}
 use Rattle.its_front.proofs.Walking.{slot_at}
 use Rattle.its_search.specs.Forms.{NoPlainForm, HasNoForm}
-use Rattle.its_search.specs.Tried.{IsCounted}
+use Rattle.its_search.specs.inner.Tried.{IsCounted}
 
 -- ---- slots
 

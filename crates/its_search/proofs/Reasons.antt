@@ -13,7 +13,7 @@ use Rattle.lin_core.specs.declared.rows.RowKind.TheVariants.{AtLeastZero, IsZero
 use Rattle.lin_core.specs.declared.rows.WRow.{WRow}
 use Rattle.its_front.specs.Words.{before}
 use Rattle.its_search.specs.Changes.{Form, change_by, change_in, change_of_row, change_of, added, form_change, IsUnit}
-use Rattle.its_search.specs.Following.{first_coefficient, reason_from, reasons_of}
+use Rattle.its_search.specs.inner.Following.{first_coefficient, reason_from, reasons_of}
 
 -- ---- what is before others
 

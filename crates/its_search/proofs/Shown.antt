@@ -39,9 +39,9 @@ use Rattle.its_front.specs.Systems.{IsWeightless, IsSystemRule}
 use Rattle.its_front.specs.Words.{before}
 use Rattle.its_search.specs.Changes.{Form, change_of_row, change_of, form_change, IsUnit, IsUnitTerm}
 use Rattle.its_search.specs.Forms.{IsPlainForm, same_terms, is_inequality, is_bound, has_bound, is_fall, falls, keeps, fits, ranks}
-use Rattle.its_search.specs.Following.{IsFit, first_coefficient, reason_from, reasons_of, bound_from, followed_with, followed_of}
-use Rattle.its_search.specs.Following.{follow_each, part_of}
-use Rattle.its_search.specs.Tried.{IsCounted}
+use Rattle.its_search.specs.inner.Following.{IsFit, first_coefficient, reason_from, reasons_of, bound_from, followed_with, followed_of}
+use Rattle.its_search.specs.inner.Following.{follow_each, part_of}
+use Rattle.its_search.specs.inner.Tried.{IsCounted}
 use Rattle.its_search.proofs.Asked.{path_rules_of}
 use Rattle.its_search.proofs.Plain.{plain_units, plain_short}
 use Rattle.its_search.proofs.Reasons.{IsBefore, before_is, IsReason, same_term, Reasons, added_is, reasons_are}

@@ -6,7 +6,7 @@ use Rattle.descent.specs.declared.rules.PathRule.{PathRule}
 use Rattle.its_search.specs.Changes.{Form}
 use Rattle.its_search.specs.Forms.{IsPlainForm, ranks, NoPlainForm}
 use Rattle.its_search.proofs.Asked.{slots_long}
-use Rattle.its_search.specs.Tried.{IsCounted, Tells, first_of, IsSingle, IsDifference, IsDifferenceFrom, BeginsWith, IsAny}
+use Rattle.its_search.specs.inner.Tried.{IsCounted, Tells, first_of, IsSingle, IsDifference, IsDifferenceFrom, BeginsWith, IsAny}
 
 abbrev Ranked : Type 0
 Ranked = Option Form

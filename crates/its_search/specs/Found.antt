@@ -8,8 +8,8 @@ use Rattle.its_search.specs.declared.searching.ItsFound.{ItsFound}
 use Rattle.its_search.specs.declared.searching.ItsFound.TheVariants.{Proof, Left}
 use Rattle.its_search.specs.Forms.{HasNoForm}
 
--- a closed proof; or steps that hold so far, and the rules that they leave: these reach each other, and no plain form ranks them, nor a
--- stepwise one
+-- What the search finds for rules: a closed proof, or steps that hold so far and the rules that they leave, which reach each other and
+-- which neither a plain form nor a stepwise one ranks.
 abbrev pub Finds : List PathRule → ItsFound → Type 0
 Finds rules (Proof proof) = AreSteps proof.steps × Closed rules proof
 Finds rules (Left proof left) = LeavesStuckBy HasNoForm rules proof.steps left

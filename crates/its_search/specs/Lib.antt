@@ -1,5 +1,4 @@
 pub mod Changes
 pub mod Forms
-pub mod Following
-pub mod Tried
 pub mod Found
+pub mod inner

@@ -5,7 +5,7 @@ ghost use Rattle.lin_core.specs.Weights.{AreRows};
 ghost use Rattle.its_front.specs.Systems.{IsSystemRule};
 ghost use Rattle.its_search.specs.Changes.{form_change};
 ghost use Rattle.its_search.specs.Forms.{IsPlainForm, same_terms, is_inequality, is_bound, has_bound, is_fall, falls, keeps, fits, ranks};
-ghost use Rattle.its_search.specs.Tried.{IsCounted, Tells, IsSingle, IsDifference, IsDifferenceFrom, BeginsWith, IsAny};
+ghost use Rattle.its_search.specs.inner.Tried.{IsCounted, Tells, IsSingle, IsDifference, IsDifferenceFrom, BeginsWith, IsAny};
 
 use crate::changes::form_change;
 use descent::{PathRule, RowKind, WRow};

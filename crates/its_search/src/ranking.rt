@@ -6,9 +6,9 @@ ghost use Rattle.rank_forms.specs.RankSteps.{IsRankStep};
 ghost use Rattle.its_front.specs.Systems.{IsSystemRule};
 ghost use Rattle.its_search.specs.Changes.{IsUnit, IsUnitTerm};
 ghost use Rattle.its_search.specs.Forms.{IsPlainForm, ranks};
-ghost use Rattle.its_search.specs.Tried.{IsCounted};
-ghost use Rattle.its_search.specs.Following.{IsFit, follow_each, first_coefficient, reason_from, reasons_of, bound_from};
-ghost use Rattle.its_search.specs.Following.{followed_of, part_of};
+ghost use Rattle.its_search.specs.inner.Tried.{IsCounted};
+ghost use Rattle.its_search.specs.inner.Following.{IsFit, follow_each, first_coefficient, reason_from, reasons_of, bound_from};
+ghost use Rattle.its_search.specs.inner.Following.{followed_of, part_of};
 
 use crate::changes::{change_of_row, form_change};
 use crate::plain_forms::is_bound;

@@ -1,7 +1,7 @@
 //! The search for forms that rank rules of a system.
 ghost use Rattle.std.specs.Prelude.{◌≡◌, ◌≤◌, length};
 ghost use Rattle.its_front.specs.Systems.{AreSystemRules};
-ghost use Rattle.its_search.specs.Tried.{IsCounted};
+ghost use Rattle.its_search.specs.inner.Tried.{IsCounted};
 
 use crate::plain_forms::plain_form;
 use crate::ranking::step_of;
@@ -37,7 +37,7 @@ pub(crate) struct SystemForms;
 impl Forms for SystemForms {
     ghost use Rattle.its_front.specs.Systems.{AreSystemRules};
     ghost use Rattle.its_search.specs.Forms.{HasNoForm};
-    ghost use Rattle.chain_proofs.specs.Few.{few_enough};
+    ghost use Rattle.chain_proofs.specs.lemmas.Few.{few_enough};
 
     ghost asks = { λ rules. AreSystemRules rules };
 

@@ -5,6 +5,7 @@ use Rattle.serde_json.specs.View.{view as value_of}
 use Rattle.json_view.specs.Place.{pointer_of}
 use Rattle.json_view.specs.declared.view.View.{View}
 
+-- a JSON value together with the place at which it stands in the text
 pub record Located : Type 0 where
   pub value : Data
   -- a JSON pointer (RFC 6901)

@@ -12,9 +12,11 @@ use Rattle.serde_json.specs.Find.{get_member}
 abbrev pub listed : List ℕ → List (List ℕ)
 listed names = slice_split (λ byte. byte == 32) names
 
+-- a name is one of those that stand in the text of names
 abbrev pub is_listed : List ℕ → List ℕ → Bool
 is_listed names name = list_any (λ other. bytes_eq other name) (listed names)
 
+-- the names of an object's members, in their order
 abbrev pub member_names : Members → List (List ℕ)
 member_names no_members = []
 member_names (member name value rest) = name ∷ member_names rest

@@ -7,6 +7,7 @@ use Rattle.json_view.specs.declared.place.Place.{Place, Root, Field', Item'}
 abbrev pub escaped_byte : ℕ → List ℕ
 escaped_byte byte = if byte == 126 then codes "~0" else (if byte == 47 then codes "~1" else byte ∷ [])
 
+-- a name as a reference token, each byte escaped
 abbrev pub escaped : List ℕ → List ℕ
 escaped name = flat_map escaped_byte name
 

@@ -22,9 +22,11 @@ first_fault (Some first) second = Err first
 first_fault None (Some second) = Err second
 first_fault None None = Ok tt
 
+-- the fault of a member that no reader asked for, with the pointer to it
 abbrev pub unknown_field : List ℕ → List ℕ → JsonFault
 unknown_field place name = UnknownField (member_pointer place name)
 
+-- the fault of a member that is wanted and is not there, with the pointer at which it would stand
 abbrev pub missing_field : List ℕ → List ℕ → JsonFault
 missing_field place name = MissingField (member_pointer place name)
 

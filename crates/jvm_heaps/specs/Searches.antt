@@ -13,18 +13,18 @@ abbrev pub place_of : Turn → ℕ
 place_of (Enter a) = a
 place_of (Leave a) = a
 
--- the turns after what a value names is to be entered
+-- the turns after a value: the object that it names is entered next; an int and null name none
 abbrev pub enter_after : Value → List Turn → List Turn
 enter_after (values.Int n) todo = todo
 enter_after values.Null todo = todo
 enter_after (values.Ref r) todo = Enter r ∷ todo
 
--- the same of some values, one after another
+-- the turns after some values, one after another, so that the last value's object is entered first
 unfoldable pub all_enter : List Value → List Turn → List Turn
 all_enter [] todo = todo
 all_enter (value ∷ values) todo = all_enter values (enter_after value todo)
 
--- the values of the object of a number
+-- the values that the object of a number holds; none where no object has the number
 abbrev pub values_in : Heap → ℕ → List Value
 values_in heap a = option_map_or values_of (slice_get heap.objects a) []
 

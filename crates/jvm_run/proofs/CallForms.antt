@@ -27,7 +27,7 @@ use Rattle.jvm_values.specs.States.{MachineFrame, PlaceTypes}
 use Rattle.jvm_values.specs.Subtyping.{class_type, array_of, array_of_numbers, IsReference}
 use Rattle.jvm_values.specs.TypedHeaps.{WorldTypes, AreLawful, type_of, HasType, IsTypedObject}
 use Rattle.class_world.specs.Fields.{can_be_made}
-use Rattle.class_world.specs.Linked.{class_order}
+use Rattle.class_world.specs.lemmas.Linked.{class_order}
 use Rattle.class_world.specs.Types.{is_class_below, erase}
 use Rattle.code_verify.specs.declared.want.Want.{Want}
 use Rattle.code_verify.specs.declared.want.Want.TheVariants as wants

@@ -26,13 +26,13 @@ use Rattle.jvm_values.specs.TypedHeaps.{WorldTypes, AreLawful, type_of, Holds, I
 use Rattle.jvm_values.specs.Joins.{item_of, item_under}
 use Rattle.jvm_values.proofs.Joining.{array_of_item, same_type}
 use Rattle.class_world.specs.World.{World, is_interface_class, super_of, supers_of, leads_up, is_above}
-use Rattle.class_world.specs.Walks.{IsIn}
-use Rattle.class_world.specs.Classes.{IsHierarchy}
+use Rattle.class_world.specs.lemmas.Walks.{IsIn}
+use Rattle.class_world.specs.lemmas.Classes.{IsHierarchy}
 use Rattle.class_world.specs.Types.{is_class_below, is_sub, erase, erase_by}
 use Rattle.class_world.specs.Linking.{is_linked}
 use Rattle.class_world.specs.WorldTypes.{types_of}
-use Rattle.class_world.specs.Subtypes.{stands_from, stands_to}
-use Rattle.class_world.specs.Linked.{linked_from, hierarchy, class_order}
+use Rattle.class_world.specs.lemmas.Subtypes.{stands_from, stands_to}
+use Rattle.class_world.specs.lemmas.Linked.{linked_from, hierarchy, class_order}
 use Rattle.op_forms.specs.declared.form.ItemKind.{ItemKind}
 use Rattle.op_forms.specs.declared.form.ItemKind.TheVariants as items
 use Rattle.code_verify.specs.Operands.{is_numbers, is_base_for, is_for as typed_for}

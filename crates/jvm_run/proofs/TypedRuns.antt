@@ -6,7 +6,7 @@ use Rattle.jvm_values.specs.declared.heap.Heap.{Heap}
 use Rattle.jvm_values.specs.declared.state.Mode.TheVariants.{Normal}
 use Rattle.jvm_values.specs.States.{MachineState}
 use Rattle.jvm_values.proofs.Options.{some_is}
-use Rattle.class_world.specs.WorldLaws.{world_laws}
+use Rattle.class_world.specs.lemmas.WorldLaws.{world_laws}
 use Rattle.class_world.proofs.BuiltInLaws.{built_ins_known}
 use Rattle.class_program.specs.declared.program.Method.{Method}
 use Rattle.class_program.specs.Programs.{Program, IsClosed}

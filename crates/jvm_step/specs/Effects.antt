@@ -59,7 +59,8 @@ use Rattle.jvm_step.specs.Operands.{is_assignable, is_of_type, is_passed, is_nul
 
 -- ---- effects
 
--- What an instruction does. `X` is what it may change: its frame, or that and the heap, or that and the static fields.
+-- What an instruction does (JVM specification 2.6, 2.10 and 2.11). `X` is what it may change: its frame, or that and the
+-- heap, or that and the static fields.
 pub data Effect (X : Type 0) : Type 0 where
   -- the next instruction runs
   Next : X → Effect X
@@ -74,7 +75,7 @@ pub data Effect (X : Type 0) : Type 0 where
   -- the call returns, with a value or none
   Return : Option Value → Effect X
 
--- the same effect on something larger
+-- an effect on a part of the state as one on something larger, by how the larger one is made of the part
 abbrev pub effect_on : {X Y : Type 0} → (X → Y) → Effect X → Effect Y
 effect_on into (Next x) = Next (into x)
 effect_on into (Jump place x) = Jump place (into x)
@@ -83,19 +84,20 @@ effect_on into (Throw r) = Throw r
 effect_on into (Invoke number count) = Invoke number count
 effect_on into (Return value) = Return value
 
--- the frame with another stack
+-- a frame with another operand stack
 abbrev pub with_stack : MachineFrame → List Value → MachineFrame
 with_stack frame stack = record frame { stack = stack }
 
--- a value is pushed on what is left of a stack, and the next instruction runs
+-- a value is pushed on what is left of an operand stack, and the next instruction runs
 abbrev pub pushes : Value → List Value → MachineFrame → Effect MachineFrame
 pushes value below frame = Next (with_stack frame (value ∷ below))
 
--- a jump where a test holds, else the next instruction
+-- a jump to a place where a test holds, and else the next instruction
 abbrev pub branch : {X : Type 0} → Bool → ℕ → X → Effect X
 branch test place x = if test then Jump place x else Next x
 
--- What is done to the object of a reference; null throws.
+-- What is done to the object of a reference; where the reference is null, NullPointerException is thrown (JVM specification
+-- 2.10).
 abbrev pub on_object : {X : Type 0} → Heap → Value → (ℕ → Object → Option (Effect X)) → Option (Effect X)
 on_object heap (values.Int n) act = None
 on_object heap values.Null act = Some (Raise null_pointer_exception)
@@ -103,61 +105,64 @@ on_object heap (values.Ref r) act = option_and_then (act r) (object_at heap r)
 
 -- ---- constants, locals and the stack
 
--- aconst_null; iconst, bipush, sipush, ldc of an int
+-- a constant is pushed: aconst_null, iconst, bipush, sipush, and ldc of an int (JVM specification 6.5.aconst_null,
+-- 6.5.iconst_<i>, 6.5.bipush, 6.5.sipush, 6.5.ldc)
 unfoldable pub constant_effect : Value → MachineFrame → Option (Effect MachineFrame)
 constant_effect value frame = Some (pushes value frame.stack frame)
 
--- the int of a local, and the reference of one; none where it is unset
+-- the int that a local holds; none where the local is not there, is unset, or holds a reference
 unfoldable pub int_of_local : List (Option Value) → ℕ → Option ℤ
 int_of_local locals n = do
   local ← slice_get locals n
   value ← local
   int_of value
 
+-- the reference that a local holds; none where the local is not there, is unset, or holds an int
 unfoldable pub reference_of_local : List (Option Value) → ℕ → Option Value
 reference_of_local locals n = do
   local ← slice_get locals n
   value ← local
   reference_of value
 
--- iload: the local is an int
+-- an int is loaded from a local (JVM specification 6.5.iload, 6.5.iload_<n>)
 unfoldable pub iload_effect : ℕ → MachineFrame → Option (Effect MachineFrame)
 iload_effect n frame = do
   number ← int_of_local frame.locals n
   Some (pushes (values.Int number) frame.stack frame)
 
--- aload: the local is a reference
+-- a reference is loaded from a local (JVM specification 6.5.aload, 6.5.aload_<n>)
 unfoldable pub aload_effect : ℕ → MachineFrame → Option (Effect MachineFrame)
 aload_effect n frame = do
   reference ← reference_of_local frame.locals n
   Some (pushes reference frame.stack frame)
 
--- a local of the frame is set
+-- a local of a frame is set to a value, and the next instruction runs; none where the frame has no such local
 abbrev pub sets : ℕ → Value → List Value → MachineFrame → Option (Effect MachineFrame)
 sets n value below frame =
     if nat_lt n (length frame.locals)
     then Some (Next (record frame { locals = slice_set frame.locals n (Some value); stack = below }))
     else None
 
--- istore: an int
+-- an int is stored into a local (JVM specification 6.5.istore, 6.5.istore_<n>)
 unfoldable pub istore_effect : ℕ → MachineFrame → Option (Effect MachineFrame)
 istore_effect n frame = do
   value ← top_int frame.stack
   sets n (values.Int value.0) value.1 frame
 
--- astore: a reference
+-- a reference is stored into a local (JVM specification 6.5.astore, 6.5.astore_<n>)
 unfoldable pub astore_effect : ℕ → MachineFrame → Option (Effect MachineFrame)
 astore_effect n frame = do
   value ← top_reference frame.stack
   sets n value.0 value.1 frame
 
--- iinc: adds a number to the int of a local, wrapped to 32 bits
+-- a number is added to the int of a local, wrapped to 32 bits (JVM specification 6.5.iinc)
 unfoldable pub iinc_effect : ℕ → ℤ → MachineFrame → Option (Effect MachineFrame)
 iinc_effect n by frame = do
   number ← int_of_local frame.locals n
   sets n (values.Int (int_wrap w32 (number +ℤ by))) frame.stack frame
 
--- pop to swap
+-- values of the operand stack are dropped, copied or exchanged: pop to swap (JVM specification 6.5.pop, 6.5.pop2, 6.5.dup,
+-- 6.5.dup_x1, 6.5.dup_x2, 6.5.dup2, 6.5.dup2_x1, 6.5.dup2_x2, 6.5.swap)
 unfoldable pub shuffle_effect : Shuffle → MachineFrame → Option (Effect MachineFrame)
 shuffle_effect shuffle frame = do
   stack ← shuffled shuffle frame.stack
@@ -165,24 +170,27 @@ shuffle_effect shuffle frame = do
 
 -- ---- ints
 
--- iadd to ixor: the operator's result; where it divides by 0, ArithmeticException
+-- the result of an operator is pushed; where the operator gives none, since it divides by 0, ArithmeticException is thrown
+-- (JVM specification 6.5.idiv, 6.5.irem)
 abbrev pub arith_result : Option ℤ → List Value → MachineFrame → Effect MachineFrame
 arith_result None below frame = Raise arithmetic_exception
 arith_result (Some result) below frame = pushes (values.Int result) below frame
 
+-- an operator on two ints, the right one on the top: iadd to ixor (JVM specification 6.5.iadd, 6.5.isub, 6.5.imul,
+-- 6.5.idiv, 6.5.irem, 6.5.ishl, 6.5.ishr, 6.5.iushr, 6.5.iand, 6.5.ior, 6.5.ixor)
 unfoldable pub arith_effect : IntOp → MachineFrame → Option (Effect MachineFrame)
 arith_effect op frame = do
   right ← top_int frame.stack
   left ← top_int right.1
   Some (arith_result (int_result op left.0 right.0) left.1 frame)
 
--- ineg: 0 minus the int, wrapped to 32 bits
+-- 0 minus an int, wrapped to 32 bits (JVM specification 6.5.ineg)
 unfoldable pub ineg_effect : MachineFrame → Option (Effect MachineFrame)
 ineg_effect frame = do
   value ← top_int frame.stack
   Some (pushes (values.Int (int_wrap w32 (pos 0 -ℤ value.0))) value.1 frame)
 
--- i2b, i2c, i2s
+-- an int as its low bits in a narrower kind (JVM specification 6.5.i2b, 6.5.i2c, 6.5.i2s)
 unfoldable pub narrow_effect : Kind → MachineFrame → Option (Effect MachineFrame)
 narrow_effect kind frame = do
   value ← top_int frame.stack
@@ -190,57 +198,59 @@ narrow_effect kind frame = do
 
 -- ---- jumps
 
--- ifeq to ifle: between an int and 0
+-- a jump if an int compares with 0 in one way: ifeq to ifle (JVM specification 6.5.if<cond>)
 unfoldable pub if_effect : Cond → ℕ → MachineFrame → Option (Effect MachineFrame)
 if_effect cond place frame = do
   value ← top_int frame.stack
   Some (branch (cond_holds cond value.0 (pos 0)) place (with_stack frame value.1))
 
--- if_icmpeq to if_icmple: between two ints
+-- a jump if two ints compare in one way: if_icmpeq to if_icmple (JVM specification 6.5.if_icmp<cond>)
 unfoldable pub if_icmp_effect : Cond → ℕ → MachineFrame → Option (Effect MachineFrame)
 if_icmp_effect cond place frame = do
   right ← top_int frame.stack
   left ← top_int right.1
   Some (branch (cond_holds cond left.0 right.0) place (with_stack frame left.1))
 
--- a test comes out as it is wanted
+-- a test comes out as it is wanted: true, or false
 abbrev pub is_wanted : Bool → Bool → Bool
 is_wanted wanted test = if wanted then test else not test
 
--- if_acmpeq, which wants that the two references are one, and if_acmpne, which does not
+-- a jump if two references are one, as if_acmpeq wants, or if they are not, as if_acmpne wants (JVM specification
+-- 6.5.if_acmp<cond>)
 unfoldable pub if_acmp_effect : Bool → ℕ → MachineFrame → Option (Effect MachineFrame)
 if_acmp_effect wanted place frame = do
   right ← top_reference frame.stack
   left ← top_reference right.1
   Some (branch (is_wanted wanted (same_reference left.0 right.0)) place (with_stack frame left.1))
 
--- ifnull, which wants that the reference is null, and ifnonnull, which does not
+-- a jump if a reference is null, as ifnull wants, or if it is not, as ifnonnull wants (JVM specification 6.5.ifnull,
+-- 6.5.ifnonnull)
 unfoldable pub if_null_effect : Bool → ℕ → MachineFrame → Option (Effect MachineFrame)
 if_null_effect wanted place frame = do
   value ← top_reference frame.stack
   Some (branch (is_wanted wanted (is_null value.0)) place (with_stack frame value.1))
 
--- goto, goto_w
+-- a jump (JVM specification 6.5.goto, 6.5.goto_w)
 unfoldable pub goto_effect : ℕ → MachineFrame → Option (Effect MachineFrame)
 goto_effect place frame = Some (Jump place frame)
 
--- the target of the item of that number, counted from 0; the default before the first and behind the last
+-- the target of a tableswitch at a place of its table, counted from 0; the default before the first and behind the last
 abbrev pub target_at : ℕ → List ℕ → ℤ → ℕ
 target_at default targets (pos i) = unwrap_or (slice_get targets i) default
 target_at default targets (negsuc i) = default
 
--- tableswitch: the targets of the ints from `low` on
+-- a jump to the target of an int in a table of the ints from `low` on (JVM specification 6.5.tableswitch)
 unfoldable pub tableswitch_effect : ℕ → ℤ → List ℕ → MachineFrame → Option (Effect MachineFrame)
 tableswitch_effect default low targets frame = do
   key ← top_int frame.stack
   Some (Jump (target_at default targets (key.0 -ℤ low)) (with_stack frame key.1))
 
--- the target of a key; the default where it is not listed
+-- the target of a lookupswitch for a key; the default where the key is not listed
 abbrev pub target_of : ℕ → List Case → ℤ → ℕ
 target_of default [] key = default
 target_of default (c ∷ cases) key = if int_eq c.key key then c.target else target_of default cases key
 
--- lookupswitch
+-- a jump to the target of an int in a list of keys (JVM specification 6.5.lookupswitch)
 unfoldable pub lookupswitch_effect : ℕ → List Case → MachineFrame → Option (Effect MachineFrame)
 lookupswitch_effect default cases frame = do
   key ← top_int frame.stack
@@ -248,42 +258,45 @@ lookupswitch_effect default cases frame = do
 
 -- ---- calls
 
--- the values that a call takes: as many as there are slots, the last one on the top, and each such as its slot says
+-- the values that a call takes: as many as its descriptor has parameters, the last one on the top, and each such as its
+-- parameter's type takes (JVM specification 2.6.1)
 unfoldable pub are_passed : WorldTypes → Heap → List Slot → List Value → Bool
 are_passed types heap [] [] = true
 are_passed types heap (slot ∷ more) (value ∷ rest) = is_passed types heap slot value && are_passed types heap more rest
 are_passed types heap [] (value ∷ rest) = false
 are_passed types heap (slot ∷ more) [] = false
 
--- the arguments of a call stand on the stack; what is below them
+-- what is left of an operand stack below the arguments of a call; none where they do not stand on it
 unfoldable pub below_arguments : WorldTypes → Heap → List Slot → List Value → Option (List Value)
 below_arguments types heap params stack =
     if are_passed types heap params (reverse (take (length params) stack)) then Some (drop (length params) stack) else None
 
--- invokestatic
+-- a static method is called (JVM specification 6.5.invokestatic)
 unfoldable pub invokestatic_effect : WorldTypes → Call → Heap → MachineFrame → Option (Effect MachineFrame)
 invokestatic_effect types call heap frame = do
   below ← below_arguments types heap call.params frame.stack
   number ← call.target
   Some (Invoke number (length call.params))
 
--- the method is `<init>`
+-- the named method of a call is `<init>` (JVM specification 2.9)
 abbrev pub is_constructor : World → Call → Bool
 is_constructor world call = option_map_or (λ m. bytes_eq m.name constructor_name) (method_at world call.method) false
 
--- The receiver of `invokespecial` in a method of class `current`: an object of the named class and, unless the method is
--- `<init>`, of the current class too (section 4.10.1.9, invokespecial).
+-- An object may be the receiver of `invokespecial` in a method of class `current`: it is of the named class and, unless the
+-- method is `<init>`, of the current class too (JVM specification 4.10.1.9, invokespecial).
 abbrev pub is_special_receiver : World → ℕ → Call → Object → Bool
 is_special_receiver world current call object =
     is_assignable (types_of world) object (class_type call.class)
     && (if is_constructor world call then true else is_assignable (types_of world) object (class_type current))
 
--- a method without a body throws
+-- a selected method is called with so many values; one without a body throws AbstractMethodError (JVM specification
+-- 6.5.invokespecial)
 abbrev pub runs_or_lacks : {X : Type 0} → ℕ → Option ℕ → Effect X
 runs_or_lacks count (Some number) = Invoke number count
 runs_or_lacks count None = Raise abstract_method_error
 
--- invokespecial: the receiver stands below the arguments
+-- a method of an object is called that is named and not selected by the object's class: a constructor, a private method or
+-- one of a superclass. The receiver stands below the arguments (JVM specification 6.5.invokespecial)
 unfoldable pub invokespecial_effect : World → ℕ → Call → Heap → MachineFrame → Option (Effect MachineFrame)
 invokespecial_effect world current call heap frame = do
   below ← below_arguments (types_of world) heap call.params frame.stack
@@ -293,24 +306,28 @@ invokespecial_effect world current call heap frame = do
       then Some (runs_or_lacks (length call.params + 1) call.target)
       else None)
 
--- the class whose methods an object has; an array has those of java/lang/Object, and no interface
+-- the class whose methods an object has; an array has those of java/lang/Object, and no interface (JVM specification
+-- 6.5.invokevirtual)
 abbrev pub class_of_object : Object → ℕ
 class_of_object (Instance class fields) = class
 class_of_object (Nums kind items) = 0
 class_of_object (Refs element items) = 0
 
--- what a call that selects does on an object of a class
+-- what the selection of a call's method finds for an object of a class: a method with a body, or why there is none
 unfoldable pub answer_of : Program → Op → ℕ → Option Selected
 answer_of p op class = option_and_then (selected_in (refs_of p.methods)) (selection_at p.world op class)
 
--- what comes of the selection by the receiver's class
+-- what comes of the selection by the receiver's class: the method is called; AbstractMethodError where it has no body;
+-- IncompatibleClassChangeError where the class does not implement the interface (JVM specification 6.5.invokevirtual,
+-- 6.5.invokeinterface)
 abbrev pub selected_effect : {X : Type 0} → ℕ → Selected → Effect X
 selected_effect count (answers.Method number) = Invoke number count
 selected_effect count answers.Abstract = Raise abstract_method_error
 selected_effect count answers.NoInterface = Raise incompatible_class_change_error
 
--- Invokevirtual and invokeinterface: the receiver is below the named class, which is no interface, or is any object. It
--- stands below the arguments, and its class selects the method.
+-- A method is called that the receiver's class selects: invokevirtual and invokeinterface. The receiver is below the named
+-- class, which is no interface, or is any object. It stands below the arguments (JVM specification 6.5.invokevirtual,
+-- 6.5.invokeinterface).
 unfoldable pub selecting_effect : Program → Op → Call → Heap → MachineFrame → Option (Effect MachineFrame)
 selecting_effect p op call heap frame = do
   below ← below_arguments (types_of p.world) heap call.params frame.stack
@@ -322,34 +339,36 @@ selecting_effect p op call heap frame = do
 
 -- ---- returns and throws
 
+-- a method gives a number
 abbrev pub is_number_slot : Option Slot → Bool
 is_number_slot (Some (slots.Num kind)) = true
 is_number_slot (Some (slots.Ref t)) = false
 is_number_slot None = false
 
--- ireturn: the method gives a number; it is passed as it is
+-- a method that gives a number returns with an int, which is passed as it is (JVM specification 6.5.ireturn)
 unfoldable pub ireturn_effect : Option Slot → MachineFrame → Option (Effect MachineFrame)
 ireturn_effect result frame = do
   value ← top_int frame.stack
   if is_number_slot result then Some (Return (Some (values.Int value.0))) else None
 
+-- a value is one that a method may give as its reference: the method gives a reference, and the value is of its type
 abbrev pub is_returned : WorldTypes → Heap → Option Slot → Value → Bool
 is_returned types heap (Some (slots.Ref t)) value = is_of_type types heap t value
 is_returned types heap (Some (slots.Num kind)) value = false
 is_returned types heap None value = false
 
--- areturn: the method gives a reference of its type
+-- a method returns with a reference of the type that it gives (JVM specification 6.5.areturn)
 unfoldable pub areturn_effect : WorldTypes → Option Slot → Heap → MachineFrame → Option (Effect MachineFrame)
 areturn_effect types result heap frame = do
   value ← top_reference frame.stack
   if is_returned types heap result value.0 then Some (Return (Some value.0)) else None
 
--- return: the method gives nothing
+-- a method that gives nothing returns (JVM specification 6.5.return)
 abbrev pub return_effect : Option Slot → MachineFrame → Option (Effect MachineFrame)
 return_effect None frame = Some (Return None)
 return_effect (Some slot) frame = None
 
--- athrow: an object below java/lang/Throwable
+-- an object below java/lang/Throwable is thrown (JVM specification 6.5.athrow)
 unfoldable pub athrow_effect : WorldTypes → Heap → MachineFrame → Option (Effect MachineFrame)
 athrow_effect types heap frame = do
   thrown ← top_reference frame.stack
@@ -357,13 +376,13 @@ athrow_effect types heap frame = do
 
 -- ---- static fields
 
--- getstatic
+-- the value of a static field is pushed (JVM specification 6.5.getstatic)
 unfoldable pub getstatic_effect : ℕ → List Value → MachineFrame → Option (Effect MachineFrame)
 getstatic_effect place statics frame = do
   value ← slice_get statics place
   Some (pushes value frame.stack frame)
 
--- putstatic: the field's slot says what is taken and kept
+-- a value is put into a static field, whose type says what is taken and kept (JVM specification 6.5.putstatic)
 unfoldable pub putstatic_effect : WorldTypes → List StaticField → ℕ → Heap → MachineFrame → List Value
     → Option (Effect (MachineFrame × List Value))
 putstatic_effect types fields place heap frame statics = do
@@ -374,13 +393,13 @@ putstatic_effect types fields place heap frame statics = do
 
 -- ---- fields of objects
 
--- the fields of an instance
+-- the values of an instance's fields; an array has none
 abbrev pub fields_in : Object → Option (List Value)
 fields_in (Instance class fields) = Some fields
 fields_in (Nums kind items) = None
 fields_in (Refs element items) = None
 
--- getfield
+-- the value of an object's field is pushed (JVM specification 6.5.getfield)
 unfoldable pub getfield_effect : WorldTypes → FieldUse → Heap → MachineFrame → Option (Effect MachineFrame)
 getfield_effect types used heap frame = do
   reference ← top_reference frame.stack
@@ -390,11 +409,11 @@ getfield_effect types used heap frame = do
     value ← slice_get fields used.place
     Some (pushes value reference.1 frame))
 
--- the heap with a value in a field or an item of an object
+-- a heap with a value in a field or an item of an object
 abbrev pub with_item : Heap → ℕ → ℕ → Value → Object → Heap
 with_item heap r place value object = record { objects = slice_set heap.objects r (with_value place value object) }
 
--- putfield: the slot says what is taken and kept
+-- a value is put into a field of an object; the field's type says what is taken and kept (JVM specification 6.5.putfield)
 unfoldable pub putfield_effect : WorldTypes → FieldUse → MachineFrame → Heap → Option (Effect (MachineFrame × Heap))
 putfield_effect types used frame heap = do
   value ← top frame.stack
@@ -408,48 +427,50 @@ putfield_effect types used frame heap = do
 
 -- ---- new objects
 
--- an object is put at the heap's end, and a reference to it on what is left of the stack
+-- an object is put at the heap's end, and a reference to it on what is left of the operand stack
 abbrev pub makes : Object → List Value → MachineFrame → Heap → Effect (MachineFrame × Heap)
 makes object below frame heap =
     Next (with_stack frame (values.Ref (length heap.objects) ∷ below), record { objects = heap.objects ++ object ∷ [] })
 
--- an instance of a class whose fields are 0 or null
+-- a new instance of a class, whose fields are 0 or null (JVM specification 2.3 and 2.4)
 abbrev pub new_instance : WorldTypes → ℕ → Object
 new_instance types class = Instance class (map initial_value (types.fields class))
 
--- an instance of a class that can be made; none of another type
+-- a new instance of a class that can be made; none of another type
 abbrev pub instance_of : WorldTypes → ℕ → Base → Option Object
 instance_of types zero (bases.Class class) = if types.can_be_made class then Some (new_instance types class) else None
 instance_of types zero (bases.Num kind) = None
 instance_of types (suc dims) base = None
 
--- new
+-- a new instance of a class is made (JVM specification 6.5.new)
 unfoldable pub new_effect : WorldTypes → Ty → MachineFrame → Heap → Option (Effect (MachineFrame × Heap))
 new_effect types t frame heap = do
   object ← instance_of types t.dims t.base
   Some (makes object frame.stack frame heap)
 
--- a new array, or the throw where its number of items is negative
+-- a new array is made, or NegativeArraySizeException is thrown where there is none, since its number of items would be
+-- negative (JVM specification 6.5.newarray, 6.5.anewarray)
 abbrev pub array_made : Option Object → List Value → MachineFrame → Heap → Effect (MachineFrame × Heap)
 array_made (Some array) below frame heap = makes array below frame heap
 array_made None below frame heap = Raise negative_array_size_exception
 
--- an array of so many zeros, and one of so many nulls; none of a negative number
+-- a new array of so many numbers that are 0; none where so many is negative
 abbrev pub zeros : Kind → ℤ → Option Object
 zeros kind (pos count) = Some (Nums kind (replicate count (pos 0)))
 zeros kind (negsuc count) = None
 
+-- a new array of so many references that are null; none where so many is negative
 abbrev pub nulls : Ty → ℤ → Option Object
 nulls element (pos count) = Some (Refs element (replicate count values.Null))
 nulls element (negsuc count) = None
 
--- newarray: the items are 0
+-- a new array of numbers of a kind is made (JVM specification 6.5.newarray)
 unfoldable pub newarray_effect : Kind → MachineFrame → Heap → Option (Effect (MachineFrame × Heap))
 newarray_effect kind frame heap = do
   count ← top_int frame.stack
   Some (array_made (zeros kind count.0) count.1 frame heap)
 
--- anewarray: the items are null
+-- a new array of references is made (JVM specification 6.5.anewarray)
 unfoldable pub anewarray_effect : Ty → MachineFrame → Heap → Option (Effect (MachineFrame × Heap))
 anewarray_effect element frame heap = do
   count ← top_int frame.stack
@@ -457,14 +478,14 @@ anewarray_effect element frame heap = do
 
 -- ---- arrays
 
--- the number of an array's items
+-- how many items an array has; none for an instance
 abbrev pub length_of : Object → Option ℕ
 length_of (Instance class fields) = None
 length_of (Nums kind items) = Some (length items)
 length_of (Refs element items) = Some (length items)
 
--- arraylength: the number is an int, since an array has at most 2147483647 items (section 6.5, newarray); what has more is no
--- array of the standard
+-- the number of an array's items is pushed. It is an int, since an array has at most 2147483647 items (JVM specification
+-- 6.5.arraylength, 6.5.newarray); what has more is no array of the standard
 unfoldable pub arraylength_effect : Heap → MachineFrame → Option (Effect MachineFrame)
 arraylength_effect heap frame = do
   array ← top_reference frame.stack
@@ -473,17 +494,19 @@ arraylength_effect heap frame = do
     small ← asked (nat_lt count 2147483648)
     Some (pushes (values.Int (pos count)) array.1 frame))
 
--- what is at an index, counted from 0
+-- the item at an index, counted from 0, if there is one
 abbrev pub item_at : {A : Type 0} → List A → ℤ → Option A
 item_at items (pos i) = slice_get items i
 item_at items (negsuc i) = None
 
--- what is done with what is at an index; where nothing is there, it throws
+-- what is done with the item at an index; where there is none, ArrayIndexOutOfBoundsException is thrown (JVM specification
+-- 6.5.iaload)
 abbrev pub on_item : {A X : Type 0} → Option A → (A → Effect X) → Effect X
 on_item None act = Raise array_index_out_of_bounds_exception
 on_item (Some item) act = act item
 
--- the kinds of arrays that an instruction is for: baload and bastore are for booleans and bytes
+-- an instruction is for arrays of a kind: baload and bastore are for those of booleans and of bytes (JVM specification
+-- 6.5.baload, 6.5.bastore)
 abbrev pub is_for : ItemKind → Kind → Bool
 is_for item_kinds.Int kinds.Int = true
 is_for item_kinds.Byte kinds.Boolean = true
@@ -504,7 +527,8 @@ references_in (Instance class fields) = None
 references_in (Nums kind items) = None
 references_in (Refs element items) = Some (element, items)
 
--- iaload, baload, caload, saload: null is tested before the index
+-- an item of an array of numbers is pushed; null is tested before the index (JVM specification 6.5.iaload, 6.5.baload,
+-- 6.5.caload, 6.5.saload)
 unfoldable pub number_load_effect : ItemKind → Heap → MachineFrame → Option (Effect MachineFrame)
 number_load_effect for heap frame = do
   index ← top_int frame.stack
@@ -513,7 +537,7 @@ number_load_effect for heap frame = do
     numbers ← numbers_in for object
     Some (on_item (item_at numbers.1 index.0) (λ n. pushes (values.Int n) array.1 frame)))
 
--- aaload
+-- an item of an array of references is pushed; null is tested before the index (JVM specification 6.5.aaload)
 unfoldable pub aaload_effect : Heap → MachineFrame → Option (Effect MachineFrame)
 aaload_effect heap frame = do
   index ← top_int frame.stack
@@ -522,17 +546,19 @@ aaload_effect heap frame = do
     references ← references_in object
     Some (on_item (item_at references.1 index.0) (λ value. pushes value array.1 frame)))
 
--- an index as a place among so many items
+-- an index as a place among so many items, if it is one
 abbrev pub index_below : ℕ → ℤ → Option ℕ
 index_below count (pos i) = if nat_lt i count then Some i else None
 index_below count (negsuc i) = None
 
--- the heap with an int put into an item of an array of numbers, which has this kind and these items
+-- a heap with an int put into an item of an array of numbers, which has this kind and these items, and keeps what its kind
+-- keeps
 abbrev pub with_number : Heap → ℕ → Kind × List ℤ → ℕ → ℤ → Heap
 with_number heap r numbers i value = record
     { objects = slice_set heap.objects r (Nums numbers.0 (slice_set numbers.1 i (narrowed numbers.0 value))) }
 
--- iastore, bastore, castore, sastore: the array keeps what its own kind keeps of the int
+-- an int is stored into an array of numbers, which keeps of it what its own kind keeps (JVM specification 6.5.iastore,
+-- 6.5.bastore, 6.5.castore, 6.5.sastore)
 unfoldable pub number_store_effect : ItemKind → MachineFrame → Heap → Option (Effect (MachineFrame × Heap))
 number_store_effect for frame heap = do
   value ← top_int frame.stack
@@ -542,7 +568,8 @@ number_store_effect for frame heap = do
     numbers ← numbers_in for object
     Some (on_item (index_below (length numbers.1) index.0) (λ i. Next (with_stack frame array.1, with_number heap r numbers i value.0))))
 
--- aastore: null is tested first, then the index, then the type
+-- a reference is stored into an array of references; null is tested first, then the index, then the type, where
+-- ArrayStoreException is thrown (JVM specification 6.5.aastore)
 unfoldable pub aastore_effect : WorldTypes → MachineFrame → Heap → Option (Effect (MachineFrame × Heap))
 aastore_effect types frame heap = do
   value ← top_reference frame.stack
@@ -558,14 +585,15 @@ aastore_effect types frame heap = do
 
 -- ---- casts
 
--- checkcast: null passes, and an object of the true type or below
+-- a reference passes that is null or to an object of a type or below it; else ClassCastException is thrown (JVM
+-- specification 6.5.checkcast)
 unfoldable pub checkcast_effect : WorldTypes → Ty → Heap → MachineFrame → Option (Effect MachineFrame)
 checkcast_effect types t heap frame = do
   value ← top_reference frame.stack
   passes ← is_null_or_below types heap t value.0
   Some (if passes then Next frame else Raise class_cast_exception)
 
--- instanceof: 1 or 0
+-- 1 is pushed for an object of a type or below it, and 0 for another object and for null (JVM specification 6.5.instanceof)
 unfoldable pub instanceof_effect : WorldTypes → Ty → Heap → MachineFrame → Option (Effect MachineFrame)
 instanceof_effect types t heap frame = do
   value ← top_reference frame.stack

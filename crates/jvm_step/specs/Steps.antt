@@ -27,8 +27,8 @@ use Rattle.jvm_step.specs.Running.{Step, work_of, applied, with_result, with_obj
 
 -- ---- what a step answers
 
--- The call has done a written step: where the run goes on, the state is the step's; where it ends, the call says how, and the
--- state is as it was. Of a state where the written step is stuck nothing is said.
+-- A call has done a step of the machine: where the run goes on, the state is the step's; where it ends, the call says how,
+-- and the state is as it was. Of a state where the machine is stuck nothing is said.
 abbrev pub Stepped : Step → Outcome → MachineState → MachineState → Type 0
 Stepped (Step.Going state) outcomes.Going old new = new ≡ state
 Stepped (Step.Returned value) (outcomes.Returned result) old new = (result ≡ value) × (new ≡ old)
@@ -36,17 +36,18 @@ Stepped (Step.Threw r) (outcomes.Threw thrown) old new = (thrown ≡ r) × (new 
 Stepped Step.Stuck outcome old new = Unit {0}
 Stepped step outcome old new = ⊥
 
--- the same of a call that may want memory, and then changes nothing
+-- a call has done a step of the machine, or it wants memory and has changed nothing
 abbrev pub Does : {E : Type 0} → Step → Result Outcome E → MachineState → MachineState → Type 0
 Does step (Ok outcome) old new = Stepped step outcome old new
 Does step (Err fault) old new = new ≡ old
 
--- the same wherever the written step is not stuck
+-- a call has done a step of the machine, or it wants memory and has changed nothing; where the machine is stuck nothing is
+-- said
 abbrev pub Steps : {E : Type 0} → Step → Result Outcome E → MachineState → MachineState → Type 0
 Steps Step.Stuck result old new = Unit {0}
 Steps step result old new = Does step result old new
 
--- what is left to do after an instruction makes an object or a frame, or gives a value to a caller
+-- what is left to do after an instruction makes an object or a frame, or gives a value to a caller, and so may want memory
 abbrev pub MayFail : After → Type 0
 MayFail afters.Next = ⊥
 MayFail (afters.Jump place) = ⊥
@@ -57,13 +58,13 @@ MayFail (afters.Return value) = Unit {0}
 
 -- ---- room
 
--- a frame's stack has room for as many values as its method says
+-- a frame's operand stack has room for as many values as its method says (JVM specification 2.6.2)
 abbrev pub HasRoom : List Method → Frame → Type 0
 HasRoom methods frame = (m : Method) → slice_get methods frame.method ≡ Some m → m.max_stack ≤ frame.stack.1
 
 -- ---- parts of a step
 
--- what an instruction works on, of the code's parts
+-- what an instruction works on, as parts of the code: the frame that runs it, the static fields and the heap
 abbrev pub work_seen : Frame → List Value → Heap → Work
 work_seen frame statics heap = record { frame = frame_of frame; statics = statics; heap = heap }
 
@@ -71,7 +72,7 @@ work_seen frame statics heap = record { frame = frame_of frame; statics = static
 abbrev pub form_at : Program → ℕ → ℕ → Option Form
 form_at p number pc = option_and_then form_of (op_at p.methods number pc)
 
--- what is left to do, as an effect on what there is
+-- what a call leaves to do, as an effect on what there is
 abbrev pub left_to_do : {X : Type 0} → After → X → Effect X
 left_to_do afters.Next x = Effect.Next x
 left_to_do (afters.Jump place) x = Effect.Jump place x
@@ -85,7 +86,7 @@ abbrev pub below_of : List MachineFrame → List MachineFrame
 below_of [] = []
 below_of (frame ∷ below) = below
 
--- a state whose running frame, static fields and heap are others
+-- a state with another running frame, other static fields and another heap
 abbrev pub with_work : MachineState → Work → MachineState
 with_work state work = record { frames = work.frame ∷ below_of state.frames; heap = work.heap; mode = state.mode; statics = work.statics }
 
@@ -94,7 +95,7 @@ abbrev pub effect_in : Program → Method → Form → MachineState → List Mac
 effect_in p m form state [] = None
 effect_in p m form state (frame ∷ below) = option_map (effect_on (with_work state)) (effect_of p m form (work_of state frame))
 
--- what is left to do, done to a state whose next instruction is at a place, if there is one
+-- what a call leaves to do, done to a state whose next instruction is at a place, if there is one
 abbrev pub applied_in : Program → Option ℕ → After → MachineState → List MachineFrame → Step
 applied_in p next after state [] = Step.Stuck
 applied_in p next after state (frame ∷ below) = unwrap_or
@@ -102,36 +103,39 @@ applied_in p next after state (frame ∷ below) = unwrap_or
 
 -- ---- changes of frames
 
--- the running frame changed
+-- the frames of a state with the running one changed
 abbrev pub frames_with : (MachineFrame → MachineFrame) → List MachineFrame → List MachineFrame
 frames_with change [] = []
 frames_with change (frame ∷ below) = change frame ∷ below
 
--- its caller changed
+-- the frames of a state with the running one's caller changed
 abbrev pub callers_with : (MachineFrame → MachineFrame) → List MachineFrame → List MachineFrame
 callers_with change [] = []
 callers_with change (frame ∷ below) = frame ∷ frames_with change below
 
--- a frame goes on at a place; its stack is emptied; so many values are taken from it
+-- a frame that goes on at a place
 abbrev pub at_place : ℕ → MachineFrame → MachineFrame
 at_place place frame = record frame { pc = place }
 
+-- a frame with an empty operand stack
 abbrev pub emptied : MachineFrame → MachineFrame
 emptied frame = record frame { stack = [] }
 
+-- a frame without so many values from the top of its operand stack
 abbrev pub without_top : ℕ → MachineFrame → MachineFrame
 without_top count frame = record frame { stack = drop count frame.stack }
 
--- a call of a frame has returned: the frame goes on at a place with the result on its stack
+-- a frame to which a call has returned: it goes on at a place with the result on its operand stack
 abbrev pub given : ℕ → Option Value → MachineFrame → MachineFrame
 given place value frame = record frame { pc = place; stack = with_result value frame.stack }
 
--- a handler of a frame begins with the thrown object
+-- a frame in which a handler begins: at a place, with the thrown object alone on its operand stack
 abbrev pub handling : ℕ → ℕ → MachineFrame → MachineFrame
 handling place r frame = record frame { pc = place; stack = values.Ref r ∷ [] }
 
 -- ---- changes of states
 
+-- a state whose running frame goes on at a place, in normal mode
 abbrev pub going_at : ℕ → MachineState → MachineState
 going_at place state = record {
   frames = frames_with (at_place place) state.frames;
@@ -141,10 +145,11 @@ going_at place state = record {
       state.statics;
 }
 
+-- a state in which an object is thrown: the running frame's operand stack is emptied, and the mode is throwing
 abbrev pub thrown_in : ℕ → MachineState → MachineState
 thrown_in r state = record { frames = frames_with emptied state.frames; heap = state.heap; mode = Throwing r; statics = state.statics }
 
--- a new object is at the heap's end, and is thrown
+-- a state in which a new object, put at the heap's end, is thrown
 abbrev pub raised_in : Object → MachineState → MachineState
 raised_in object state = record {
   frames = frames_with emptied state.frames;
@@ -154,7 +159,7 @@ raised_in object state = record {
   statics = state.statics;
 }
 
--- a frame runs whose arguments so many values were on its caller's stack
+-- a state in which a new frame runs, whose arguments were so many values on its caller's operand stack
 abbrev pub called_in : MachineFrame → ℕ → MachineState → MachineState
 called_in frame count state = record {
   frames = frame ∷ frames_with (without_top count) state.frames;
@@ -164,6 +169,7 @@ called_in frame count state = record {
   statics = state.statics;
 }
 
+-- a state after the running frame has returned: it is gone, and its caller goes on at a place with the result
 abbrev pub returned_in : ℕ → Option Value → MachineState → MachineState
 returned_in place value state = record {
   frames = below_of (callers_with (given place value) state.frames);
@@ -173,6 +179,7 @@ returned_in place value state = record {
   statics = state.statics;
 }
 
+-- a state in which a handler of the running frame begins with the thrown object, in normal mode
 abbrev pub handled_at : ℕ → ℕ → MachineState → MachineState
 handled_at place r state = record {
   frames = frames_with (handling place r) state.frames;
@@ -182,6 +189,8 @@ handled_at place r state = record {
       = state.statics;
 }
 
+-- a state after nothing in the running frame took the thrown object: the frame is gone, and its caller's operand stack is
+-- emptied
 abbrev pub unwound_in : MachineState → MachineState
 unwound_in state = record {
   frames = frames_with emptied (below_of state.frames);
@@ -191,12 +200,14 @@ unwound_in state = record {
       state.statics;
 }
 
--- what a handler that was found, or none, makes of a state; nothing where no frame runs
+-- what an entry of an exception table, found or not, makes of a state in which an object is thrown; stuck where no frame
+-- runs
 abbrev pub handled_in : MachineState → ℕ → Option CatchRange → List MachineFrame → Step
 handled_in state r found [] = Step.Stuck
 handled_in state r found (frame ∷ below) = handled state r frame below found
 
--- the entry of the running method's table that takes an object, if one does; nothing where method or object isn't there
+-- the entry of the running method's exception table that takes an object, if one does; none where method or object is not
+-- there
 unfoldable pub handler_in : Program → MachineState → ℕ → List MachineFrame → Option (Option CatchRange)
 handler_in p state r [] = None
 handler_in p state r (frame ∷ below) = do
@@ -211,16 +222,16 @@ form_here p frame = do
   form ← form_of here.0
   Some (form, here.1)
 
--- a form that is borrowed, with the place of the next instruction
+-- a form that the code borrows, with the place of the next instruction
 abbrev pub here_seen : FormSeen × Option ℕ → Form × Option ℕ
 here_seen x = (form_seen x.0, x.1)
 
--- the form of the instruction that runs
+-- the form of the running frame's instruction
 abbrev pub form_in : Program → List MachineFrame → Option Form
 form_in p [] = None
 form_in p (frame ∷ below) = form_at p frame.method frame.pc
 
--- the running frame's instruction, in a method, has a form, and the next one is at a place, if there is one
+-- the running frame's instruction, in a method, has a form, and the next instruction is at a place, if there is one
 abbrev pub IsRunning : Program → List MachineFrame → Method → Form → Option ℕ → Type 0
 IsRunning p [] m form next = ⊥
 IsRunning p (frame ∷ below) m form next = (slice_get p.methods frame.method ≡ Some m) × (form_here p frame ≡ Some (form, next))

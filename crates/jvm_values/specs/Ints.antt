@@ -15,23 +15,24 @@ use Rattle.jvm_values.specs.Kinds.{narrowed}
 abbrev pub shift_count : ℤ → ℕ
 shift_count right = cast_unsigned w32 right % 32
 
--- the quotient rounded toward zero, where the divisor is not 0; MIN / -1 is MIN
+-- the quotient rounded toward zero, where the divisor is not 0; that of the least int by -1 is the least int (section
+-- 6.5.idiv)
 abbrev pub int_quotient : ℤ → ℤ → Option ℤ
 int_quotient left right = if int_eq right (pos 0) then None else Some (int_wrap w32 (int_div left right))
 
--- the remainder of that division, which has the dividend's sign
+-- the remainder of that division, which has the dividend's sign (section 6.5.irem)
 abbrev pub int_remainder : ℤ → ℤ → Option ℤ
 int_remainder left right = if int_eq right (pos 0) then None else Some (int_rem left right)
 
--- the product with a power of two, wrapped
+-- the product with a power of two, wrapped (section 6.5.ishl)
 abbrev pub int_shifted_left : ℤ → ℤ → ℤ
 int_shifted_left left right = int_wrap w32 (left *ℤ pos (2 ^ shift_count right))
 
--- the quotient by a power of two, rounded down
+-- the quotient by a power of two, rounded down (section 6.5.ishr)
 abbrev pub int_shifted_right : ℤ → ℤ → ℤ
 int_shifted_right left right = int_shr left (shift_count right)
 
--- the same of the 32 bits as a number without a sign
+-- the 32 bits, read as a number without a sign, divided by a power of two and rounded down (section 6.5.iushr)
 abbrev pub int_shifted_right_with_zeros : ℤ → ℤ → ℤ
 int_shifted_right_with_zeros left right = cast_signed w32 (cast_unsigned w32 left / 2 ^ shift_count right)
 
@@ -50,7 +51,7 @@ int_result Or left right = Some (int_bit_or w32 left right)
 int_result Xor left right = Some (int_bit_xor w32 left right)
 int_result (Narrow kind) left right = Some (narrowed kind left)
 
--- a condition holds between two ints
+-- a condition holds between two ints (section 6.5.if_icmp<cond>)
 abbrev pub cond_holds : Cond → ℤ → ℤ → Bool
 cond_holds Eq left right = int_eq left right
 cond_holds Ne left right = not (int_eq left right)

@@ -27,7 +27,7 @@ kind_of_letter letter =
     else if letter == 73 then Some Int
     else None
 
--- the least and the greatest number of a kind (JVM specification, section 2.3)
+-- the least number of a kind (JVM specification, section 2.3)
 abbrev pub least_of : Kind → ℤ
 least_of Boolean = pos 0
 least_of Char = pos 0
@@ -35,6 +35,7 @@ least_of Byte = negsuc 127
 least_of Short = negsuc 32767
 least_of Int = negsuc 2147483647
 
+-- the greatest number of a kind (JVM specification, section 2.3)
 abbrev pub greatest_of : Kind → ℤ
 greatest_of Boolean = pos 1
 greatest_of Char = pos 65535
@@ -46,7 +47,8 @@ greatest_of Int = pos 2147483647
 abbrev pub IsOfKind : Kind → ℤ → Type 0
 IsOfKind kind n = (least_of kind ≤ℤ n) × (n ≤ℤ greatest_of kind)
 
--- what is kept of an int: the lowest bit of a boolean, and else the number of the kind that is congruent to it
+-- what a field or an array item of a kind keeps of an int: the lowest bit of a boolean (JVM specification, section
+-- 6.5.bastore), and else the number of the kind that is congruent to it (sections 6.5.i2b, 6.5.i2c and 6.5.i2s)
 abbrev pub narrowed : Kind → ℤ → ℤ
 narrowed Boolean n = int_rem_euclid n (pos 2)
 narrowed Char n = int_rem_euclid n (pos 65536)

@@ -27,10 +27,11 @@ pub record MachineState : Type 0 where
 abbrev pub locals_from : {A B : Type 0} → (A → B) → B → ℕ → List A → List B
 locals_from set unset room arguments = map set arguments ++ replicate (room - length arguments) unset
 
--- what a frame and a state of the code are to the written machine
+-- a frame of the code as one of the written machine, whose stack is a list without room
 abbrev pub frame_of : Frame → MachineFrame
 frame_of frame = record { method = frame.method; pc = frame.pc; locals = frame.locals; stack = frame.stack.0 }
 
+-- a state of the code as one of the written machine, its frames those of the running calls
 abbrev pub state_of : State → MachineState
 state_of state = record { frames = map frame_of state.frames.0; heap = state.heap; mode = state.mode; statics = state.statics }
 
@@ -39,5 +40,6 @@ pub record PlaceTypes : Type 0 where
   pub locals : List PlaceType
   pub stack : List PlaceType
 
+-- the types of a frame's places as lists, its stack without room
 abbrev pub types_of : FrameType → PlaceTypes
 types_of frame = record { locals = frame.locals; stack = frame.stack.0 }

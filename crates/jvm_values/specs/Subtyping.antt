@@ -25,12 +25,14 @@ array_of_numbers kind = record { dims = 1; base = Num kind }
 abbrev pub array_of : Ty → Ty
 array_of t = record { dims = t.dims + 1; base = t.base }
 
--- a reference type of a world of so many classes: a class of it, or an array of at most 255 dimensions (JVM
--- specification, sections 2.4 and 4.3.2)
+-- the base of a reference type of so many array dimensions: a class of the world, or numbers of a kind, over which
+-- there is at least one dimension
 abbrev pub IsReferenceBase : ℕ → ℕ → Base → Type 0
 IsReferenceBase classes dims (Class class) = class < classes
 IsReferenceBase classes dims (Num kind) = 0 < dims
 
+-- a reference type of a world of so many classes: a class of it, or an array of at most 255 dimensions (JVM
+-- specification, sections 2.4 and 4.3.2)
 abbrev pub IsReference : ℕ → Ty → Type 0
 IsReference classes t = (t.dims ≤ 255) × IsReferenceBase classes t.dims t.base
 
@@ -39,7 +41,7 @@ abbrev pub IsSlot : ℕ → Slot → Type 0
 IsSlot classes (slots.Num kind) = Unit {0}
 IsSlot classes (slots.Ref t) = IsReference classes t
 
--- a type that stands for what it is in assignments: no interface, under array dimensions neither
+-- a type stands for itself in assignments: it is no interface, and no array whose items are interfaces
 abbrev pub IsErased : (Ty → Ty) → Ty → Type 0
 IsErased erase t = erase t ≡ t
 

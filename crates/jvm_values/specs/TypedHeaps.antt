@@ -21,10 +21,12 @@ pub record WorldTypes : Type 0 where
   pub fields : ℕ → List Slot
   pub can_be_made : ℕ → Bool
 
--- the laws of subtypes hold for them
+-- what a world tells of its types obeys the laws of subtypes
 abbrev pub AreLawful : WorldTypes → Type 0
 AreLawful types = SubtypeLaws types.sub types.erase types.classes types.fields types.can_be_made
 
+-- a relation of subtypes, an erasure, the number of classes, their fields, and which can be made, as what a world
+-- tells
 abbrev pub world_types : (Ty → Ty → Bool) → (Ty → Ty) → ℕ → (ℕ → List Slot) → (ℕ → Bool) → WorldTypes
 world_types sub erase classes fields can_be_made = record
     { sub = sub; erase = erase; classes = classes; fields = fields; can_be_made = can_be_made }
@@ -49,8 +51,8 @@ Holds types heap (slots.Num kind) values.Null = ⊥
 Holds types heap (slots.Num kind) (values.Ref r) = ⊥
 Holds types heap (slots.Ref t) value = HasType types heap value (types.erase t)
 
--- an object of a class that can be made, with a value for each of its fields; or an array of at most 2^31 - 1 items, each of the array's own
--- kind or type (JVM specification, sections 2.4 and 6.5, `newarray`)
+-- an object of a class that can be made, with a value for each of its fields; or an array of at most 2^31 - 1 items,
+-- each of the array's own kind or type (JVM specification, sections 2.4, 6.5.newarray and 6.5.anewarray)
 abbrev pub IsTypedObject : WorldTypes → Heap → Object → Type 0
 IsTypedObject types heap (Instance class fields) = (class < types.classes)
     × (IsTrue (types.can_be_made class) × AllZip (Holds types heap) (types.fields class) fields)
@@ -58,7 +60,7 @@ IsTypedObject types heap (Nums kind items) = (length items ≤ 2147483647) × Al
 IsTypedObject types heap (Refs element items) = (length items ≤ 2147483647)
     × ((element.dims < 255) × (IsReference types.classes element × All (λ value. HasType types heap value element) items))
 
--- every object is
+-- every object of a heap has what its class or its array type asks for
 abbrev pub IsTypedHeap : WorldTypes → Heap → Type 0
 IsTypedHeap types heap = All (IsTypedObject types heap) heap.objects
 

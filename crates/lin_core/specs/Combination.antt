@@ -46,6 +46,7 @@ fault_at_row n by None = Some (BadIndex n)
 fault_at_row n by (Some row) =
     if nat_lt (2 ^ 31) (unsigned_abs by) then Some (Limit n) else (if may_multiply by row.kind then None else Some (NegativeMultiplier n))
 
+-- the rule that an entry, a row's index and its multiplier, breaks first, if any
 abbrev pub fault_of_entry : List Row → ℕ → ℕ × ℤ → Option LinFault
 fault_of_entry rows n entry = fault_at_row n entry.1 (slice_get rows entry.0)
 
@@ -77,6 +78,7 @@ IsAllowedAt IsZero by = Unit {0}
 abbrev pub IsAllowed : List Row → ℕ × ℤ → Type 0
 IsAllowed rows entry = (row : Row) × (slice_get rows entry.0 ≡ Some row) × IsAllowedAt row.kind entry.1
 
+-- every entry names a row that is there, and its multiplier may stand at that row
 abbrev pub AllAllowed : List Row → List (ℕ × ℤ) → Type 0
 AllAllowed rows [] = Unit {0}
 AllAllowed rows (entry ∷ rest) = IsAllowed rows entry × AllAllowed rows rest

@@ -16,9 +16,11 @@ is_nonzero (pos zero) = false
 is_nonzero (pos (suc n)) = true
 is_nonzero (negsuc n) = true
 
+-- the coefficients that the cells hold in a round, one for each variable
 abbrev pub coefficients_of : List Cell → ℕ → List ℤ
 coefficients_of cells round = map (worth_in round) cells
 
+-- the sum that is kept in the cells: the coefficients of the present round, and the constant
 abbrev pub sum_of_cells : Inside → Sum
 sum_of_cells inside = record { coefficients = coefficients_of inside.cells.items inside.round; constant = inside.constant }
 

@@ -25,6 +25,7 @@ value_of_terms numbers (term ∷ rest) = term.1 *ℤ numbers term.0 +ℤ value_o
 abbrev pub value_of_row : (ℕ → ℤ) → Row → ℤ
 value_of_row numbers row = value_of_terms numbers row.terms +ℤ row.constant
 
+-- the value of a target: its terms and its constant
 abbrev pub value_of_target : (ℕ → ℤ) → Target → ℤ
 value_of_target numbers target = value_of_terms numbers target.terms +ℤ target.constant
 
@@ -37,6 +38,7 @@ IsOfKind IsZero value = value ≡ pos 0
 abbrev pub Holds : (ℕ → ℤ) → Row → Type 0
 Holds numbers row = IsOfKind row.kind (value_of_row numbers row)
 
+-- all rows hold where the variables stand for these numbers
 abbrev pub AllHold : (ℕ → ℤ) → List Row → Type 0
 AllHold numbers rows = All (λ (row : Row). Holds numbers row) rows
 
@@ -49,5 +51,6 @@ RiseFrom low end (term ∷ rest) = (low ≤ term.0) × (term.0 < end) × RiseFro
 abbrev pub Rise : ℕ → List (ℕ × ℤ) → Type 0
 Rise end terms = RiseFrom 0 end terms
 
+-- in each row the variables rise and are below `end`
 abbrev pub AllRise : ℕ → List Row → Type 0
 AllRise end rows = All (λ (row : Row). Rise end row.terms) rows

@@ -17,6 +17,7 @@ unweighed class = pos 0
 abbrev pub row_under : (ℕ → ℤ) → WRow → Row
 row_under weigh row = record { kind = row.kind; terms = row.terms; constant = row.constant +ℤ value_of_terms weigh row.weights }
 
+-- what some rows say where classes weigh so much
 abbrev pub rows_under : (ℕ → ℤ) → List WRow → List Row
 rows_under weigh rows = map (row_under weigh) rows
 
@@ -29,6 +30,7 @@ total_size (multiple ∷ rest) = unsigned_abs multiple.1 + total_size rest
 abbrev pub IsWeight : ℕ × ℤ → Type 0
 IsWeight weight = (pos 0 ≤ℤ weight.1) × (weight.1 ≤ℤ pos 65535)
 
+-- every weight of a list is from 0 to 65,535
 abbrev pub AreWeights : List (ℕ × ℤ) → Type 0
 AreWeights weights = All IsWeight weights
 
@@ -39,5 +41,6 @@ pub record IsRow (end : ℕ) (row : WRow) : Type 0 where
   pub constant : unsigned_abs row.constant ≤ 2 ^ 40
   pub weights : total_size row.weights ≤ 2 ^ 40
 
+-- every row of a list keeps the limits of a row over the variables below `end`
 abbrev pub AreRows : ℕ → List WRow → Type 0
 AreRows end rows = All (λ (row : WRow). IsRow end row) rows

@@ -4,6 +4,7 @@ use Rattle.std.specs.Prelude.{◌≡◌, Bool, List, [], ◌∷◌, Option, Some
 -- ---- steps
 
 infixl 10 ◌>>=◌
+-- one step and then the next, which is given what the first one answered; the fault of the first is the fault of both
 abbrev pub ◌>>=◌ : {A B E : Type 0} → Result A E → (A → Result B E) → Result B E
 (Ok x) >>= next = next x
 (Err fault) >>= next = Err fault

@@ -13,7 +13,7 @@ pub record Front : Type 0 where
 abbrev pub is_open : List Bool → ℕ → Bool
 is_open marks b = nat_lt b (length marks) && not (slice_index_or marks b false)
 
--- a number is come to
+-- a walk comes to a number: an open one is marked, and put behind those that are still to be gone on from
 abbrev pub come : ℕ → Front → Front
 come b front = if is_open front.marks b then record { marks = slice_set front.marks b true; todo = front.todo ++ b ∷ [] } else front
 

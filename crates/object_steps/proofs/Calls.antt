@@ -44,7 +44,7 @@ use Rattle.jvm_step.specs.Operands.{is_null, reference_of, top_reference, object
 use Rattle.jvm_step.specs.Table.{Work, effect_of, on_frame}
 use Rattle.jvm_step.specs.Running.{Step, step, new_frame, entered, invokes as machine_invokes}
 use Rattle.term_graph.specs.Edges.{HoldsBetween}
-use Rattle.abs_expand.specs.Building.{HoldsIds}
+use Rattle.abs_expand.specs.inner.Building.{HoldsIds}
 use Rattle.abs_expand.specs.Needs.{need_null}
 use Rattle.abs_expand.specs.Plans.{Turn, Plan, steps, no_child, no_rows}
 use Rattle.abs_expand.specs.Table.{cell_here, is_null_here, unless_null, accessed, one_step, called_frame, invokes, runs_or_lacks}

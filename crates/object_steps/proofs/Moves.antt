@@ -55,7 +55,7 @@ use Rattle.jvm_run.proofs.Placed.{asked_is}
 use Rattle.term_graph.specs.Edges.{HoldsBetween}
 use Rattle.term_graph.specs.declared.links.LinkRow.{LinkRow}
 use Rattle.abs_expand.specs.Plans.{on_stack, in_local, makes, Turn, Plan, steps, no_rows}
-use Rattle.abs_expand.specs.Building.{HoldsIds}
+use Rattle.abs_expand.specs.inner.Building.{HoldsIds}
 use Rattle.abs_expand.specs.Switches.{table_keys, lookup_keys}
 use Rattle.abs_expand.specs.Table.{local_here, step_if, one_step, unary, binary, load_plan, store_plan, increment_plan}
 use Rattle.abs_expand.specs.Table.{negation_plan, narrow_plan, switch_plan, number_cell}
@@ -65,7 +65,7 @@ use Rattle.form_steps.proofs.SomeOf.{SomeOf, some_one, some_of_map}
 use Rattle.form_steps.proofs.Keys.{key_target, lookup_target, table_target}
 use Rattle.form_steps.proofs.Effects.{constant_is, goto_is, sets_is, sets_none, shuffle_is, arith_is, ineg_is, narrow_is, if_is}
 use Rattle.form_steps.proofs.Effects.{if_icmp_is, table_is, lookup_is, shuffled_values}
-use Rattle.form_steps.specs.Laws.{IsPlainCell}
+use Rattle.form_steps.specs.inner.Lows.{IsPlainCell}
 use Rattle.form_steps.proofs.Tops.{stacked, local_set}
 use Rattle.form_steps.proofs.Standing.{Stands, onward, here, Work_, held, going, no_frame_effect, goes_after, goes_next, goes_to}
 use Rattle.form_steps.proofs.Standing.{raises_frame}

@@ -25,7 +25,7 @@ use Rattle.jvm_step.specs.Table.{Work, effect_of, on_frame}
 use Rattle.jvm_step.specs.Running.{Step, step, with_result, returns, IsEnd}
 use Rattle.term_graph.specs.Edges.{HoldsBetween}
 use Rattle.abs_expand.specs.Plans.{Plan, no_rows}
-use Rattle.abs_expand.specs.Building.{HoldsIds}
+use Rattle.abs_expand.specs.inner.Building.{HoldsIds}
 use Rattle.abs_expand.specs.Table.{step_if, returned_to, value_plan}
 use Rattle.abs_expand.specs.Turns.{moves}
 use Rattle.form_steps.proofs.Tops.{FitFrames, tops, from_tops, stacked}

@@ -35,7 +35,7 @@ use Rattle.jvm_step.specs.Operands.{top, is_passed, kept}
 use Rattle.jvm_step.specs.Table.{effect_of, on_frame, on_statics}
 use Rattle.jvm_step.specs.Running.{Step, step}
 use Rattle.term_graph.specs.Edges.{HoldsBetween}
-use Rattle.abs_expand.specs.Building.{HoldsIds}
+use Rattle.abs_expand.specs.inner.Building.{HoldsIds}
 use Rattle.abs_expand.specs.Plans.{in_bottom, makes, Turn, Plan, no_child, no_rows}
 use Rattle.abs_expand.specs.Table.{step_if, bottom_of, bottom_with, static_local, locals_of_method, getstatic_plan, put_static}
 use Rattle.abs_expand.specs.Table.{putstatic_plan}

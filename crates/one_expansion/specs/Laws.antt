@@ -18,8 +18,8 @@ ChildrenAreOne =
     → AreExpanded (types_of p.world) state (plan_of p typing state) children
     → AreExpanded (types_of p.world) state (plan_of p typing state) others → children ≡ others
 
--- An expansion has one answer, but for want of memory: never two of an end, children, a clause that the state breaks, and a child with too
--- many ids; and one of each.
+-- An expansion has one answer, but for want of memory. It never has two of these: an end, children, a clause that the state breaks, and a
+-- child with too many ids; and of each it has one alone.
 abbrev pub AnswersAreOne : Type 0
 AnswersAreOne =
     (p : Program) (typing : ℕ → CodeTypes) (state : AbstractState) (one other : Result (Option (List GraphChild)) ExpandFault)

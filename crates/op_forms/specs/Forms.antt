@@ -27,8 +27,8 @@ use Rattle.op_forms.specs.declared.form.Form.TheVariants as seen
 
 -- ---- the forms
 
--- Ints and locals stand as the widest spelling has them, targets are places, and a call, a field or a type is what the
--- instruction's names stand for.
+-- What an instruction does, whatever its spelling (JVM specification, section 6.5). Ints and locals stand as the widest spelling has
+-- them, targets are places, and a call, a field or a type is what the instruction's names stand for.
 pub data Form : Type 0 where
   Nop : Form
   AconstNull : Form
@@ -74,7 +74,7 @@ pub data Form : Type 0 where
   Checkcast : Ty → Form
   Instanceof : Ty → Form
 
--- what a form is that code has, whose operands may be borrowed
+-- the form that the code has, whose operands may be borrowed, as the definitions have it
 abbrev pub form_seen : FormSeen → Form
 form_seen seen.Nop = Nop
 form_seen seen.AconstNull = AconstNull
@@ -122,11 +122,13 @@ form_seen (seen.Instanceof x) = Instanceof x
 
 -- ---- the form of an instruction
 
--- of `newarray` with a code
+-- the form of `newarray` with this code of a kind of numbers; none for long, float and double (JVM specification, section
+-- 6.5.newarray)
 abbrev pub number_array : ℕ → Option Form
 number_array code = option_map Newarray (kind_of_code code)
 
--- of an instruction that names no pool entry, and makes no array of long, float or double
+-- the form of an instruction that names no pool entry; none for one that names an entry, and for one that makes an array of long,
+-- float or double
 abbrev pub form_of_insn : Insn → Option Form
 form_of_insn insns.Nop = Some Nop
 form_of_insn insns.AconstNull = Some AconstNull
@@ -227,7 +229,7 @@ form_of_insn (insns.WideAstore local) = Some (Astore local)
 form_of_insn (insns.WideIinc local by) = Some (Iinc local by)
 form_of_insn _ = None
 
--- An instruction of a closed program has a form.
+-- the form of an instruction whose names are resolved; every instruction of a closed program has one
 abbrev pub form_of : Op → Option Form
 form_of (ops.Plain insn) = form_of_insn insn
 form_of (ops.Constant value) = Some (Iconst value)
@@ -246,8 +248,9 @@ form_of (ops.Instanceof t) = Some (Instanceof t)
 
 -- ---- reordering a stack
 
--- What a shuffle makes of a stack of anything, seen top first; none where there is too little on it. Every value has one
--- word, so of the rules of the standard those for values of one word hold.
+-- What an instruction that reorders the stack makes of a stack of anything, seen top first; none where there is too little on it.
+-- Every value has one word, so of the rules of the standard those for values of one word hold (JVM specification, section 6.5: pop,
+-- pop2, dup, dup_x1, dup_x2, dup2, dup2_x1, dup2_x2 and swap).
 abbrev pub shuffled : {A : Type 0} → StackShuffle → List A → Option (List A)
 shuffled Pop (a ∷ below) = Some below
 shuffled Pop2 (a ∷ b ∷ below) = Some below

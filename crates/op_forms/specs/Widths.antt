@@ -8,13 +8,14 @@ use Rattle.class_program.specs.Widths.{HasWidths}
 use Rattle.op_forms.specs.Forms.{Form, form_of}
 use Rattle.op_forms.specs.Forms.Form.{Iconst, Iinc}
 
--- The number that a form pushes is an int, and the number that it adds to a local is one of 16 bits.
+-- the int that a form pushes is one of 32 bits, and the number that it adds to a local one of 16 (JVM specification, sections 6.5 and
+-- 6.5.iinc)
 abbrev pub IsFormInWidth : Form → Type 0
 IsFormInWidth (Iconst n) = IsOfKind kinds.Int n
 IsFormInWidth (Iinc local by) = IsOfKind kinds.Short by
 IsFormInWidth _ = Unit {0}
 
--- What stands at a place of a program has a form with such numbers, where the program's numbers are of their fields' widths.
+-- Where the numbers of a program are of their fields' widths, so are those of the form of each of its instructions.
 abbrev pub FormsAreInWidth : Type 0
 FormsAreInWidth =
     (p : Program) → HasWidths p → (number pc : ℕ) (op : Op) (next : Option ℕ) → insn_at p.methods number pc ≡ Some (op, next)

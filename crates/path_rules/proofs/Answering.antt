@@ -13,9 +13,10 @@ use Rattle.path_rules.specs.declared.fault.PathFault.TheVariants.{Uncut, TooMany
 use Rattle.path_rules.specs.declared.ways.Ways.{Ways}
 use Rattle.path_rules.specs.Paths.{IsLeastUncut, IsCut}
 use Rattle.path_rules.specs.Answers.{Answers}
-use Rattle.path_rules.specs.Building.{AreRulesOr}
+use Rattle.path_rules.specs.inner.Building.{AreRulesOr}
 use Rattle.path_rules.specs.Conditions.{IsReady}
-use Rattle.path_rules.specs.Ways.{AreMarks, inner_row, AreCounts, counted_on, lists_of, AreWaysOf, IsMapped, IsRanked}
+use Rattle.path_rules.specs.Successors.{AreMarks, inner_row, lists_of}
+use Rattle.path_rules.specs.inner.Ways.{AreCounts, counted_on, AreWaysOf, IsMapped, IsRanked}
 use Rattle.path_rules.proofs.Cycles.{least_uncut, is_all_cut}
 use Rattle.path_rules.proofs.Ruling.{too_many}
 

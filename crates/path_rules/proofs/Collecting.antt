@@ -12,7 +12,7 @@ use Rattle.lin_core.specs.Weights.{total_size}
 use Rattle.term_graph.specs.declared.links.Side.{Side}
 use Rattle.abs_cells.specs.AbstractStates.{AbstractState}
 use Rattle.term_enc.specs.Sizes.{unless_zero, with_term, collected}
-use Rattle.path_rules.specs.Building.{size_of_terms, is_term_of, variable_by}
+use Rattle.path_rules.specs.inner.Building.{size_of_terms, is_term_of, variable_by}
 
 -- a term comes behind the first so many
 abbrev pub IsSplit : ℕ → List (ℕ × ℤ) → ℕ → Type 0

@@ -6,7 +6,8 @@ use Rattle.std.proofs.lemmas.Bool.{ltb-true, ltb-false, cases_lt}
 use Rattle.std.proofs.lemmas.List.{length-append, length-map}
 use Rattle.list_views.proofs.Orders.{zero_before}
 use Rattle.number_graphs.specs.Lists.{Has, row_at, Edge, Fall}
-use Rattle.path_rules.specs.Ways.{has_mark, inner_row, ways_by, AreWays, counted, counted_on, count_over, count_row, most_of, AreCounts}
+use Rattle.path_rules.specs.Successors.{has_mark, inner_row, most_of}
+use Rattle.path_rules.specs.inner.Ways.{ways_by, AreWays, counted, counted_on, count_over, count_row, AreCounts}
 
 -- ---- counted numbers
 

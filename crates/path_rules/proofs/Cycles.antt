@@ -8,7 +8,7 @@ use Rattle.number_graphs.specs.Lists.{row_at, Edge, Fall}
 use Rattle.number_graphs.proofs.Falling.{no_cycle}
 use Rattle.term_graph.specs.Graphs.{GraphNode}
 use Rattle.path_rules.specs.Paths.{IsUncut, IsLeastUncut, IsCut, inner_edges, edges, is_cut}
-use Rattle.path_rules.specs.Ways.{AreMarks, inner_row, lists_of}
+use Rattle.path_rules.specs.Successors.{AreMarks, inner_row, lists_of}
 use Rattle.path_rules.proofs.Counted.{inner_edge, edge_inner}
 use Rattle.path_rules.proofs.Picking.{has_at, at_has}
 use Rattle.path_rules.proofs.Whole.{row_is}

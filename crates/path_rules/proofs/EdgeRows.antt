@@ -20,7 +20,8 @@ use Rattle.term_graph.specs.Edges.{id_after, is_size_variable}
 use Rattle.path_rules.specs.Stops.{Leg, child, instance, leg_by, pattern_in}
 use Rattle.path_rules.specs.Rules.{tie, has_int, ids_with, link_row, rows_of_size, image_row, image_size_row, variable_of}
 use Rattle.path_rules.specs.Rules.{rows_of_child, rows_of_instance, rows_of_leg}
-use Rattle.path_rules.specs.Sizing.{sized, sizes_of, size_at, rows_of_image}
+use Rattle.path_rules.specs.inner.Sizing.{sized, sizes_of, rows_of_image}
+use Rattle.path_rules.specs.Sizing.{size_at}
 use Rattle.path_rules.proofs.Sized.{sizes_at}
 
 same_rows : (f g : ℕ → List WRow) (ids : List ℕ) → ((id : ℕ) → f id ≡ g id) → flat_map f ids ≡ flat_map g ids

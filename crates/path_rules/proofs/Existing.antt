@@ -2,7 +2,8 @@
 use Rattle.std.proofs.Common.{◌≡◌, inl, inr, ℕ, zero, suc, ◌<◌, Bool, true, false, cond, List, [], ◌∷◌, ◌++◌, map, get_or}
 use Rattle.std.proofs.Common.{ap, arith, refl, ◌∙◌}
 use Rattle.number_graphs.specs.Lists.{Has, row_at, Fall}
-use Rattle.path_rules.specs.Ways.{has_mark, inner_row, ways_by, ways_within, ways_of, AreWays}
+use Rattle.path_rules.specs.Successors.{has_mark, inner_row}
+use Rattle.path_rules.specs.inner.Ways.{ways_by, ways_within, ways_of, AreWays}
 use Rattle.path_rules.proofs.Counted.{ways_over, inner_edge}
 
 -- rows have the same ways where their nodes have

@@ -35,7 +35,7 @@ use Rattle.path_rules.specs.Rules.{has_int, variable_at, link_row, rows_of_child
 use Rattle.path_rules.specs.Rules.{rows_of_leg, variables_after, rows_along, last_along, int_slot, size_slot, slots_of, rule_over}
 use Rattle.path_rules.specs.Conditions.{IsTermBetween, IsRowBetween, IsLinkBetween, IsMapBetween, IsReady}
 use Rattle.path_rules.specs.Conditions.{IsBounded, AreBounded}
-use Rattle.path_rules.specs.Building.{AllBounded, HasRides}
+use Rattle.path_rules.specs.inner.Building.{AllBounded, HasRides}
 use Rattle.path_rules.proofs.Adding.{few_classes}
 use Rattle.path_rules.proofs.Collecting.{total_with}
 use Rattle.path_rules.proofs.Finding.{IsSuffix, whole_suffix, suffix_first, suffix_rest, have_sort, int_variable, size_variable}

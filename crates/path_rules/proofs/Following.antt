@@ -8,7 +8,7 @@ use Rattle.list_views.proofs.Orders.{one_more}
 use Rattle.jvm_values.proofs.Options.{some_is}
 use Rattle.term_graph.specs.declared.nodes.By.{By}
 use Rattle.term_graph.specs.Graphs.{GraphNode, successors}
-use Rattle.path_rules.specs.Ways.{lists_of}
+use Rattle.path_rules.specs.Successors.{lists_of}
 
 -- a node of that number is left so
 abbrev pub IsLeft : List GraphNode → ℕ → By → Type 0
@@ -29,7 +29,7 @@ one_listed graph n by lists more list so there is made =
     ∙ (ap (λ (l : List ℕ). lists_of (take n graph) ++ l ∷ []) is
     ∙ (sym (one_taken graph n by there) ∙ ap (λ (k : ℕ). lists_of (take k graph)) (one_more n))))
 
-all_taken : (graph : List GraphNode) (n : ℕ) → length graph ≤ n → take n graph ≡ graph
+pub all_taken : (graph : List GraphNode) (n : ℕ) → length graph ≤ n → take n graph ≡ graph
 all_taken [] zero l = refl
 all_taken [] (suc n) l = refl
 all_taken (x ∷ graph) zero l = absurd (omega (arith, l))

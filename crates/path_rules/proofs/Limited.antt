@@ -7,7 +7,7 @@ use Rattle.list_views.proofs.Quantified.{all_at}
 use Rattle.descent.specs.declared.rules.PathRule.{PathRule}
 use Rattle.descent.specs.Conditions.{IsRule}
 use Rattle.term_graph.specs.Graphs.{GraphNode}
-use Rattle.path_rules.specs.Building.{AllBounded}
+use Rattle.path_rules.specs.inner.Building.{AllBounded}
 use Rattle.path_rules.specs.Conditions.{AreBounded, IsReady}
 use Rattle.path_rules.specs.RuleLimits.{RulesFit}
 use Rattle.path_rules.specs.Paths.{Path}

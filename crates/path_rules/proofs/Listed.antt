@@ -9,7 +9,8 @@ use Rattle.list_views.proofs.Orders.{zero_before}
 use Rattle.list_views.proofs.Items.{get_front}
 use Rattle.number_graphs.specs.Lists.{Has, row_at, Fall}
 use Rattle.path_rules.specs.Paths.{is_earlier, only_last}
-use Rattle.path_rules.specs.Ways.{has_mark, inner_row, ways_by, AreWays, end_over}
+use Rattle.path_rules.specs.Successors.{has_mark, inner_row}
+use Rattle.path_rules.specs.inner.Ways.{ways_by, AreWays, end_over}
 use Rattle.path_rules.proofs.Counted.{ways_over, inner_edge}
 use Rattle.path_rules.proofs.Picking.{get_back, Picked, picked_there}
 

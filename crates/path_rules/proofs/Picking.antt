@@ -10,7 +10,8 @@ use Rattle.list_views.proofs.Items.{get_front}
 use Rattle.list_views.proofs.Options.{map_some}
 use Rattle.number_graphs.specs.Lists.{Has, row_at, Fall}
 use Rattle.path_rules.specs.Paths.{only_last}
-use Rattle.path_rules.specs.Ways.{has_mark, inner_row, ways_by, AreWays, end_over, counted, count_over, picked, AreCounts, IsWayOf}
+use Rattle.path_rules.specs.Successors.{has_mark, inner_row}
+use Rattle.path_rules.specs.inner.Ways.{ways_by, AreWays, end_over, counted, count_over, picked, AreCounts, IsWayOf}
 use Rattle.path_rules.proofs.Counted.{ways_over, inner_edge, count_alike, over_alike, AreAlike}
 
 -- ---- places of lists one after another

@@ -37,10 +37,10 @@ use Rattle.path_rules.specs.Rules.{is_variable, variables, variable_of, bounds_o
 use Rattle.path_rules.specs.Rules.{last_along, variables_after, slots_of, at_least_zero}
 use Rattle.path_rules.specs.Conditions.{IsTermBetween, IsRowBetween, IsGoodChild, IsGoodBy}
 use Rattle.path_rules.specs.Conditions.{AreBounded}
-use Rattle.path_rules.specs.Building.{size_of_terms, AllBounded, AreKeyed, IsSmall, IsBegun, IsGone}
+use Rattle.path_rules.specs.inner.Building.{size_of_terms, AllBounded, AreKeyed, IsSmall, IsBegun, IsGone}
 use Rattle.path_rules.specs.Conditions.{AreGood}
-use Rattle.path_rules.specs.Building.{IsRuleAlong, HasRides, links_at}
-use Rattle.path_rules.specs.Sizing.{sized, sized_graph, sizes_of}
+use Rattle.path_rules.specs.inner.Building.{IsRuleAlong, HasRides, links_at}
+use Rattle.path_rules.specs.inner.Sizing.{sized, sized_graph, sizes_of}
 use Rattle.path_rules.proofs.Finding.{ids_in_cells}
 
 -- ---- states are well-formed, and maps are keyed

@@ -26,11 +26,12 @@ use Rattle.path_rules.specs.Stops.{AreSized}
 use Rattle.path_rules.specs.Rules.{IsRuleOf, rule_over}
 use Rattle.path_rules.specs.Answers.{AreRulesOf, HaveFewRows, HasRules, IsFirstTooLong}
 use Rattle.path_rules.specs.Conditions.{IsReady, CutsRise, AreGood}
-use Rattle.path_rules.specs.Ways.{inner_row, AreWays, end_over, paths_by, counted, counted_on, picked, IsWayOf, ways_of, AreWaysOf}
-use Rattle.path_rules.specs.Ways.{paths_of}
+use Rattle.path_rules.specs.Successors.{inner_row}
+use Rattle.path_rules.specs.inner.Ways.{AreWays, end_over, paths_by, counted, counted_on, picked, IsWayOf, ways_of, AreWaysOf}
+use Rattle.path_rules.specs.inner.Ways.{paths_of}
 use Rattle.path_rules.specs.declared.ways.Ways.{Ways}
-use Rattle.path_rules.specs.Building.{IsRuleAlong, HasRides, IsRuleFor, IsRuleOfNumber}
-use Rattle.path_rules.specs.Sizing.{sizes_of, sized_graph}
+use Rattle.path_rules.specs.inner.Building.{IsRuleAlong, HasRides, IsRuleFor, IsRuleOfNumber}
+use Rattle.path_rules.specs.inner.Sizing.{sizes_of, sized_graph}
 use Rattle.path_rules.proofs.Counted.{AreAlike, counted_many, counted_all, count_alike, added_up}
 use Rattle.path_rules.proofs.Picking.{get_back, IsNear}
 use Rattle.path_rules.proofs.Existing.{ways_are}

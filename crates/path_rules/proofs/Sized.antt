@@ -24,7 +24,8 @@ use Rattle.term_enc.proofs.Encoded.{by_cells}
 use Rattle.term_enc.proofs.Shallow.{small_at}
 use Rattle.abs_reach.specs.Keys.{AreKeysRising}
 use Rattle.path_rules.specs.Stops.{pattern_in, AreSizes}
-use Rattle.path_rules.specs.Sizing.{is_finite_id, small_pattern, size_within, size_at, entry_of, sizes_in, sizes_of}
+use Rattle.path_rules.specs.Sizing.{is_finite_id, small_pattern, size_within, size_at}
+use Rattle.path_rules.specs.inner.Sizing.{entry_of, sizes_in, sizes_of}
 use Rattle.path_rules.proofs.Finite.{is_finite, not_finite}
 
 -- ---- one id

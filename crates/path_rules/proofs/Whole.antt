@@ -12,7 +12,8 @@ use Rattle.number_graphs.specs.Lists.{row_at, Fall}
 use Rattle.term_graph.specs.Graphs.{GraphNode, successors}
 use Rattle.path_rules.specs.Paths.{Path, IsPath, AreAllPaths, Rise, is_before, is_earlier, is_cut, end_of, edges, only_last}
 use Rattle.path_rules.specs.Conditions.{CutsRise}
-use Rattle.path_rules.specs.Ways.{has_mark, AreMarks, inner_row, AreWays, end_over, paths_by, lists_of}
+use Rattle.path_rules.specs.Successors.{has_mark, AreMarks, inner_row, lists_of}
+use Rattle.path_rules.specs.inner.Ways.{AreWays, end_over, paths_by}
 use Rattle.path_rules.proofs.Listed.{IsIn, in_front, in_back, in_map, ends_over, over_ends, WaysRise, ways_rise}
 
 -- ---- a graph and its lists

@@ -19,7 +19,7 @@ pub record AreRulesOf (graph : List GraphNode) (links : List (List Link)) (cuts 
   pub are_sizes : AllZip (λ (n : GraphNode) (s : List (ℕ × Pattern)). AreSizes n.state s) graph sizes
   pub are : AllZip (IsRuleOf (record { graph = graph; links = links; sizes = sizes }) cuts) (take (length rules) paths) rules
 
--- neither a rule has too many rows, nor all of them together
+-- no rule has more rows than one may have, and all rules together have no more than all may have
 pub record HaveFewRows (rules : List PathRule) : Type 0 where
   pub each : All (λ (rule : PathRule). length rule.rows ≤ most_rule_rows) rules
   pub all : sum_by (λ (rule : PathRule). length rule.rows) rules ≤ most_rows

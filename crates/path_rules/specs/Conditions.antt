@@ -54,7 +54,7 @@ IsBounded (Nums kind len) = Unit {0}
 IsBounded (Refs element len shape) = Unit {0}
 IsBounded (Unk bound nullable shape) = Unit {0}
 
--- so they are of all ids of a state
+-- the intervals of all int ids of a state have ends of at most 2^31 in size
 abbrev pub AreBounded : AbstractState → Type 0
 AreBounded state = All (λ (c : ℕ × Cell). IsBounded c.1) state.cells
 

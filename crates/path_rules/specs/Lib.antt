@@ -6,6 +6,6 @@ pub mod Answers
 pub mod Conditions
 pub mod Walks
 pub mod RuleLimits
-pub mod Ways
+pub mod Successors
 pub mod Sizing
-pub mod Building
+pub mod inner

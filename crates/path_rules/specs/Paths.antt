@@ -14,6 +14,7 @@ use Rattle.path_rules.specs.Limits.{most_paths}
 abbrev pub edges : List GraphNode → Steps
 edges graph node place = option_and_then (λ (from : GraphNode). slice_get (successors from.by) place) (slice_get graph node)
 
+-- a node is one of the cuts
 abbrev pub is_cut : List ℕ → ℕ → Bool
 is_cut cuts node = list_any (λ cut. cut == node) cuts
 
@@ -34,6 +35,7 @@ pub record Path : Type 0 where
   pub from : ℕ
   pub places : List ℕ
 
+-- the node to which an edge led, if no edge comes after it
 abbrev pub only_last : List ℕ → ℕ → Option ℕ
 only_last [] to = Some to
 only_last (place ∷ places) to = None
@@ -62,10 +64,12 @@ is_earlier (place ∷ places) (other ∷ others) = if place == other then is_ear
 abbrev pub is_before : Path → Path → Bool
 is_before path other = if path.from == other.from then is_earlier path.places other.places else nat_lt path.from other.from
 
+-- a path comes before the first one of a list, if the list has one
 abbrev pub IsBeforeFirst : Path → List Path → Type 0
 IsBeforeFirst path [] = Unit {0}
 IsBeforeFirst path (next ∷ paths) = is_before path next ≡ true
 
+-- paths stand in their order: each comes before the next one
 abbrev pub Rise : List Path → Type 0
 Rise [] = Unit {0}
 Rise (path ∷ paths) = IsBeforeFirst path paths × Rise paths

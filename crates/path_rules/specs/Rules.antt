@@ -119,6 +119,7 @@ abbrev pub image_row : ℕ → Stop → ℕ → Option ℕ → List WRow
 image_row first stop v None = []
 image_row first stop v (Some image) = tie v (variable_of first stop.state image) ∷ []
 
+-- a size variable of a target's id in the rows: it is the size of the id's image, where there is one
 abbrev pub image_size_row : ℕ → Stop → ℕ → Option ℕ → List WRow
 image_size_row first stop v None = []
 image_size_row first stop v (Some image) = rows_of_size v first stop.state (pattern_in stop.sizes image)

@@ -1,23 +1,15 @@
--- Words for this crate's own functions: the one list of a state's sized ids with their patterns, as an equation. That each state has such
--- a list is proved by it; no function computes it, and where a row needs a pattern, `encode` of `term_enc` is asked for it.
+-- The patterns of sized ids, and what is kept of the stops of a path. Where a row needs a pattern, `encode` of `term_enc` is asked for it.
 use Rattle.std.specs.Prelude.{◌≡◌, ℕ, zero, suc, ◌+◌, ◌≤◌, nat_lt, Bool, true, false, not, ◌&&◌, ◌||◌, if◌then◌else◌, List, [], ◌∷◌}
-use Rattle.std.specs.Prelude.{map, Option, Some, None, slice_index_or, slice_set, replicate}
-use Rattle.std.specs.List.{list_all, flat_map}
+use Rattle.std.specs.Prelude.{Option, Some, None, slice_index_or, slice_set, replicate}
+use Rattle.std.specs.List.{list_all}
 use Rattle.list_views.specs.Lists.{open_count}
-use Rattle.lin_core.specs.declared.rows.WRow.{WRow}
 use Rattle.abs_cells.specs.declared.cells.Cell.{Cell}
 use Rattle.abs_cells.specs.AbstractStates.{AbstractState}
 use Rattle.abs_cells.specs.Cells.{is_reference, is_of_sort, ids_of, shape_of, may_have_cycle, cell_at}
 use Rattle.abs_cells.specs.Patterns.{Pattern, count_in, pattern_within}
 use Rattle.abs_cells.specs.Sound.{IsWellFormed}
-use Rattle.term_graph.specs.declared.links.Link.{Link}
 use Rattle.term_graph.specs.Graphs.{GraphNode}
-use Rattle.path_rules.specs.Stops.{Stop, LinkedGraph}
-use Rattle.path_rules.specs.Rules.{rows_of_size, variables}
-
--- ---- regions without cycles
-
--- A path from an id is followed as long as it comes to no id again, so that no cycle is there where none is met.
+use Rattle.path_rules.specs.Rules.{variables}
 
 -- a number above all ids of cells
 abbrev pub above_ids : List (ℕ × Cell) → ℕ
@@ -40,9 +32,11 @@ is_finite_by zero state passed id = false
 is_finite_by (suc depth) state passed id = not (slice_index_or passed id false) && is_finite_cell (counts state)
     (is_finite_by depth state (slice_set passed id true)) (cell_at state id)
 
+-- marks of ids by which no id was passed yet
 abbrev pub none_passed : AbstractState → List Bool
 none_passed state = replicate (above_ids state.cells) false
 
+-- no cycle is in the region of an id, on any path that goes on from it
 unfoldable pub is_finite_id : AbstractState → ℕ → Bool
 is_finite_id state id = is_finite_by (suc (open_count (none_passed state))) state (none_passed state) id
 
@@ -54,31 +48,13 @@ small_pattern most None = None
 small_pattern most (Some None) = None
 small_pattern most (Some (Some pattern)) = if nat_lt most (count_in pattern) then None else Some pattern
 
+-- the pattern of an id whose region has no cycle, if there is one and it has at most so many parts
 abbrev pub size_within : ℕ → AbstractState → ℕ → Option Pattern
 size_within most state id = if is_finite_id state id then small_pattern most (pattern_within (suc most) state id) else None
 
--- the pattern of an id, if the id is sized
+-- the pattern of an id, if the id is sized: its region has no cycle, and the pattern has at most 4,096 parts
 unfoldable pub size_at : AbstractState → ℕ → Option Pattern
 size_at state id = size_within 4096 state id
-
-abbrev pub entry_of : ℕ → Option Pattern → List (ℕ × Pattern)
-entry_of id None = []
-entry_of id (Some pattern) = (id, pattern) ∷ []
-
--- the sized ids among those of cells, each with its pattern
-abbrev pub sizes_in : (ℕ → Option Pattern) → List (ℕ × Cell) → List (ℕ × Pattern)
-sizes_in size cells = flat_map (λ (c : ℕ × Cell). entry_of c.0 (size c.0)) cells
-
-abbrev pub sizes_of : AbstractState → List (ℕ × Pattern)
-sizes_of state = sizes_in (size_at state) state.cells
-
--- ---- stops
-
-abbrev pub sized : AbstractState → Stop
-sized state = record { state = state; sizes = sizes_of state }
-
-abbrev pub sized_graph : List GraphNode → List (List Link) → LinkedGraph
-sized_graph graph links = record { graph = graph; links = links; sizes = map (λ (n : GraphNode). sizes_of n.state) graph }
 
 -- a node at which a path stops, with the number of its first variable
 pub record NumberedNode : Type 0 where
@@ -95,8 +71,3 @@ pub record IsKept (node : GraphNode) (first : ℕ) (numbers : List (ℕ × ℕ))
   pub numbers_are : numbers ≡ numbered 0 (variables node.state)
   pub good : IsWellFormed node.state
   pub low : first ≤ 65536
-
--- a variable is the size of an id's image, where there is an image and it is sized
-abbrev pub rows_of_image : ℕ → ℕ → AbstractState → Option ℕ → List WRow
-rows_of_image v first state None = []
-rows_of_image v first state (Some image) = rows_of_size v first state (size_at state image)

@@ -52,11 +52,13 @@ pub record LinkedGraph : Type 0 where
   pub links : List (List Link)
   pub sizes : List (List (ℕ × Pattern))
 
+-- the stop of a node: its state, with the patterns of the state's sized ids
 abbrev pub stop_at : LinkedGraph → ℕ → Option Stop
 stop_at linked node = option_and_then
     (λ (n : GraphNode). option_map (λ (s : List (ℕ × Pattern)). record { state = n.state; sizes = s })
     (slice_get linked.sizes node)) (slice_get linked.graph node)
 
+-- the edge of a node that has this number among its edges, with what links the states at its ends
 abbrev pub leg_at : LinkedGraph → ℕ → ℕ → Option Leg
 leg_at linked node place = option_and_then (λ (n : GraphNode). option_and_then (λ (links : List Link). leg_by n.by links place)
     (slice_get linked.links node)) (slice_get linked.graph node)

@@ -37,6 +37,7 @@ IsWalk types stop spot (ride ∷ rides) [] = ⊥
 IsWalk types stop spot (ride ∷ rides) (after ∷ spots) = FitsStop types stop spot
     × (Crosses stop spot ride.0 ride.1 after × IsWalk types ride.1 after rides spots)
 
+-- the machine's state at the end of a walk, which is the one at its start where the walk has no edge
 abbrev pub last_of : Spot → List Spot → Spot
 last_of spot [] = spot
 last_of spot (after ∷ spots) = last_of after spots
@@ -50,6 +51,7 @@ SlotIs valuation spot slot true = (term : HeapTerm)
     × (IsTerm spot.machine.heap (spot.meaning slot.id) term
     × ((weigh : ℕ → ℤ) → IsWeighing weigh → slot_value weigh valuation slot ≡ weight_of weigh term))
 
+-- each slot has the value of its id at a state of the machine
 abbrev pub SlotsAre : Valuation → Spot → List SlotForm → Type 0
 SlotsAre valuation spot slots = All (λ (slot : SlotForm). SlotIs valuation spot slot slot.size) slots
 

@@ -2,11 +2,11 @@
 ghost use Rattle.std.specs.Prelude.{◌≡◌, ◌≤◌, ◌<◌, ◌^◌, ◌-◌, ◌+◌, All, length, IfOk};
 ghost use Rattle.descent.specs.Conditions.{AreRules};
 ghost use Rattle.path_rules.specs.Answers.{Answers};
-ghost use Rattle.path_rules.specs.Building.{AreRulesOr, IsRuleOfNumber};
-ghost use Rattle.path_rules.specs.Sizing.{sized_graph};
+ghost use Rattle.path_rules.specs.inner.Building.{AreRulesOr, IsRuleOfNumber};
+ghost use Rattle.path_rules.specs.inner.Sizing.{sized_graph};
 ghost use Rattle.path_rules.specs.Conditions.{IsReady};
 ghost use Rattle.path_rules.specs.Limits.{most_paths};
-ghost use Rattle.path_rules.specs.Ways.{paths_of, AreWaysOf, IsMapped, IsRanked};
+ghost use Rattle.path_rules.specs.inner.Ways.{paths_of, AreWaysOf, IsMapped, IsRanked};
 
 use crate::counts::{TOO_MANY, counts};
 use crate::fault::PathFault;

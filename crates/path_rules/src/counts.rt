@@ -1,7 +1,8 @@
 //! How many ways lead from each node to the next cuts.
 ghost use Rattle.std.specs.Prelude.{◌≡◌, ◌+◌, map, IfOk, IsTrue, slice_index_or};
 ghost use Rattle.number_graphs.specs.Lists.{Fall};
-ghost use Rattle.path_rules.specs.Ways.{counted, count_over, count_row, inner_row, most_of, AreCounts};
+ghost use Rattle.path_rules.specs.inner.Ways.{counted, count_over, count_row, AreCounts};
+ghost use Rattle.path_rules.specs.Successors.{inner_row, most_of};
 
 use crate::limits::MOST_PATHS;
 use crate::successors::has_mark;

@@ -8,10 +8,11 @@ ghost use Rattle.abs_reach.specs.Keys.{AreKeysRising};
 ghost use Rattle.term_enc.specs.Sizes.{collected};
 ghost use Rattle.term_graph.specs.Edges.{id_after, is_size_variable};
 ghost use Rattle.term_graph.specs.declared.links.Link.{Link};
-ghost use Rattle.path_rules.specs.Building.{size_of_terms, variable_by, AreKeyed, IsSmall};
+ghost use Rattle.path_rules.specs.inner.Building.{size_of_terms, variable_by, AreKeyed, IsSmall};
 ghost use Rattle.path_rules.specs.Rules.{has_int, ids_with, image_row, link_row, rows_of_child, rows_of_instance, rows_of_leg};
 ghost use Rattle.path_rules.specs.Rules.{rows_of_size, tie, variable_of};
-ghost use Rattle.path_rules.specs.Sizing.{rows_of_image, size_at, sized};
+ghost use Rattle.path_rules.specs.inner.Sizing.{rows_of_image, sized};
+ghost use Rattle.path_rules.specs.Sizing.{size_at};
 ghost use Rattle.path_rules.specs.Stops.{Leg, child, leg_by};
 
 use crate::numbers::is_size_variable;

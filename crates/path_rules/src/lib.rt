@@ -19,3 +19,4 @@ mod ways;
 pub use answers::paths;
 pub use fault::PathFault;
 pub use laws::{rules_fit, walks_meet_rules};
+pub use successors::{cut_marks, has_mark, inner_lists, successor_lists};

@@ -4,7 +4,8 @@ ghost use Rattle.abs_cells.specs.Cells.{is_int};
 ghost use Rattle.abs_cells.specs.Patterns.{count_in};
 ghost use Rattle.term_enc.specs.Encoding.{pattern_of};
 ghost use Rattle.path_rules.specs.Rules.{entries_with, ids_with, int_slot, locals_with, places_from, size_slot, slots_of};
-ghost use Rattle.path_rules.specs.Sizing.{entry_of, size_at, sized, sizes_of};
+ghost use Rattle.path_rules.specs.inner.Sizing.{entry_of, sized, sizes_of};
+ghost use Rattle.path_rules.specs.Sizing.{size_at};
 
 use crate::sizes::{class_terms, variable_terms};
 use crate::stops::Stop;

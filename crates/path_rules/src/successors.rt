@@ -1,7 +1,7 @@
 //! The nodes that nodes lead to, and which of them are cuts.
 ghost use Rattle.std.specs.Prelude.{◌≡◌, ◌<◌, map, All, IfOk, false};
 ghost use Rattle.term_graph.specs.Graphs.{successors};
-ghost use Rattle.path_rules.specs.Ways.{has_mark, AreMarks, inner_row, lists_of};
+ghost use Rattle.path_rules.specs.Successors.{has_mark, AreMarks, inner_row, lists_of};
 
 use abs_cells::Pairs;
 use list_views::Seq;
@@ -20,8 +20,12 @@ fn successors_of(alloc: Global, by: &By) -> Result<Seq<u32>, AllocError>
 }
 
 /// The nodes that each node leads to.
+///
+/// # Errors
+///
+/// Want of memory.
 #[tactic(auto, using(crate::proofs::Following::one_listed, crate::proofs::Following::all_listed))]
-pub(crate) fn successor_lists<P: Pairs, S: NodeSource<P>>(
+pub fn successor_lists<P: Pairs, S: NodeSource<P>>(
     alloc: Global,
     source: &mut S,
 ) -> Result<Seq<Seq<u32>>, AllocError>
@@ -37,7 +41,7 @@ pub(crate) fn successor_lists<P: Pairs, S: NodeSource<P>>(
 }
 
 /// Whether a node is marked as a cut.
-pub(crate) fn has_mark(marks: &[bool], node: u32) -> bool
+pub fn has_mark(marks: &[bool], node: u32) -> bool
     ensures { result ≡ has_mark marks.now node }
 {
     match marks.get(node as usize) {
@@ -47,7 +51,11 @@ pub(crate) fn has_mark(marks: &[bool], node: u32) -> bool
 }
 
 /// Marks the nodes that are cuts, of `count` nodes.
-pub(crate) fn cut_marks(alloc: Global, count: usize, cuts: &[u32]) -> Result<Seq<bool>, AllocError>
+///
+/// # Errors
+///
+/// Want of memory.
+pub fn cut_marks(alloc: Global, count: usize, cuts: &[u32]) -> Result<Seq<bool>, AllocError>
     requires { All (λ cut. cut < count) cuts.now }
     ensures { IfOk result (AreMarks cuts.now) }
 {
@@ -72,7 +80,11 @@ fn inner_row(alloc: Global, marks: &[bool], row: &[u32]) -> Result<Seq<u32>, All
 }
 
 /// The successors of each node that are no cuts.
-pub(crate) fn inner_lists(
+///
+/// # Errors
+///
+/// Want of memory.
+pub fn inner_lists(
     alloc: Global,
     marks: &[bool],
     lists: &[Seq<u32>],

@@ -3,7 +3,7 @@ ghost use Rattle.std.specs.Prelude.{◌≡◌, ◌≤◌, ◌<◌, ◌+◌, ◌^
 ghost use Rattle.std.specs.Prelude.{slice_get, slice_index_or};
 ghost use Rattle.lin_core.specs.Weights.{total_size};
 ghost use Rattle.term_enc.specs.Sizes.{unless_zero, with_term};
-ghost use Rattle.path_rules.specs.Building.{is_term_of};
+ghost use Rattle.path_rules.specs.inner.Building.{is_term_of};
 
 use list_views::Seq;
 use std::alloc::{AllocError, Global};

@@ -6,8 +6,8 @@ ghost use Rattle.term_graph.specs.declared.links.Link.{Link};
 ghost use Rattle.path_rules.specs.Stops.{Leg, child, leg_by};
 ghost use Rattle.path_rules.specs.Rules.{rows_of_leg, rows_of_stop, slots_of, variables};
 ghost use Rattle.path_rules.specs.Conditions.{AreBounded, AreGood};
-ghost use Rattle.path_rules.specs.Building.{links_at, AreKeyed, HasRides, IsBegun, IsGone, IsRuleAlong, IsSmall};
-ghost use Rattle.path_rules.specs.Sizing.{sized, sized_graph};
+ghost use Rattle.path_rules.specs.inner.Building.{links_at, AreKeyed, HasRides, IsBegun, IsGone, IsRuleAlong, IsSmall};
+ghost use Rattle.path_rules.specs.inner.Sizing.{sized, sized_graph};
 
 use crate::legs::push_leg;
 use crate::limits::MOST_RULE_ROWS;

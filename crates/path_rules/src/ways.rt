@@ -2,7 +2,8 @@
 ghost use Rattle.std.specs.Prelude.{◌≡◌, ◌+◌, ◌<◌, map, slice_index_or, IfOk};
 ghost use Rattle.number_graphs.specs.Lists.{Fall, row_at};
 ghost use Rattle.path_rules.specs.Limits.{most_paths};
-ghost use Rattle.path_rules.specs.Ways.{has_mark, count_over, counted_on, inner_row, picked, AreCounts, IsWayOf};
+ghost use Rattle.path_rules.specs.Successors.{has_mark, inner_row};
+ghost use Rattle.path_rules.specs.inner.Ways.{count_over, counted_on, picked, AreCounts, IsWayOf};
 
 use crate::counts::{added, count_at, count_over};
 use crate::successors::has_mark;

@@ -30,7 +30,7 @@ use Rattle.abs_reach.specs.Instances.{is_no_int}
 use Rattle.class_world.specs.BuiltIns.{abstract_method_error, incompatible_class_change_error}
 use Rattle.class_world.specs.Descriptors.{class_slot}
 use Rattle.class_world.specs.Fields.{can_be_made}
-use Rattle.class_world.specs.Linked.{class_order}
+use Rattle.class_world.specs.lemmas.Linked.{class_order}
 use Rattle.class_world.specs.Types.{is_class_below}
 use Rattle.class_world.specs.World.{is_interface_class, is_abstract}
 use Rattle.class_program.specs.declared.op.Call.{Call}

@@ -40,7 +40,7 @@ use Rattle.abs_turns.specs.Turns.{turns_narrowing, is_taken, rows_if, narrows, p
 use Rattle.abs_turns.proofs.OptionLists.{filtered}
 use Rattle.abs_turns.proofs.SoundCells.{cell_sound}
 use Rattle.abs_expand.specs.BadStates.{HasStackOf, ArePlaced}
-use Rattle.abs_expand.specs.Making.{frames_to, thrown_to}
+use Rattle.abs_expand.specs.inner.Making.{frames_to, thrown_to}
 use Rattle.place_sorts.specs.Laws.{HasIntEnds, IsIntCase, ResultsStayInts, BranchesStayInts}
 use Rattle.place_sorts.proofs.IntCases.{all_are, met_is}
 use Rattle.place_sorts.specs.Growing.{WaitBelow}

@@ -24,7 +24,7 @@ use Rattle.class_world.specs.WorldTypes.{types_of}
 use Rattle.class_program.specs.Programs.{Program}
 use Rattle.frame_types.specs.Tables.{CodeTypes}
 use Rattle.abs_expand.specs.BadStates.{ArePlaced}
-use Rattle.abs_expand.specs.Making.{frames_to, thrown_to}
+use Rattle.abs_expand.specs.inner.Making.{frames_to, thrown_to}
 use Rattle.place_sorts.specs.Laws.{HasIntEnds}
 use Rattle.place_sorts.specs.Growing.{WaitBelow}
 use Rattle.place_sorts.proofs.Keeping.{KeepsSorts}

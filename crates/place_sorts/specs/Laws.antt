@@ -13,25 +13,25 @@ use Rattle.abs_ints.specs.declared.cases.IntCase.{IntCase}
 use Rattle.abs_ints.specs.declared.cases.Way.{Way}
 use Rattle.abs_ints.specs.declared.relations.Relation.{Relation}
 
--- the least and the greatest number are ints
+-- an interval is one of ints: its least and its greatest number are ints of 32 bits
 abbrev pub HasIntEnds : Bounds → Type 0
 HasIntEnds a = IsOfKind kinds.Int a.lo × IsOfKind kinds.Int a.hi
 
--- so are those of the operands, and of the result if there is one
+-- a case is one of ints: the intervals of both operands are, and that of the result, if there is one
 pub record IsIntCase (case : IntCase) : Type 0 where
   pub left : HasIntEnds case.left
   pub right : HasIntEnds case.right
   pub result : IfSome case.result HasIntEnds
 
--- The cases of an operator on two intervals of ints have such intervals alone.
+-- The cases of an operator on two intervals of ints are cases of ints.
 abbrev pub ResultsStayInts : Type 0
 ResultsStayInts = (op : IntOp) (a b : Bounds) → HasIntEnds a → HasIntEnds b → AllByRecursion IsIntCase (operated op a b)
 
--- so have the cases of a comparison and of a relation of two intervals
+-- all cases of comparisons and of relations of two intervals are cases of ints
 pub record StayInts (a b : Bounds) : Type 0 where
   pub compared : (condition : Cond) (same : Bool) → AllByRecursion IsIntCase (compared condition same a b)
   pub related : (relation : Relation) (way : Way) → IfSome (related relation way a b) IsIntCase
 
--- they have, where the intervals are of ints
+-- The cases of comparisons and of relations of two intervals of ints are cases of ints.
 abbrev pub BranchesStayInts : Type 0
 BranchesStayInts = (a b : Bounds) → HasIntEnds a → HasIntEnds b → StayInts a b

@@ -12,12 +12,12 @@ use Rattle.path_rules.specs.Conditions.{IsLinkBetween}
 use Rattle.abs_expand.specs.BadStates.{IsGoodState}
 use Rattle.abs_expand.specs.Expansions.{plan_of, AreExpanded}
 
--- the link to a child is such as rules take
+-- the link from a state to one of its children is such as the rules of paths take
 abbrev pub FitsRules : AbstractState → GraphChild → Type 0
 FitsRules state child = IsLinkBetween state child.state child.link
 
--- So are the links of all children of a good state, whatever its plan is, in a program whose numbers are of their fields' widths, with the
--- program's typing.
+-- The links from a good state to all its children are such as the rules of paths take, whatever its plan is, in a program whose numbers
+-- are of their fields' widths, with the program's typing.
 abbrev pub LinksFit : Type 0
 LinksFit =
     (p : Program) (typing : ℕ → CodeTypes) (state : AbstractState) (children : List GraphChild)

@@ -13,10 +13,11 @@ use Rattle.descent.specs.declared.rules.Place.{Place}
 use Rattle.descent.specs.declared.rules.SlotForm.{SlotForm}
 use Rattle.rank_forms.specs.declared.following.Followed.{Followed}
 use Rattle.rule_links.specs.declared.links.Come.{Come}
-use Rattle.rank_forms.specs.Following.{SmallConstants, TellsBetween, TellsFollowed}
+use Rattle.rank_forms.specs.inner.Following.{SmallConstants, TellsBetween}
+use Rattle.rank_forms.specs.Following.{TellsFollowed}
 use Rattle.rule_links.specs.Links.{IsWay}
 use Rattle.rule_links.specs.Positions.{is_at, slot_at}
-use Rattle.rule_links.specs.Searching.{Known, variable_at}
+use Rattle.rule_links.specs.Ties.{Known, variable_at}
 use Rattle.rule_links.specs.FallLinks.{IsFallLink, StepsDown}
 use Rattle.rule_links.proofs.Changed.{stands_is, stands_at}
 

@@ -7,7 +7,8 @@ use Rattle.std.proofs.lemmas.Bool.Decides.{nat_tests}
 use Rattle.std.proofs.lemmas.Option.{same_Some, none-some}
 use Rattle.descent.specs.declared.rules.PathRule.{PathRule}
 use Rattle.rank_forms.specs.RankSteps.{IsCutOf}
-use Rattle.rank_forms.specs.Forms.{AreCuts, IsIn, RiseTo, less_of, lesser, next_from}
+use Rattle.rank_forms.specs.Forms.{AreCuts, IsIn, RiseTo}
+use Rattle.rank_forms.specs.inner.Forms.{less_of, lesser, next_from}
 
 -- the cuts of the rules that are below a number, rising
 pub record AreCutsTo (rules : List PathRule) (cuts : List ℕ) (end : ℕ) : Type 0 where

@@ -7,7 +7,7 @@ use Rattle.rank_forms.specs.declared.following.Followed.{Followed}
 use Rattle.rank_forms.specs.declared.reasons.Reasons.{Reasons}
 use Rattle.rule_links.specs.declared.links.Tie.{Tie}
 use Rattle.rule_links.specs.Positions.{AreEnds}
-use Rattle.rule_links.specs.Searching.{variable_at}
+use Rattle.rule_links.specs.Ties.{variable_at}
 use Rattle.rank_forms.specs.Reasons.{TellsInt, TellsIntAt, followed_of}
 use Rattle.rank_forms.specs.SizeReasons.{TellsSizeAt, TellsSizeReasons}
 use Rattle.rule_links.proofs.Changed.{stands_at, stands_is}

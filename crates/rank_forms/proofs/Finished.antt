@@ -10,8 +10,9 @@ use Rattle.std.proofs.lemmas.List.Sums.{sum_by-cons, sum_by-set}
 use Rattle.std.proofs.lemmas.Option.{same_Some}
 use Rattle.rule_links.specs.declared.links.Come.{Come}
 use Rattle.rule_links.specs.declared.links.Tie.{Tie}
-use Rattle.rule_links.specs.Searching.{IsFinished, Known, any_moves, begun, by_of, moves, passed, relaxed, span_from, step, unknown}
-use Rattle.rule_links.specs.Searching.{last_of, trail_by, trail_from}
+use Rattle.rule_links.specs.Ties.{IsFinished, Known, any_moves, begun, by_of, moves, passed, relaxed, span_from, step}
+use Rattle.rule_links.specs.inner.Searching.{unknown}
+use Rattle.rule_links.specs.Ties.{last_of, trail_by, trail_from}
 use Rattle.rule_links.proofs.FallRows.{Each}
 use Rattle.rule_links.proofs.Reached.{gone, kept_cases, move_is, none_before, relaxed_length, relaxed_still, step_unknown}
 use Rattle.rank_forms.proofs.Trailed.{IsTrail}

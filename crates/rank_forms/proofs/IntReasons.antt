@@ -21,11 +21,11 @@ use Rattle.rule_links.specs.declared.links.Beside.{Beside}
 use Rattle.rule_links.specs.declared.links.Come.{Come}
 use Rattle.rule_links.specs.declared.links.Link.{Link}
 use Rattle.rule_links.specs.declared.links.Tie.{Tie}
-use Rattle.rank_forms.specs.Following.{unit}
+use Rattle.rank_forms.specs.inner.Following.{unit}
 use Rattle.rank_forms.specs.Graphs.{HasClose, IsShort}
 use Rattle.rank_forms.specs.Reasons.{beside_entries, close_from, int_entries, int_made, int_tie_entries, is_close, often, side}
 use Rattle.rank_forms.specs.Reasons.{signed, taken_out}
-use Rattle.rule_links.specs.Searching.{IsFinished, Known, is_bound, ties_from, trail_from}
+use Rattle.rule_links.specs.Ties.{IsFinished, Known, is_bound, ties_from, trail_from}
 use Rattle.rule_links.proofs.FallRows.{Each}
 use Rattle.rule_links.proofs.Rests.{IsRest, rest_all, rest_first, rest_more}
 use Rattle.rank_forms.proofs.Finished.{AreLow, gone_back}

@@ -19,11 +19,11 @@ use Rattle.lin_core.proofs.Signs.{mul-zero_ℤ}
 use Rattle.rule_links.specs.declared.links.Beside.{Beside}
 use Rattle.rule_links.specs.declared.links.Link.{Link}
 use Rattle.rule_links.specs.declared.links.Tie.{Tie}
-use Rattle.rank_forms.specs.Following.{unit}
+use Rattle.rank_forms.specs.inner.Following.{unit}
 use Rattle.rank_forms.specs.Graphs.{IsShort}
 use Rattle.rank_forms.specs.Reasons.{signed}
-use Rattle.rule_links.specs.Searching.{beside_ties, constant_at, fixed_from, has_none, is_alone, is_bound, is_inequality, order_of}
-use Rattle.rule_links.specs.Searching.{row_ties, terms_ties, ties_at, ties_beside, ties_from, ties_of}
+use Rattle.rule_links.specs.Ties.{beside_ties, constant_at, fixed_from, has_none, is_alone, is_bound, is_inequality, order_of}
+use Rattle.rule_links.specs.Ties.{row_ties, terms_ties, ties_at, ties_beside, ties_from, ties_of}
 use Rattle.rule_links.proofs.FallRows.{Each, each_both, each_chosen}
 use Rattle.rule_links.proofs.Rests.{IsRest, rest_all, rest_first, rest_more}
 use Rattle.rule_links.proofs.Tied.{alone_is, found_is, kind_is, most_is}

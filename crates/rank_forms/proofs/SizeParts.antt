@@ -16,11 +16,11 @@ use Rattle.lin_core.specs.Rows.{RiseFrom, coefficient_of}
 use Rattle.lin_core.specs.Weights.{rows_under}
 use Rattle.lin_core.proofs.Signs.{mul-zero_ℤ}
 use Rattle.rule_links.specs.declared.links.Link.{Link}
-use Rattle.rank_forms.specs.Following.{unit}
+use Rattle.rank_forms.specs.inner.Following.{unit}
 use Rattle.rule_links.specs.Links.{HasBound}
 use Rattle.rank_forms.specs.Reasons.{part_entries, part_entry, part_times, row_times}
-use Rattle.rule_links.specs.Rising.{is_zero, zero_from}
-use Rattle.rule_links.specs.Searching.{is_bound}
+use Rattle.rule_links.specs.Falls.{is_zero, zero_from}
+use Rattle.rule_links.specs.Ties.{is_bound}
 use Rattle.rule_links.proofs.Rests.{IsRest, rest_all, rest_first, rest_more}
 use Rattle.rank_forms.proofs.IntRows.{IsRowOf, row_of}
 use Rattle.rank_forms.proofs.RowValues.{row_allowed, row_constant, row_value}

@@ -15,12 +15,12 @@ use Rattle.lin_core.proofs.Signs.{mul-zero_ℤ}
 use Rattle.rule_links.specs.declared.links.Come.{Come}
 use Rattle.rule_links.specs.declared.links.Link.{Link}
 use Rattle.rule_links.specs.declared.links.Tie.{Tie}
-use Rattle.rank_forms.specs.Following.{unit}
+use Rattle.rank_forms.specs.inner.Following.{unit}
 use Rattle.rank_forms.specs.Graphs.{AreSizeTerms, IsOneKind}
 use Rattle.rule_links.specs.SizeLinks.{weighed_once}
 use Rattle.rank_forms.specs.Reasons.{part_entries, size_entries, size_tie_entries, terms_at}
-use Rattle.rule_links.specs.Rising.{AreRising, IsLongest, size_constant, IsSizeTie, SaysSize, zero_from}
-use Rattle.rule_links.specs.Searching.{Known, trail_from}
+use Rattle.rule_links.specs.Falls.{AreRising, IsLongest, size_constant, IsSizeTie, SaysSize, zero_from}
+use Rattle.rule_links.specs.Ties.{Known, trail_from}
 use Rattle.rank_forms.specs.SizeReasons.{AreSizeTies, size_made}
 use Rattle.rank_forms.proofs.Along.{known_within}
 use Rattle.rank_forms.proofs.Reasoned.{IsReasoned}

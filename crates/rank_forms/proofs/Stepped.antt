@@ -29,10 +29,11 @@ use Rattle.rule_links.specs.declared.links.Come.{Come}
 use Rattle.rule_links.specs.declared.links.Link.{Link}
 use Rattle.rule_links.specs.declared.links.Tie.{Tie}
 use Rattle.rule_links.specs.Counting.{multipliers_of}
-use Rattle.rank_forms.specs.Following.{AreSteps, IsBoundAt, SmallConstants, bound_from, bounded_by, made, step_entries, step_times, unit}
-use Rattle.rule_links.specs.Rising.{IsFallTie, SaysAt, AreRising, IsAtLeast, IsLongest, bounds, has_bound}
+use Rattle.rank_forms.specs.Following.{AreSteps, IsBoundAt, made, step_times}
+use Rattle.rank_forms.specs.inner.Following.{SmallConstants, bound_from, bounded_by, step_entries, unit}
+use Rattle.rule_links.specs.Falls.{IsFallTie, SaysAt, AreRising, IsAtLeast, IsLongest, bounds, has_bound}
 use Rattle.rule_links.specs.Links.{IsWay, total}
-use Rattle.rule_links.specs.Searching.{InTies, Known, by_of, is_alone, is_inequality, trail_from}
+use Rattle.rule_links.specs.Ties.{InTies, Known, by_of, is_alone, is_inequality, trail_from}
 use Rattle.rule_links.specs.FallLinks.{IsFallLink, sign}
 use Rattle.rank_forms.proofs.Along.{known_within}
 use Rattle.rule_links.proofs.Counted.{fine, multipliers_are}

@@ -13,9 +13,9 @@ use Rattle.lin_core.specs.Rows.{Row, coefficient_of}
 use Rattle.lin_core.proofs.Signs.{mul-zero_ℤ}
 use Rattle.rule_links.specs.declared.links.Come.{Come}
 use Rattle.rule_links.specs.declared.links.Tie.{Tie}
-use Rattle.rank_forms.specs.Following.{unit}
-use Rattle.rule_links.specs.Rising.{AreLinked, AreRising, ComesBy}
-use Rattle.rule_links.specs.Searching.{Known, last_of, trail_by, trail_from}
+use Rattle.rank_forms.specs.inner.Following.{unit}
+use Rattle.rule_links.specs.Falls.{AreLinked, AreRising, ComesBy}
+use Rattle.rule_links.specs.Ties.{Known, last_of, trail_by, trail_from}
 
 -- ties of a kind from a first variable to v, the last of them first, and what they add up to
 abbrev pub IsTrail : (Tie → Type 0) → ℕ → ℕ → ℤ → List Tie → Type 0

@@ -12,7 +12,7 @@ use Rattle.descent.specs.declared.rules.SlotForm.{SlotForm}
 use Rattle.rule_links.specs.Links.{HasBound}
 use Rattle.rule_links.specs.Positions.{IsVariable, same}
 
--- the ids of the slots of a kind, each once
+-- the ids of the slots of a kind, in the slots' order, each with a multiple of 1
 abbrev pub ids_of : Bool → List SlotForm → List (ℕ × ℤ)
 ids_of size [] = []
 ids_of size (slot ∷ rest) = (if same slot.size size then (slot.id, pos 1) ∷ [] else []) ++ ids_of size rest
@@ -37,6 +37,7 @@ IsEndAt rules cut slots = (n : ℕ) × (rule : PathRule) × (slice_get rules n �
 abbrev pub head_of : SlotForm → ℕ × Bool × List Place
 head_of slot = (slot.id, slot.size, slot.places)
 
+-- the ids, the kinds and the places of slots, in the slots' order
 abbrev pub heads : List SlotForm → List (ℕ × Bool × List Place)
 heads slots = map head_of slots
 
@@ -63,19 +64,21 @@ pub record IsShort (row : WRow) : Type 0 where
   pub low : row.kind ≡ IsZero → row.weights ≡ [] → (a b c : ℕ × ℤ) → row.terms ≡ a ∷ b ∷ c ∷ [] → (unsigned_abs a.1 ≤ 4096)
       × (unsigned_abs b.1 ≤ 4096) × (unsigned_abs c.1 ≤ 4096)
 
--- some variables stand for sizes: those of the size slots that are one variable, each of which is at least 0 by a row. An equation
--- that has a size has sizes alone, with coefficients of at most 4,096 in size
+-- some variables stand for sizes; the size slots that are one variable are among these, and a row says that each is at least 0
 abbrev pub IsSizeSlot : List WRow → (ℕ → Bool) → SlotForm → Type 0
 IsSizeSlot rows sizes slot = slot.size ≡ true → (variable : ℕ) → IsVariable slot variable → (sizes variable ≡ true)
     × HasBound rows variable (pos 1) (pos 0)
 
+-- the variables of terms stand for sizes, and their coefficients are at most 4,096 in size
 abbrev pub AreSizeTerms : (ℕ → Bool) → List (ℕ × ℤ) → Type 0
 AreSizeTerms sizes terms = All (λ (term : ℕ × ℤ). (sizes term.0 ≡ true) × (unsigned_abs term.1 ≤ 4096)) terms
 
+-- an equation that has a variable that stands for a size has such variables alone
 pub record IsOneKind (sizes : ℕ → Bool) (row : WRow) : Type 0 where
   pub alike : row.kind ≡ IsZero → (n : ℕ) (term : ℕ × ℤ) → slice_get row.terms n ≡ Some term → sizes term.0 ≡ true
       → AreSizeTerms sizes row.terms
 
+-- a rule tells sizes from other variables: the size slots at its start are among these, and each equation has one kind
 pub record AreSizes (rule : PathRule) : Type 0 where
   pub sizes : ℕ → Bool
   pub slots : All (IsSizeSlot rule.rows sizes) rule.first
@@ -87,6 +90,7 @@ pub record IsPlainRule (rule : PathRule) : Type 0 where
   pub short : All IsShort rule.rows
   pub sizes : AreSizes rule
 
+-- rules as a graph's paths have them, of which each is as plain forms ask it
 pub record ArePlainRules (rules : List PathRule) : Type 0 where
   pub paths : ArePathRules rules
   pub plain : All IsPlainRule rules

@@ -5,3 +5,4 @@ pub mod Forms
 pub mod Reasons
 pub mod SizeReasons
 pub mod Weighing
+pub mod inner

@@ -10,11 +10,12 @@ use Rattle.lin_core.specs.Rows.{Rise}
 use Rattle.descent.specs.Conditions.{IsRanked}
 use Rattle.descent.specs.Steps.{numbers_from, ranking_of, ranking_fault}
 
--- some rule is listed as one on which the form falls
+-- a rule is listed as one on which the form falls
 abbrev pub is_strict : RankRule → Bool
 is_strict (Weak rule fall) = false
 is_strict (Strict rule fall bound) = true
 
+-- some rule is listed as one on which the form falls
 abbrev pub has_strict : List RankRule → Bool
 has_strict listed = list_any (λ (one : RankRule). is_strict one) listed
 
@@ -35,7 +36,7 @@ abbrev pub HaveNoSizes : List CutForm → Type 0
 HaveNoSizes [] = Unit {0}
 HaveNoSizes (form ∷ rest) = (form.sizes ≡ []) × HaveNoSizes rest
 
--- and no class has a weight
+-- where sizes don't count, no class has a weight and no form has multiples of sizes
 abbrev pub IsLinear : RankStep → Type 0
 IsLinear step = step.size ≡ false → (step.weights ≡ []) × HaveNoSizes step.forms
 

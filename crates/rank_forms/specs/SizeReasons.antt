@@ -1,4 +1,4 @@
--- Words for the functions of this crate and of `rank_search`: why a size falls along a rule.
+-- Reasons of sizes: why a size falls along a rule.
 use Rattle.std.specs.Prelude.{ℕ, pos, ◌≡◌, true, List, [], ◌∷◌, Option, Some, None, get_or, length}
 use Rattle.std.specs.List.{All}
 use Rattle.lin_core.specs.declared.rows.WRow.{WRow}
@@ -12,9 +12,10 @@ use Rattle.rank_forms.specs.declared.reasons.Reasons.{Reasons}
 use Rattle.rule_links.specs.SizeLinks.{IsSizeLink}
 use Rattle.rule_links.specs.Positions.{AreEnds}
 use Rattle.rank_forms.specs.Reasons.{followed_of, size_entries}
-use Rattle.rule_links.specs.Rising.{AreRising, IsLongest, IsSizeTie, zero_from}
-use Rattle.rule_links.specs.Searching.{InTies, Known, trail_from}
+use Rattle.rule_links.specs.Falls.{AreRising, IsLongest, IsSizeTie, zero_from}
+use Rattle.rule_links.specs.Ties.{InTies, Known, trail_from}
 
+-- the reasons why a size falls: the rows of the ties from its start to its end, and the row that says the start is at least 0
 abbrev pub size_made : List WRow → Come → ℕ → Known → ℕ → Reasons
 size_made rows come row known finish = record {
   falls = come.by;
@@ -23,22 +24,25 @@ size_made rows come row known finish = record {
   bound = (row, pos 1) ∷ [];
 }
 
+-- the reasons why a size falls, where its end is known from its start and a row says that the start is at least 0
 abbrev pub size_reasons_by : List WRow → Option Come → Option ℕ → Known → ℕ → Option Reasons
 size_reasons_by rows None row known finish = None
 size_reasons_by rows (Some come) None known finish = None
 size_reasons_by rows (Some come) (Some row) known finish = Some (size_made rows come row known finish)
 
--- the ties of a path's sizes
+-- ties of a path's sizes: they lead to greater numbers, give all size links, and each has its row
 pub record AreSizeTies (rows : List WRow) (ties : List Tie) : Type 0 where
   pub rising : AreRising ties
   pub complete : (link : Link) → IsSizeLink rows link → InTies ties link
   pub in_rows : All (IsSizeTie rows) ties
 
+-- what is found of a size, by its variables at the start and at the end: the reasons by ties that add up to most
 abbrev pub TellsSizeReasons : List WRow → ℕ → ℕ → Option Reasons → Type 0
 TellsSizeReasons rows start finish found = (ties : List Tie) × (known : Known) × AreSizeTies rows ties × IsLongest ties start known
     × (found ≡ size_reasons_by rows (get_or known finish None) (zero_from start 0 rows) known finish)
 
--- at the ends of a rule, where one variable stands alone at each; nothing where none does at one of them
+-- what is followed of the size at a place along a rule, where one variable stands alone at each end; nothing where none does at one of
+-- them
 abbrev pub TellsSizeAt : Place → PathRule → Option Followed → Type 0
 TellsSizeAt place rule found = ((start finish : ℕ) → AreEnds rule true place start finish → (reasons : Option Reasons)
     × TellsSizeReasons rule.rows start finish reasons × (found ≡ followed_of (length rule.rows) reasons))

@@ -1,8 +1,10 @@
 //! How what stands at a place is followed along a rule, and what shows that it falls.
 ghost use Rattle.std.specs.Prelude.{◌≡◌, ◌<◌, ◌∷◌, [], pos, IfOk};
 ghost use Rattle.descent.specs.Conditions.{IsRule};
-ghost use Rattle.rank_forms.specs.Following.{IsFew, SmallConstants, TellsBetween, TellsFollowed, bound_from, bounded_by, made};
-ghost use Rattle.rank_forms.specs.Following.{step_entries, step_times};
+ghost use Rattle.rank_forms.specs.Following.{IsFew, TellsFollowed, made};
+ghost use Rattle.rank_forms.specs.inner.Following.{SmallConstants, TellsBetween, bound_from, bounded_by};
+ghost use Rattle.rank_forms.specs.inner.Following.{step_entries};
+ghost use Rattle.rank_forms.specs.Following.{step_times};
 
 use descent::{PathRule, Place};
 use lin_core::WRow;

@@ -1,6 +1,7 @@
 //! The form of each cut that is made of multiples of what stands at places.
 ghost use Rattle.std.specs.Prelude.{◌≡◌, ◌≤◌, ◌∷◌, ◌++◌, [], ℕ, suc, List, None, IfOk, OnOk};
-ghost use Rattle.rank_forms.specs.Forms.{AreCuts, alone, form_of, forms_over, id_of, ids_at, joined, less_of, lesser, next_from};
+ghost use Rattle.rank_forms.specs.Forms.{AreCuts, alone, form_of, forms_over, id_of, ids_at, joined};
+ghost use Rattle.rank_forms.specs.inner.Forms.{less_of, lesser, next_from};
 ghost use Rattle.rank_forms.specs.Forms.{pair_of, slots_for};
 ghost use Rattle.rule_links.specs.Positions.{slot_at};
 

@@ -2,7 +2,8 @@
 ghost use Rattle.std.specs.Prelude.{◌≡◌, ◌++◌, ◌≤◌, ℕ, IfOk, OnOk};
 ghost use Rattle.std.specs.List.Sorted.{IsNonDecreasingBy, IsPermutation};
 ghost use Rattle.lin_core.specs.Rows.{Rise};
-ghost use Rattle.rank_forms.specs.Weighing.{AreOnes, all_classes, classes_of, next_low, one_at, ones_from, row_classes};
+ghost use Rattle.rank_forms.specs.Weighing.{AreOnes, all_classes, classes_of, row_classes};
+ghost use Rattle.rank_forms.specs.inner.Weighing.{next_low, one_at, ones_from};
 
 use descent::PathRule;
 use lin_core::WRow;

@@ -7,7 +7,7 @@ use Rattle.descent.specs.declared.rules.PathRule.{PathRule}
 use Rattle.descent.specs.declared.rules.SlotForm.{SlotForm}
 use Rattle.rank_forms.specs.Forms.{slots_for}
 use Rattle.rank_forms.specs.Graphs.{ArePathRules, IsEndAt, IsPathRule, heads}
-use Rattle.rank_search.specs.Heads.{HasHeads}
+use Rattle.rank_search.specs.inner.Heads.{HasHeads}
 
 stands_head : (rules : List PathRule) (cut : ℕ) (slots : List SlotForm) → All (HasHeads rules) rules → IsEndAt rules cut slots
     → heads slots ≡ heads (slots_for rules cut)

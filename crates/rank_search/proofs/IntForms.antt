@@ -23,7 +23,7 @@ use Rattle.rank_search.specs.Plain.{FormMoves, IsIntForm}
 use Rattle.rule_links.specs.Positions.{AreEnds, is_at, is_place, same, slot_at}
 use Rattle.rank_forms.specs.Reasons.{TellsForm, TellsIntAt, TellsInts, both_of, both_reasons, close_from, followed_by, followed_of}
 use Rattle.rank_forms.specs.Reasons.{int_made, int_reasons_by, side}
-use Rattle.rule_links.specs.Searching.{IsMoved, Known, ties_from}
+use Rattle.rule_links.specs.Ties.{IsMoved, Known, ties_from}
 use Rattle.rank_forms.proofs.Along.{variable_low}
 use Rattle.rule_links.proofs.Changed.{stands_is}
 use Rattle.rank_forms.proofs.Finished.{one_finished}

@@ -2,7 +2,7 @@
 use Rattle.std.proofs.Common.{◌≡◌, inl, inr, ℕ, ◌+◌, ◌<◌, Bool, false, List, ℤ, Option, Some, None, subst, arith, refl, ◌∙◌, sym}
 use Rattle.std.specs.Prelude.{is_some}
 use Rattle.rank_search.specs.declared.candidates.Candidate.{Candidate}
-use Rattle.rank_search.specs.Candidates.{ranks_by, multiple_of}
+use Rattle.rank_search.specs.inner.Candidates.{ranks_by, multiple_of}
 use Rattle.std.proofs.lemmas.Bool.{true≢false, cases_eq}
 use Rattle.list_views.proofs.Options.{none_from_is_some}
 

@@ -10,11 +10,11 @@ use Rattle.descent.specs.declared.rules.SlotForm.{SlotForm}
 use Rattle.rank_forms.specs.declared.following.BoundRow.{BoundRow}
 use Rattle.rank_forms.specs.Graphs.{ArePathRules, ArePlainRules, AreSizeTerms, HasClose, IsCloseInt, IsOneKind, IsPlainRule}
 use Rattle.rank_forms.specs.Graphs.{IsShort, IsSizeSlot}
-use Rattle.rank_search.specs.Heads.{AreShort, has_size, is_size}
+use Rattle.rank_search.specs.inner.Heads.{AreShort, has_size, is_size}
 use Rattle.rule_links.specs.Links.{HasBound}
 use Rattle.rank_forms.specs.Reasons.{close_from}
-use Rattle.rule_links.specs.Rising.{has_zero}
-use Rattle.rule_links.specs.Searching.{is_inequality, variable_of}
+use Rattle.rule_links.specs.Falls.{has_zero}
+use Rattle.rule_links.specs.Ties.{is_inequality, variable_of}
 use Rattle.rule_links.proofs.Changed.{variable_is}
 use Rattle.rule_links.proofs.Rests.{rest_all}
 use Rattle.rank_forms.proofs.IntReasons.{close_is}

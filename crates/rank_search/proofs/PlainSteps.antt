@@ -20,7 +20,7 @@ use Rattle.rank_forms.specs.Graphs.{ArePlainRules, IsPathRule, IsPlainRule}
 use Rattle.rank_search.specs.Plain.{FormMoves, LowersBy, NoPlainForm}
 use Rattle.rank_forms.specs.RankSteps.{IsRankStep}
 use Rattle.rank_forms.specs.Reasons.{TellsEach, TellsInts, followed_by, followed_of}
-use Rattle.rule_links.specs.Searching.{IsMoved}
+use Rattle.rule_links.specs.Ties.{IsMoved}
 use Rattle.rank_forms.proofs.Formed.{rule_lines}
 use Rattle.rank_search.proofs.IntForms.{IsIntsTold, form_parts, ints_told}
 use Rattle.rank_forms.proofs.Lined.{ranking_with}

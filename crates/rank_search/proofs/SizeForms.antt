@@ -30,8 +30,8 @@ use Rattle.rank_search.specs.Plain.{NoPlainForm, RanksSize}
 use Rattle.rule_links.specs.Positions.{AreEnds}
 use Rattle.rank_forms.specs.RankSteps.{IsRankStep}
 use Rattle.rank_forms.specs.Reasons.{TellsEach, followed_by, followed_of}
-use Rattle.rule_links.specs.Rising.{IsAtLeast, zero_from}
-use Rattle.rule_links.specs.Searching.{InTies}
+use Rattle.rule_links.specs.Falls.{IsAtLeast, zero_from}
+use Rattle.rule_links.specs.Ties.{InTies}
 use Rattle.rank_forms.specs.SizeReasons.{TellsSizeAt, size_made, size_reasons_by}
 use Rattle.rank_forms.specs.Weighing.{AreOnes}
 use Rattle.rank_forms.proofs.Along.{variable_low}

@@ -16,7 +16,7 @@ use Rattle.rank_forms.specs.Forms.{AreCuts, AreFollowed, TellsAll, forms_over, l
 use Rattle.rank_forms.specs.Graphs.{ArePathRules}
 use Rattle.rule_links.specs.Links.{IsWay}
 use Rattle.rank_forms.specs.RankSteps.{IsRankStep}
-use Rattle.rule_links.specs.Rising.{has_bound}
+use Rattle.rule_links.specs.Falls.{has_bound}
 use Rattle.rule_links.specs.FallLinks.{IsFallLink, StepsDown, sign}
 use Rattle.rank_search.specs.Stepwise.{NoStepwiseForm, StepwiseRanks}
 use Rattle.rule_links.proofs.Changed.{stands_is}

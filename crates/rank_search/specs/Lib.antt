@@ -1,5 +1,4 @@
 pub mod Plain
 pub mod Stepwise
 pub mod Found
-pub mod Candidates
-pub mod Heads
+pub mod inner

@@ -6,10 +6,11 @@ use Rattle.descent.specs.declared.rules.Place.{Place}
 use Rattle.rule_links.specs.SizeLinks.{SizeFalls}
 use Rattle.rule_links.specs.Changes.{ChangesBy, MovesBy}
 
--- a form of ints: an int, its negative, or the sum of multiples from -4 to 4 of two ints
+-- a multiple of a form: a number from -4 to 4 other than 0
 abbrev pub IsMultiple : ℤ → Type 0
 IsMultiple times = (unsigned_abs times ≤ 4) × (0 < unsigned_abs times)
 
+-- a form of ints: an int, its negative, or the sum of multiples from -4 to 4 of two ints
 abbrev pub IsIntForm : List (Place × ℤ) → Type 0
 IsIntForm (one ∷ []) = unsigned_abs one.1 ≡ 1
 IsIntForm (one ∷ other ∷ []) = IsMultiple one.1 × IsMultiple other.1
@@ -29,11 +30,12 @@ pub record RanksInts (rules : List PathRule) (form : List (Place × ℤ)) : Type
   pub there : slice_get rules falling ≡ Some fallen
   pub falls : (c : ℤ) × FormChanges fallen form c × (c ≤ℤ negsuc 0)
 
--- a form of ints that never rises on the rules, where its ints move so, and falls on one of them
+-- along a rule a form of ints moves by c, where `moves` says by how much the int at a place moves
 abbrev pub FormMoves : (PathRule → Place → ℤ → Type 0) → PathRule → List (Place × ℤ) → ℤ → Type 0
 FormMoves moves rule [] c = c ≡ pos 0
 FormMoves moves rule (one ∷ rest) c = (d : ℤ) × (e : ℤ) × moves rule one.0 d × FormMoves moves rule rest e × (c ≡ one.1 *ℤ d +ℤ e)
 
+-- a form of ints never rises on the rules, and falls on one of them, where `moves` says by how much the int at a place moves
 pub record LowersBy (moves : PathRule → Place → ℤ → Type 0) (rules : List PathRule) (form : List (Place × ℤ)) : Type 0 where
   pub shape : IsIntForm form
   pub each : (n : ℕ) (rule : PathRule) → slice_get rules n ≡ Some rule → (c : ℤ) × FormMoves moves rule form c × (c ≤ℤ pos 0)
@@ -42,6 +44,7 @@ pub record LowersBy (moves : PathRule → Place → ℤ → Type 0) (rules : Lis
   pub there : slice_get rules falling ≡ Some fallen
   pub falls : (c : ℤ) × FormMoves moves fallen form c × (c ≤ℤ negsuc 0)
 
+-- a form of ints never rises on the rules, and falls on one of them, where some lists of int links say how its ints move
 abbrev pub LowersInts : List PathRule → List (Place × ℤ) → Type 0
 LowersInts rules form = LowersBy MovesBy rules form
 

@@ -1,7 +1,7 @@
 //! Forms of ints that may rank rules.
 ghost use Rattle.std.specs.Prelude.{◌≡◌, ◌<◌, ◌+ℤ◌, ◌*ℤ◌, ℕ, false, pos, None, Some, IfOk, IfSome, get_or, ◌&&◌, true, unsigned_abs};
-ghost use Rattle.rank_search.specs.Candidates.{value_of, form_value, is_weak, is_fall, never_rises, falls, ranks_by, multiple_of};
-ghost use Rattle.rank_search.specs.Candidates.{IsOneFound, IsSumFound, NoneOfPair, NoneWithOne, NoOne, NoSum, falling_form, NoFall};
+ghost use Rattle.rank_search.specs.inner.Candidates.{value_of, form_value, is_weak, is_fall, never_rises, falls, ranks_by, multiple_of};
+ghost use Rattle.rank_search.specs.inner.Candidates.{IsOneFound, IsSumFound, NoneOfPair, NoneWithOne, NoOne, NoSum, falling_form, NoFall};
 ghost use Rattle.rank_search.specs.Plain.{IsMultiple};
 
 use list_views::Seq;

@@ -4,7 +4,7 @@ ghost use Rattle.lin_core.specs.Rows.{RiseFrom};
 ghost use Rattle.descent.specs.Conditions.{AreRules};
 ghost use Rattle.rank_forms.specs.Graphs.{AreNamed, ArePathRules, ArePlainRules, AreSizeTerms, HasClose, IsCloseInt, IsOneKind};
 ghost use Rattle.rank_forms.specs.Graphs.{IsPathRule, IsPlainRule, IsShort, IsSizeSlot, head_of, heads, ids_of};
-ghost use Rattle.rank_search.specs.Heads.{AreShort, HasHeads, has_size, is_size};
+ghost use Rattle.rank_search.specs.inner.Heads.{AreShort, HasHeads, has_size, is_size};
 
 use descent::{PathRule, Place, SlotForm};
 use lin_core::WRow;

@@ -4,9 +4,9 @@ ghost use Rattle.descent.specs.Conditions.{AreRules};
 ghost use Rattle.rank_forms.specs.Graphs.{ArePlainRules};
 ghost use Rattle.rank_search.specs.Plain.{LowersBy, NoPlainForm, RanksSize};
 ghost use Rattle.rank_forms.specs.RankSteps.{IsRankStep};
-ghost use Rattle.rank_search.specs.Candidates.{IsTold};
+ghost use Rattle.rank_search.specs.inner.Candidates.{IsTold};
 ghost use Rattle.rank_forms.specs.Reasons.{TellsEach, TellsInts};
-ghost use Rattle.rule_links.specs.Searching.{IsMoved};
+ghost use Rattle.rule_links.specs.Ties.{IsMoved};
 ghost use Rattle.rank_forms.specs.SizeReasons.{TellsSizeAt};
 
 use crate::searching::PlainForm;

@@ -5,9 +5,9 @@ ghost use Rattle.descent.specs.declared.rules.Place.{Place};
 ghost use Rattle.rank_search.specs.Plain.{LowersBy, NoPlainForm, RanksSize};
 ghost use Rattle.rank_search.specs.Stepwise.{NoStepwiseForm, StepwiseRanks};
 ghost use Rattle.rank_search.specs.Found.{IsFound};
-ghost use Rattle.rule_links.specs.Searching.{IsMoved, IsTable};
-ghost use Rattle.rank_search.specs.Candidates.{IsOneFound, IsSumFound, NoOne, IsTold, NoInts, NoSize, NoSteps};
-ghost use Rattle.rule_links.specs.Rising.{ArePlacesOf, IsTableOf, TellsSize, TellsSteps};
+ghost use Rattle.rule_links.specs.Ties.{IsMoved, IsTable};
+ghost use Rattle.rank_search.specs.inner.Candidates.{IsOneFound, IsSumFound, NoOne, IsTold, NoInts, NoSize, NoSteps};
+ghost use Rattle.rule_links.specs.Falls.{ArePlacesOf, IsTableOf, TellsSize, TellsSteps};
 
 use crate::candidates::{Candidate, first_falling, one_int, sum_of_two};
 use descent::{PathRule, Place};

@@ -18,8 +18,9 @@ use Rattle.rule_links.specs.declared.links.Tie.{Tie}
 use Rattle.rule_links.specs.Links.{IsIntLink, IsWay, total}
 use Rattle.rule_links.specs.Changes.{IsChange}
 use Rattle.rule_links.specs.Positions.{AreEnds, IsVariable, StandsAt, slot_at}
-use Rattle.rule_links.specs.Searching.{InTies, Covers, IsReached, Known, has_none, only_variable, variable_of, variable_at, more_of}
-use Rattle.rule_links.specs.Searching.{IsDifference, IsFinished, IsKnownBy, AreIntTies, TellsChange}
+use Rattle.rule_links.specs.Ties.{InTies, Covers, IsReached, Known, has_none, only_variable, variable_of, variable_at, more_of}
+use Rattle.rule_links.specs.inner.Searching.{IsDifference, AreIntTies}
+use Rattle.rule_links.specs.Ties.{IsFinished, IsKnownBy, TellsChange}
 
 -- what one variable has more than another one
 abbrev pub Sound : List Tie → ℕ → Known → Type 0

@@ -8,8 +8,9 @@ use Rattle.std.proofs.lemmas.List.Sorted.{All-permutation}
 use Rattle.lin_core.specs.declared.rows.WRow.{WRow}
 use Rattle.rule_links.specs.declared.links.Link.{Link}
 use Rattle.rule_links.specs.declared.links.Tie.{Tie}
-use Rattle.rule_links.specs.Rising.{IsFallTie, fall_links, fall_row_ties, fall_ties_from, leading, led, order_in, rising_tie}
-use Rattle.rule_links.specs.Searching.{has_none, is_inequality}
+use Rattle.rule_links.specs.Falls.{IsFallTie}
+use Rattle.rule_links.specs.inner.Rising.{fall_links, fall_row_ties, fall_ties_from, leading, led, order_in, rising_tie}
+use Rattle.rule_links.specs.Ties.{has_none, is_inequality}
 use Rattle.rule_links.proofs.Fallen.{there_says, again_says, kind_is, none_is, order_terms}
 use Rattle.rule_links.proofs.Rests.{IsRest, rest_all, rest_first, rest_more}
 

@@ -16,8 +16,9 @@ use Rattle.lin_core.specs.declared.rows.RowKind.TheVariants.{AtLeastZero, IsZero
 use Rattle.lin_core.specs.declared.rows.WRow.{WRow}
 use Rattle.rule_links.specs.declared.links.Link.{Link}
 use Rattle.rule_links.specs.declared.links.Tie.{Tie}
-use Rattle.rule_links.specs.Rising.{AreRising, fall_links, fall_row_ties, fall_ties_from, leading, led, order_in, rising_tie}
-use Rattle.rule_links.specs.Searching.{InTies, has_none, is_inequality}
+use Rattle.rule_links.specs.Falls.{AreRising}
+use Rattle.rule_links.specs.inner.Rising.{fall_links, fall_row_ties, fall_ties_from, leading, led, order_in, rising_tie}
+use Rattle.rule_links.specs.Ties.{InTies, has_none, is_inequality}
 use Rattle.rule_links.specs.FallLinks.{IsFallLink, SaysBack, SaysFall, lower, upper}
 use Rattle.rule_links.proofs.Listed.{in_left, in_right, Rises, rise_both, one_rises, chosen_rise, rising_in, rising_is, in_cases}
 use Rattle.rule_links.proofs.Listed.{chosen_is, other_is, moved_in, moved_rise}

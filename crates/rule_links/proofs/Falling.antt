@@ -16,9 +16,11 @@ use Rattle.rule_links.specs.declared.links.Link.{Link}
 use Rattle.rule_links.specs.declared.links.Tie.{Tie}
 use Rattle.rule_links.specs.Links.{IsAmong, IsWay, total}
 use Rattle.rule_links.specs.SizeLinks.{IsSizeLink}
-use Rattle.rule_links.specs.Rising.{IsAtLeast, IsLongest, IsLongestTo, IsFall, TellAll, TellsSize, TellsSteps, TellsWays}
-use Rattle.rule_links.specs.Rising.{bounded_fall, bounded_from, bounds, has_bound}
-use Rattle.rule_links.specs.Searching.{InTies, IsReached, Known, is_alone, is_inequality, more_of, variable_at}
+use Rattle.rule_links.specs.Falls.{IsAtLeast, IsLongest, IsFall, TellAll, TellsSize, TellsSteps}
+use Rattle.rule_links.specs.inner.Rising.{IsLongestTo, TellsWays}
+use Rattle.rule_links.specs.inner.Rising.{bounded_fall, bounded_from}
+use Rattle.rule_links.specs.Falls.{bounds, has_bound}
+use Rattle.rule_links.specs.Ties.{InTies, IsReached, Known, is_alone, is_inequality, more_of, variable_at}
 use Rattle.rule_links.specs.FallLinks.{IsBounded, IsFallLink, sign}
 use Rattle.rule_links.proofs.Changed.{stands_is, stands_at}
 use Rattle.rule_links.proofs.Tied.{alone_is, kind_is}

@@ -8,8 +8,9 @@ use Rattle.std.proofs.lemmas.List.Sorted.{All-permutation, IsPermutation-sym}
 use Rattle.std.proofs.lemmas.Option.{get_or_from_slice_get, slice_get_within}
 use Rattle.rule_links.specs.declared.links.Link.{Link}
 use Rattle.rule_links.specs.declared.links.Tie.{Tie}
-use Rattle.rule_links.specs.Rising.{AreRising, rising_tie}
-use Rattle.rule_links.specs.Searching.{InTies}
+use Rattle.rule_links.specs.Falls.{AreRising}
+use Rattle.rule_links.specs.inner.Rising.{rising_tie}
+use Rattle.rule_links.specs.Ties.{InTies}
 
 pub in_left : (a b : List Tie) (link : Link) → InTies a link → InTies (a ++ b) link
 in_left [] b link h = absurd h

@@ -10,7 +10,7 @@ use Rattle.descent.specs.declared.rules.PathRule.{PathRule}
 use Rattle.descent.specs.declared.rules.Place.{Place}
 use Rattle.descent.specs.declared.rules.SlotForm.{SlotForm}
 use Rattle.rule_links.specs.Positions.{same, is_place, is_at, slot_at}
-use Rattle.rule_links.specs.Rising.{ArePlaces, ArePlacesOf, places_at_start, places_of, places_in}
+use Rattle.rule_links.specs.Falls.{ArePlaces, ArePlacesOf, places_at_start, places_of, places_in}
 
 abbrev IsIn : List Place → Place → Type 0
 IsIn places place = (k : ℕ) × (slice_get places k ≡ Some place)

@@ -15,8 +15,10 @@ use Rattle.rule_links.specs.declared.links.Come.{Come}
 use Rattle.rule_links.specs.declared.links.Link.{Link}
 use Rattle.rule_links.specs.declared.links.Tie.{Tie}
 use Rattle.rule_links.specs.Links.{IsWay, total}
-use Rattle.rule_links.specs.Rising.{is_more, raised_by, raised, AreRising, ComesBy, IsAtLeast, IsGreatest, IsLongest}
-use Rattle.rule_links.specs.Searching.{InTies, IsReached, Known, AreBelow}
+use Rattle.rule_links.specs.inner.Rising.{is_more, raised_by, raised}
+use Rattle.rule_links.specs.Falls.{AreRising, ComesBy, IsAtLeast, IsGreatest, IsLongest}
+use Rattle.rule_links.specs.Ties.{InTies, IsReached, Known}
+use Rattle.rule_links.specs.inner.Searching.{AreBelow}
 use Rattle.rule_links.proofs.Reached.{AreReached, reached_more, none_before}
 
 at_least_less : (known : Option Come) (a b : ℤ) → b ≤ℤ a → IsAtLeast known a → IsAtLeast known b

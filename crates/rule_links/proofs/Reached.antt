@@ -12,8 +12,9 @@ use Rattle.rule_links.specs.declared.links.Come.{Come}
 use Rattle.rule_links.specs.declared.links.Link.{Link}
 use Rattle.rule_links.specs.declared.links.Tie.{Tie}
 use Rattle.rule_links.specs.Links.{IsWay, total}
-use Rattle.rule_links.specs.Searching.{InTies, IsReached, Known, moves_at, moves, by_of, step, relaxed, any_moves, begun, passed}
-use Rattle.rule_links.specs.Searching.{span_from, unknown, AreBelow, IsFinished}
+use Rattle.rule_links.specs.Ties.{InTies, IsReached, Known, moves_at, moves, by_of, step, relaxed, any_moves, begun, passed}
+use Rattle.rule_links.specs.Ties.{span_from, IsFinished}
+use Rattle.rule_links.specs.inner.Searching.{unknown, AreBelow}
 
 -- a way that goes on by one link more
 way_more : (kind : Link → Type 0) (u v : ℕ) (links : List Link) (link : Link) → IsWay kind u links v → link.from ≡ v → kind link

@@ -12,9 +12,11 @@ use Rattle.lin_core.specs.declared.rows.WRow.{WRow}
 use Rattle.lin_core.specs.Weights.{AreRows, IsRow}
 use Rattle.rule_links.specs.declared.links.Link.{Link}
 use Rattle.rule_links.specs.declared.links.Tie.{Tie}
-use Rattle.rule_links.specs.Rising.{back_ties, gives, given_by, given_ties, is_part, order_in, part_ties, rising_tie, size_constant}
-use Rattle.rule_links.specs.Rising.{size_row_ties, size_ties_from, IsSizeTie, SaysSize}
-use Rattle.rule_links.specs.Searching.{InTies, is_inequality}
+use Rattle.rule_links.specs.inner.Rising.{back_ties, gives, given_by, given_ties, is_part, order_in, part_ties, rising_tie}
+use Rattle.rule_links.specs.Falls.{size_constant}
+use Rattle.rule_links.specs.inner.Rising.{size_row_ties, size_ties_from}
+use Rattle.rule_links.specs.Falls.{IsSizeTie, SaysSize}
+use Rattle.rule_links.specs.Ties.{InTies, is_inequality}
 use Rattle.rule_links.proofs.FallRows.{Each, each_all, each_both, each_chosen, each_rising}
 use Rattle.rule_links.proofs.Rests.{IsRest, rest_all, rest_first, rest_more}
 use Rattle.rule_links.proofs.Sized.{SaysOther, SaysPart, back_says, given_says}

@@ -21,9 +21,11 @@ use Rattle.lin_core.specs.Weights.{AreRows, IsRow}
 use Rattle.rule_links.specs.declared.links.Link.{Link}
 use Rattle.rule_links.specs.declared.links.Tie.{Tie}
 use Rattle.rule_links.specs.SizeLinks.{GivesSize, IsSizeLink, weighed_once}
-use Rattle.rule_links.specs.Rising.{AreRising, back_ties, gives, given_by, given_ties, has_zero, is_part, is_zero, order_in}
-use Rattle.rule_links.specs.Rising.{part_ties, rising_tie, size_constant, size_row_ties, size_ties_from}
-use Rattle.rule_links.specs.Searching.{InTies, is_bound, is_inequality}
+use Rattle.rule_links.specs.Falls.{AreRising, has_zero, is_zero}
+use Rattle.rule_links.specs.inner.Rising.{back_ties, gives, given_by, given_ties, is_part, order_in}
+use Rattle.rule_links.specs.inner.Rising.{part_ties, rising_tie, size_row_ties, size_ties_from}
+use Rattle.rule_links.specs.Falls.{size_constant}
+use Rattle.rule_links.specs.Ties.{InTies, is_bound, is_inequality}
 use Rattle.rule_links.specs.Links.{HasBound, IsAmong}
 use Rattle.rule_links.proofs.Tied.{bound_is, bound_told}
 use Rattle.rule_links.proofs.Fallen.{order_terms}

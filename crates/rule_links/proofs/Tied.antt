@@ -17,9 +17,9 @@ use Rattle.rule_links.specs.declared.links.Link.{Link}
 use Rattle.rule_links.specs.declared.links.Beside.{Beside}
 use Rattle.rule_links.specs.declared.links.Tie.{Tie}
 use Rattle.rule_links.specs.Links.{IsAmong, HasBound, IsFixed, LeadsOn, IsTie, IsTieBeside, LinksOf, IsIntLink}
-use Rattle.rule_links.specs.Searching.{is_inequality, is_alone, has_none, is_bound, is_opposite, most_from, most_of, fixed_or}
-use Rattle.rule_links.specs.Searching.{fixed_from, constant_at, order_of, both_ways, ties_of, ties_at, ties_beside, beside_ties}
-use Rattle.rule_links.specs.Searching.{terms_ties, row_ties, ties_from, InTies, Covers}
+use Rattle.rule_links.specs.Ties.{is_inequality, is_alone, has_none, is_bound, is_opposite, most_from, most_of, fixed_or}
+use Rattle.rule_links.specs.Ties.{fixed_from, constant_at, order_of, both_ways, ties_of, ties_at, ties_beside, beside_ties}
+use Rattle.rule_links.specs.Ties.{terms_ties, row_ties, ties_from, InTies, Covers}
 use Rattle.rule_links.proofs.Listed.{in_cases}
 
 -- a row that bounds a variable

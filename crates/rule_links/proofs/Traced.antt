@@ -2,7 +2,7 @@
 use Rattle.std.proofs.Common.{◌≡◌, ℕ, suc, ◌+◌, ◌-◌, ◌<◌, List, [], ◌∷◌, ◌++◌, get_or, Option, Some, None, ap, arith, ◌∙◌, sym}
 use Rattle.std.proofs.Common.{append_assoc}
 use Rattle.rule_links.specs.declared.links.Tie.{Tie}
-use Rattle.rule_links.specs.Searching.{Known, last_of, trail_by, trail_from}
+use Rattle.rule_links.specs.Ties.{Known, last_of, trail_by, trail_from}
 
 -- one tie of a trail more
 pub trail_next : (known : Known) (from n count : ℕ) (tie : Tie) → n < count → last_of (get_or known from None) ≡ Some tie

@@ -21,7 +21,8 @@ pub record ChangesBy (rule : PathRule) (place : Place) (c : ℤ) : Type 0 where
   pub ends : AreEnds rule false place start finish
   pub change : IsChange rule.rows start finish c
 
--- the same where some lists of links say so. Where others say something else, the rule can never be taken
+-- along a rule some list of int links says that the int at a place moves by c. Where other lists say something else, the rule can never be
+-- taken
 pub record MovesBy (rule : PathRule) (place : Place) (c : ℤ) : Type 0 where
   pub start : ℕ
   pub finish : ℕ

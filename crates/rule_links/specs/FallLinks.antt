@@ -8,11 +8,12 @@ use Rattle.rule_links.specs.declared.links.Link.{Link}
 use Rattle.rule_links.specs.Links.{IsAmong, IsWay, total}
 use Rattle.rule_links.specs.Positions.{AreEnds}
 
--- the variable that counts up, and the one that counts down: u - v for a form, v - u for its negative
+-- of a link's two variables the one that counts up: where the link starts, or where it leads for the negative of the int
 abbrev pub upper : Bool → Link → ℕ
 upper true link = link.to
 upper false link = link.from
 
+-- of a link's two variables the one that counts down: where the link leads, or where it starts for the negative of the int
 abbrev pub lower : Bool → Link → ℕ
 lower true link = link.from
 lower false link = link.to
@@ -48,11 +49,12 @@ pub record StepsDown (negative : Bool) (rule : PathRule) (place : Place) (c : �
   pub way : IsWay (IsFallLink negative rule.rows) start links finish
   pub adds : total links ≡ c
 
--- the start value is bounded on the side that counts
+-- the coefficient with which the start of a rule is bounded: 1 for the int, -1 for its negative
 abbrev pub sign : Bool → ℤ
 sign true = negsuc 0
 sign false = pos 1
 
+-- a row of the rule bounds the int at the start: an inequality over this variable alone, from below, or from above for its negative
 pub record IsBounded (negative : Bool) (rule : PathRule) (start : ℕ) : Type 0 where
   pub row : WRow
   pub among : IsAmong rule.rows row

@@ -3,6 +3,7 @@ pub mod Positions
 pub mod Changes
 pub mod SizeLinks
 pub mod FallLinks
-pub mod Searching
-pub mod Rising
+pub mod Ties
+pub mod Falls
 pub mod Counting
+pub mod inner

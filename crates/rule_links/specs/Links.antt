@@ -5,6 +5,7 @@ use Rattle.lin_core.specs.declared.rows.RowKind.TheVariants.{AtLeastZero, IsZero
 use Rattle.lin_core.specs.declared.rows.WRow.{WRow}
 use Rattle.rule_links.specs.declared.links.Link.{Link}
 
+-- a row is one of the rows
 abbrev pub IsAmong : List WRow → WRow → Type 0
 IsAmong rows row = (n : ℕ) × (slice_get rows n ≡ Some row)
 
@@ -40,6 +41,8 @@ pub record IsTieBeside (rows : List WRow) (third one other : ℕ × ℤ) (k : �
   pub fixed : IsFixed rows third.0 number
   pub tie : IsTie one other (k +ℤ third.1 *ℤ number) link
 
+-- two or three terms that are 0 with a number give this link: of two terms a tie, of three terms a tie where one of the variables is fixed
+-- at a number
 abbrev pub LinksOf : List WRow → List (ℕ × ℤ) → ℤ → Link → Type 0
 LinksOf rows (one ∷ other ∷ []) k link = IsTie one other k link
 LinksOf rows (a ∷ b ∷ c ∷ []) k link = IsTieBeside rows a b c k link ⊎ (IsTieBeside rows b a c k link ⊎ IsTieBeside rows c a b k link)
@@ -53,15 +56,17 @@ pub record IsIntLink (rows : List WRow) (link : Link) : Type 0 where
   pub weightless : row.weights ≡ []
   pub tied : LinksOf rows row.terms row.constant link
 
--- from one variable to another by links of a kind, each beginning where the one before ends; how much they add
+-- a link of a kind that begins at a variable
 pub record IsStep (links : Link → Type 0) (u : ℕ) (link : Link) : Type 0 where
   pub begins : link.from ≡ u
   pub is : links link
 
+-- from one variable to another one by links of a kind, each beginning where the one before ends
 abbrev pub IsWay : (Link → Type 0) → ℕ → List Link → ℕ → Type 0
 IsWay links u [] v = u ≡ v
 IsWay links u (link ∷ rest) v = IsStep links u link × IsWay links link.to rest v
 
+-- how much the links of a list add together
 abbrev pub total : List Link → ℤ
 total [] = pos 0
 total (link ∷ rest) = link.by +ℤ total rest

@@ -5,9 +5,11 @@ use Rattle.descent.specs.declared.rules.PathRule.{PathRule}
 use Rattle.descent.specs.declared.rules.Place.{Place}
 use Rattle.descent.specs.declared.rules.SlotForm.{SlotForm}
 
+-- two Boolean values are equal
 abbrev pub same : Bool → Bool → Bool
 same one other = if one then other else not other
 
+-- two places are one: of the same frame, both of the stack or both locals, and of the same number there
 abbrev pub is_place : Place → Place → Bool
 is_place one other = one.frame == other.frame && (same one.stack other.stack && one.index == other.index)
 
@@ -15,7 +17,7 @@ is_place one other = one.frame == other.frame && (same one.stack other.stack && 
 abbrev pub is_at : Bool → Place → SlotForm → Bool
 is_at size place slot = same slot.size size && list_any (λ (other : Place). is_place other place) slot.places
 
--- the first such slot
+-- the first slot of the kind that stands at the place
 abbrev pub slot_at : List SlotForm → Bool → Place → Option SlotForm
 slot_at slots size place = find (is_at size place) slots
 

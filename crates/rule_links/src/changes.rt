@@ -1,6 +1,7 @@
 //! How ints change along rules.
 ghost use Rattle.std.specs.Prelude.{◌≡◌, IfOk};
-ghost use Rattle.rule_links.specs.Searching.{IsDifference, AreIntTies, TellsChange, TellChanges, more_of};
+ghost use Rattle.rule_links.specs.inner.Searching.{IsDifference, AreIntTies};
+ghost use Rattle.rule_links.specs.Ties.{TellsChange, TellChanges, more_of};
 
 use crate::links::{Come, Tie};
 use crate::positions::variable_at;

@@ -3,9 +3,10 @@ ghost use Rattle.std.specs.Prelude.{◌≡◌, List, [], get_or, None, Some, IfO
 ghost use Rattle.std.specs.List.Sorted.{IsNonDecreasingBy};
 ghost use Rattle.descent.specs.Conditions.{AreRules, IsRule};
 ghost use Rattle.rule_links.specs.declared.links.Tie.{Tie};
-ghost use Rattle.rule_links.specs.Rising.{AreRising, IsLongestTo, IsTableOf, TellAll, TellsSize, TellsSteps, TellsWays};
-ghost use Rattle.rule_links.specs.Rising.{bounded_fall, starts_bounded};
-ghost use Rattle.rule_links.specs.Searching.{IsTable};
+ghost use Rattle.rule_links.specs.Falls.{AreRising, IsTableOf, TellAll, TellsSize, TellsSteps};
+ghost use Rattle.rule_links.specs.inner.Rising.{IsLongestTo, TellsWays};
+ghost use Rattle.rule_links.specs.inner.Rising.{bounded_fall, starts_bounded};
+ghost use Rattle.rule_links.specs.Ties.{IsTable};
 
 use crate::changes::{changes_of, more_of};
 use crate::links::Tie;

@@ -1,7 +1,7 @@
 //! The places that come into question.
 ghost use Rattle.std.specs.Prelude.{◌≡◌, ◌++◌, IfOk, OnOk, if◌then◌else◌, MatchOption, None, Some, slice_get};
 ghost use Rattle.rule_links.specs.Positions.{same};
-ghost use Rattle.rule_links.specs.Rising.{ArePlacesOf, places_at_start, places_in, places_of};
+ghost use Rattle.rule_links.specs.Falls.{ArePlacesOf, places_at_start, places_in, places_of};
 
 use crate::positions::same;
 use descent::{PathRule, Place, SlotForm};

@@ -3,7 +3,7 @@ ghost use Rattle.std.specs.Prelude.{◌≡◌, None, Some, MatchOption};
 ghost use Rattle.std.specs.List.{list_any};
 ghost use Rattle.descent.specs.declared.rules.Place.{Place};
 ghost use Rattle.rule_links.specs.Positions.{same, is_place, is_at, slot_at};
-ghost use Rattle.rule_links.specs.Searching.{only_variable, variable_of, variable_at};
+ghost use Rattle.rule_links.specs.Ties.{only_variable, variable_of, variable_at};
 
 use descent::{Place, SlotForm};
 

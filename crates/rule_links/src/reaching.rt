@@ -2,7 +2,8 @@
 ghost use Rattle.std.specs.Prelude.{◌≡◌, ◌<◌, ◌+ℤ◌, ℕ, suc, ℤ, None, Some, SomeIff, FitsSigned, IfOk, get_or, replicate};
 ghost use Rattle.std.specs.Int.{w64};
 ghost use Rattle.rule_links.specs.declared.links.Come.{Come};
-ghost use Rattle.rule_links.specs.Searching.{IsReached, moves, step, relaxed, any_moves, by_of, span_from, AreBelow, IsFinished};
+ghost use Rattle.rule_links.specs.Ties.{IsReached, moves, step, relaxed, any_moves, by_of, span_from, IsFinished};
+ghost use Rattle.rule_links.specs.inner.Searching.{AreBelow};
 
 use crate::links::{Come, Tie};
 use std::alloc::{AllocError, Global};

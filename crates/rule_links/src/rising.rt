@@ -2,7 +2,8 @@
 ghost use Rattle.std.specs.Prelude.{◌≡◌, ◌<◌, IfOk, OnOk};
 ghost use Rattle.std.specs.List.Sorted.{IsNonDecreasingBy, IsPermutation};
 ghost use Rattle.rule_links.specs.declared.links.Tie.{Tie};
-ghost use Rattle.rule_links.specs.Rising.{AreRising, IsLongest, is_more, raised};
+ghost use Rattle.rule_links.specs.Falls.{AreRising, IsLongest};
+ghost use Rattle.rule_links.specs.inner.Rising.{is_more, raised};
 
 use crate::links::{Come, Tie};
 use crate::reaching::{known_of, none_known, span, sum};

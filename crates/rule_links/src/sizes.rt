@@ -5,9 +5,11 @@ ghost use Rattle.lin_core.specs.Weights.{AreRows};
 ghost use Rattle.rule_links.specs.declared.links.Link.{Link};
 ghost use Rattle.rule_links.specs.declared.links.Tie.{Tie};
 ghost use Rattle.rule_links.specs.SizeLinks.{IsSizeLink, weighed_once};
-ghost use Rattle.rule_links.specs.Rising.{AreRising, back_ties, gives, given_by, given_ties, has_zero, is_part, is_zero, order_in};
-ghost use Rattle.rule_links.specs.Rising.{part_ties, rising_tie, size_constant, size_row_ties, size_ties_from, IsSizeTie, zero_from};
-ghost use Rattle.rule_links.specs.Searching.{InTies};
+ghost use Rattle.rule_links.specs.Falls.{AreRising, has_zero, is_zero};
+ghost use Rattle.rule_links.specs.inner.Rising.{back_ties, gives, given_by, given_ties, is_part, order_in};
+ghost use Rattle.rule_links.specs.inner.Rising.{part_ties, rising_tie, size_row_ties, size_ties_from};
+ghost use Rattle.rule_links.specs.Falls.{size_constant, IsSizeTie, zero_from};
+ghost use Rattle.rule_links.specs.Ties.{InTies};
 
 use crate::links::{Link, Tie};
 use crate::reaching::sum;

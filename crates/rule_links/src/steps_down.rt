@@ -3,9 +3,10 @@ ghost use Rattle.std.specs.Prelude.{All, ◌≡◌, ◌++◌, [], true, false, S
 ghost use Rattle.std.specs.List.Sorted.{IsNonDecreasingBy};
 ghost use Rattle.rule_links.specs.declared.links.Link.{Link};
 ghost use Rattle.rule_links.specs.declared.links.Tie.{Tie};
-ghost use Rattle.rule_links.specs.Rising.{IsFallTie, AreRising, bounds, fall_links, fall_row_ties, fall_ties_from, has_bound};
-ghost use Rattle.rule_links.specs.Rising.{leading, led, rising_tie};
-ghost use Rattle.rule_links.specs.Searching.{InTies};
+ghost use Rattle.rule_links.specs.Falls.{IsFallTie, AreRising, bounds, has_bound};
+ghost use Rattle.rule_links.specs.inner.Rising.{fall_links, fall_row_ties, fall_ties_from};
+ghost use Rattle.rule_links.specs.inner.Rising.{leading, led, rising_tie};
+ghost use Rattle.rule_links.specs.Ties.{InTies};
 ghost use Rattle.rule_links.specs.FallLinks.{IsFallLink};
 
 use crate::links::Tie;

@@ -4,9 +4,9 @@ ghost use Rattle.std.specs.Int.{w64};
 ghost use Rattle.std.specs.Ordering.{int_eq};
 ghost use Rattle.rule_links.specs.declared.links.Link.{Link};
 ghost use Rattle.rule_links.specs.Links.{IsIntLink};
-ghost use Rattle.rule_links.specs.Searching.{is_inequality, is_alone, is_bound, is_opposite, most_from, most_of, fixed_from};
-ghost use Rattle.rule_links.specs.Searching.{constant_at, order_of, both_ways, ties_of, ties_at, beside_ties, terms_ties, row_ties};
-ghost use Rattle.rule_links.specs.Searching.{ties_from, InTies, Covers};
+ghost use Rattle.rule_links.specs.Ties.{is_inequality, is_alone, is_bound, is_opposite, most_from, most_of, fixed_from};
+ghost use Rattle.rule_links.specs.Ties.{constant_at, order_of, both_ways, ties_of, ties_at, beside_ties, terms_ties, row_ties};
+ghost use Rattle.rule_links.specs.Ties.{ties_from, InTies, Covers};
 
 use crate::links::{Beside, Link, Tie};
 use lin_core::{RowKind, WRow};

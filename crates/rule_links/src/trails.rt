@@ -1,6 +1,6 @@
 //! Trails: the links by which a variable was come to, and the multipliers that they stand for.
 ghost use Rattle.std.specs.Prelude.{◌≡◌, IfOk, length};
-ghost use Rattle.rule_links.specs.Searching.{last_of, trail_from};
+ghost use Rattle.rule_links.specs.Ties.{last_of, trail_from};
 
 use crate::links::{Beside, Come, Tie};
 use crate::multipliers::Multipliers;

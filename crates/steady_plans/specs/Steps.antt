@@ -4,7 +4,7 @@ use Rattle.std.specs.List.{AllByRecursion}
 use Rattle.abs_turns.specs.Plans.{Act, nothing, makes, writes, item, object, array, nowhere, Turn, Plan, ends, steps, by_null}
 use Rattle.abs_turns.specs.Plans.{by_class, by_equal}
 
--- an act makes an id
+-- an act makes a fresh id
 abbrev pub makes_id : Act → Bool
 makes_id nothing = false
 makes_id (makes cell) = true
@@ -13,16 +13,16 @@ makes_id (item k) = true
 makes_id (object class) = true
 makes_id (array slot len) = true
 
--- no id goes anywhere, and the rows are the same whatever id they are given
+-- a step sends no id anywhere, and its rows are the same whatever id they are given
 pub record SendsNone (turn : Turn) : Type 0 where
   pub goal : turn.goal ≡ nowhere
   pub rows : (a b : ℕ) → turn.rows a ≡ turn.rows b
 
--- so it is with a step that makes no id
+-- a step is steady: where its act makes no id, it sends none anywhere, and its rows name none
 abbrev pub IsSteady : Turn → Type 0
 IsSteady turn = makes_id turn.act ≡ false → SendsNone turn
 
--- and with each step of a plan
+-- each step of a plan is steady; a plan that ends or splits has no steps
 abbrev pub AreSteady : Plan → Type 0
 AreSteady ends = Unit {0}
 AreSteady (steps turns) = AllByRecursion IsSteady turns

@@ -56,7 +56,7 @@ use Rattle.jvm_run.proofs.Objects.{erased_class, class_below_by}
 use Rattle.term_graph.specs.Edges.{HoldsBetween}
 use Rattle.abs_expand.specs.Plans.{makes, in_field, Turn, Plan, steps, no_rows}
 use Rattle.abs_expand.specs.Children.{set_field, field_with}
-use Rattle.abs_expand.specs.Building.{HoldsIds}
+use Rattle.abs_expand.specs.inner.Building.{HoldsIds}
 use Rattle.abs_expand.specs.Table.{cell_here as cell_of, on_instance, put_slot, putfield_plan}
 use Rattle.abs_expand.specs.Turns.{moves, turn_narrowing, turns_narrowing, interval_of_id, with_stack as stack_at}
 use Rattle.form_steps.proofs.SomeOf.{SomeOf, some_one, some_of_map}

@@ -11,7 +11,7 @@ use Rattle.frame_types.specs.Tables.{CodeTypes}
 use Rattle.jvm_run.specs.Laws.{StepsAreTyped}
 use Rattle.abs_expand.specs.Laws.{IsMet, EndsEnd, StepsFitChildren}
 use Rattle.abs_expand.specs.Expansions.{plan_of}
-use Rattle.form_steps.specs.Laws.{Lows, AreThrowablesErased}
+use Rattle.form_steps.specs.inner.Lows.{Lows, AreThrowablesErased}
 use Rattle.step_laws.proofs.Premises.{throwables_erased}
 use Rattle.step_laws.proofs.Covering.{covered}
 use Rattle.step_laws.proofs.Meeting.{to_child, stands, wide, plan_meets}

@@ -30,7 +30,7 @@ use Rattle.class_program.specs.Programs.{Program}
 use Rattle.code_verify.specs.Flows.{covers, CanCatch}
 use Rattle.abs_expand.specs.Needs.{is_unknown}
 use Rattle.abs_expand.specs.Throwing.{takes_type, thrown_type, takes, is_below_bound, may_take, before_taker}
-use Rattle.form_steps.specs.Laws.{AreThrowablesErased}
+use Rattle.form_steps.specs.inner.Lows.{AreThrowablesErased}
 use Rattle.form_steps.proofs.Standing.{Rests}
 use Rattle.form_steps.proofs.TurnKinds.{sound_at}
 

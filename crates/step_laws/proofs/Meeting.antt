@@ -22,7 +22,7 @@ use Rattle.abs_cells.specs.declared.cells.Cell.TheVariants as cells
 use Rattle.abs_cells.specs.AbstractStates.{AbstractFrame, AbstractState}
 use Rattle.abs_cells.specs.Cells.{is_int, HasCell}
 use Rattle.abs_cells.specs.Fits.{Meaning, FitsFrame, FitsMode, with_statics, Describes, Fits, IsClosedState}
-use Rattle.class_world.specs.WorldLaws.{world_laws}
+use Rattle.class_world.specs.lemmas.WorldLaws.{world_laws}
 use Rattle.class_world.specs.WorldTypes.{types_of}
 use Rattle.class_world.proofs.BuiltInLaws.{built_ins_known}
 use Rattle.class_program.specs.declared.op.Op.{Op}
@@ -55,11 +55,11 @@ use Rattle.abs_expand.specs.Expansions.{plan_here, plan_in, plan_of, AreExpanded
 use Rattle.abs_expand.specs.Laws.{IsAfter, GoesToChild, IsMet}
 use Rattle.abs_expand.proofs.ZipLists.{beside}
 use Rattle.form_steps.proofs.SomeOf.{SomeOf}
-use Rattle.form_steps.specs.Laws.{DroppedKeepSized}
+use Rattle.form_steps.specs.inner.Lows.{DroppedKeepSized}
 use Rattle.form_steps.proofs.Steps.{FitsChild, dropped_fits, dropped_sort, sized_there}
 use Rattle.form_steps.proofs.Tops.{FitFrames, tops, from_tops}
 use Rattle.form_steps.proofs.Bottoms.{StandsOnStatics, last_of, on_statics_of}
-use Rattle.form_steps.specs.Laws.{Lows}
+use Rattle.form_steps.specs.inner.Lows.{Lows}
 use Rattle.form_steps.proofs.Standing.{rests, Stands, here, held}
 use Rattle.form_steps.proofs.TurnKinds.{Fitting, FitsSplit, Meets}
 use Rattle.form_steps.proofs.Needs.{IsTypedId, tested_meets}

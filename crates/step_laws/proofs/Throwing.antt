@@ -24,7 +24,7 @@ use Rattle.abs_cells.specs.Cells.{cell_at, HasCell}
 use Rattle.abs_cells.specs.Sound.{is_object}
 use Rattle.abs_cells.specs.Fits.{Meaning, FitsFrame, FitsMode, with_statics}
 use Rattle.class_world.specs.BuiltIns.{throwable}
-use Rattle.class_world.specs.WorldLaws.{world_laws}
+use Rattle.class_world.specs.lemmas.WorldLaws.{world_laws}
 use Rattle.class_world.specs.WorldTypes.{types_of}
 use Rattle.class_program.specs.declared.program.CatchRange.{CatchRange}
 use Rattle.class_program.specs.declared.program.Method.{Method}
@@ -35,7 +35,7 @@ use Rattle.code_verify.specs.TypedStates.{IsUnwinding, AreTypedFrames}
 use Rattle.jvm_step.specs.Running.{Step, step, step_in, throwing_step, handled as handled_by, IsEnd}
 use Rattle.term_graph.specs.Edges.{HoldsBetween}
 use Rattle.abs_expand.specs.BadStates.{IsRunningPlaced, ArePlaced, statics_under}
-use Rattle.abs_expand.specs.Building.{HoldsIds}
+use Rattle.abs_expand.specs.inner.Building.{HoldsIds}
 use Rattle.abs_expand.specs.Expansions.{plan_in, plan_of}
 use Rattle.abs_expand.specs.Laws.{IsMet}
 use Rattle.abs_expand.specs.Needs.{Passing, passes, splits, passing_id, may_be_null, is_unknown, split_below}
@@ -45,7 +45,7 @@ use Rattle.abs_expand.specs.Turns.{moves}
 use Rattle.form_steps.proofs.Formed.{frames_held}
 use Rattle.form_steps.proofs.Steps.{moved_goes}
 use Rattle.form_steps.proofs.Tops.{FitFrames, tops, from_tops}
-use Rattle.form_steps.specs.Laws.{Lows, AreThrowablesErased}
+use Rattle.form_steps.specs.inner.Lows.{Lows, AreThrowablesErased}
 use Rattle.step_laws.proofs.Handlers.{is_caught, none_may, finds_same}
 use Rattle.step_laws.proofs.Meeting.{TopFrames, top_frames, closed_state}
 use Rattle.form_steps.proofs.Needs.{IsTypedId, passing_typed, split_meets}

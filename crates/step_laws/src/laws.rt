@@ -1,6 +1,6 @@
 //! What expansions promise of the machine. The laws are calls that do nothing when they run.
 ghost use Rattle.abs_expand.specs.Laws.{EndsEnd, StepsFitChildren};
-ghost use Rattle.form_steps.specs.Laws.{Lows};
+ghost use Rattle.form_steps.specs.inner.Lows.{Lows};
 
 use abs_heap::{
     arrays_go_on, classes_split, equal_splits, int_writes_go_on, items_go_on, null_splits,

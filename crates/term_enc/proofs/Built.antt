@@ -15,7 +15,7 @@ use Rattle.abs_cells.specs.Patterns.{Pattern, Patterns, null, leaf, node, variab
 use Rattle.term_enc.specs.declared.terms.PatternTerm.{PatternTerm, PatternTerm-F, fold-roll-PatternTerm}
 use Rattle.term_enc.specs.declared.terms.PatternTerm.TheVariants.{Null, Leaf, Node, Var, rolls-Null, rolls-Leaf, rolls-Node, rolls-Var}
 use Rattle.term_enc.specs.Encoding.{patterns_from, pattern_step, pattern_of}
-use Rattle.term_enc.specs.Counting.{pattern_in}
+use Rattle.term_enc.specs.inner.Counting.{pattern_in}
 use Rattle.term_enc.proofs.Levels.{put, IsSplit, split}
 
 -- ---- the equations of `pattern_of`, one for each variant

@@ -6,7 +6,7 @@ use Rattle.std.proofs.Math.Seq.{drop-cons}
 use Rattle.abs_cells.specs.declared.cells.Cell.{Cell}
 use Rattle.abs_cells.specs.declared.cells.Cell.TheVariants.{Obj}
 use Rattle.abs_cells.specs.Cells.{cell_in}
-use Rattle.term_enc.specs.Counting.{one_less, left_after_all, left_after_cell, left_after}
+use Rattle.term_enc.specs.inner.Counting.{one_less, left_after_all, left_after_cell, left_after}
 
 less : (n : ℕ) → n ≡ suc n - 1
 less n = omega arith

@@ -15,7 +15,7 @@ use Rattle.abs_cells.specs.Patterns.{Pattern, Patterns, null, leaf, node, variab
 use Rattle.abs_cells.specs.Patterns.{pattern_within, IsSized}
 use Rattle.term_enc.specs.declared.terms.PatternTerm.{PatternTerm}
 use Rattle.term_enc.specs.Encoding.{pattern_of, Encodes}
-use Rattle.term_enc.specs.Counting.{pattern_in, count_given, IsSmall, IsSmallAnswer}
+use Rattle.term_enc.specs.inner.Counting.{pattern_in, count_given, IsSmall, IsSmallAnswer}
 use Rattle.term_enc.proofs.Built.{weaker}
 
 -- ---- patterns by a state are patterns by its cells

@@ -10,7 +10,7 @@ use Rattle.abs_cells.specs.Cells.{cell_in}
 use Rattle.abs_cells.specs.Patterns.{Pattern, Patterns, with_first, patterns_by, pattern_of_cell, count_in, counts_in}
 use Rattle.abs_cells.specs.Patterns.Pattern.{null, leaf, node, variable}
 use Rattle.abs_cells.specs.Patterns.Patterns.{none, more}
-use Rattle.term_enc.specs.Counting.{pattern_in, one_less, left_after_all, left_after_cell, left_after, count_given}
+use Rattle.term_enc.specs.inner.Counting.{pattern_in, one_less, left_after_all, left_after_cell, left_after, count_given}
 
 -- what is given comes first
 unfoldable pub put : Option Pattern → Patterns → Patterns

@@ -10,7 +10,7 @@ use Rattle.abs_cells.specs.declared.cells.Cell.TheVariants.{Int, Null, Obj, Nums
 use Rattle.abs_cells.specs.Cells.{cell_in}
 use Rattle.abs_cells.specs.Patterns.{Pattern, Patterns, patterns_by, pattern_of_cell, counts_in}
 use Rattle.abs_cells.specs.Patterns.Pattern.{node}
-use Rattle.term_enc.specs.Counting.{pattern_in, left_after, count_given, IsSmall}
+use Rattle.term_enc.specs.inner.Counting.{pattern_in, left_after, count_given, IsSmall}
 use Rattle.term_enc.proofs.Levels.{counts_put, split, with_put, leaves, tells}
 
 -- what is given with fewer parts than a number is given by the other too

@@ -18,7 +18,7 @@ pattern_step PatternTerm-F.Leaf = leaf
 pattern_step (PatternTerm-F.Node class children) = node class (patterns_from children.items)
 pattern_step (PatternTerm-F.Var id) = variable id
 
--- the pattern that a value of the code is
+-- the pattern that a value of the code stands for
 abbrev pub pattern_of : PatternTerm → Pattern
 pattern_of = fold-PatternTerm Pattern pattern_step
 

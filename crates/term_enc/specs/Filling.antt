@@ -7,7 +7,8 @@ use Rattle.jvm_heaps.specs.AcyclicTerms.{HasTerm}
 use Rattle.abs_cells.specs.Fits.{Meaning}
 use Rattle.abs_cells.specs.Patterns.{Pattern, Patterns, null, leaf, node, variable, none, more}
 
--- a term is a pattern in which each variable is replaced by a term that stands for it
+-- a term is a pattern in which each variable is replaced by a term that stands for it; below it,
+-- the terms of the children are those of the patterns, one by one
 abbrev mutual
   pub IsFilled : (ℕ → HeapTerm → Type 0) → Pattern → HeapTerm → Type 0
   IsFilled stands null terms.null = Unit {0}

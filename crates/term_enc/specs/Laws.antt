@@ -16,23 +16,23 @@ use Rattle.term_graph.specs.Edges.{is_size_variable, id_after, Edge, InstanceEdg
 use Rattle.term_enc.specs.Filling.{HasTermByPattern}
 use Rattle.term_enc.specs.Sizes.{weight_of, Weighs, variables_in, size_terms, size_weights, size_row}
 
--- a state of the machine that a well-formed state describes, with no reference past the heap's end
+-- a well-formed abstract state describes a state of the machine, which has no reference past its heap's end
 pub record IsDescribed (types : WorldTypes) (state : AbstractState) (machine : MachineState) (meaning : Meaning) : Type 0 where
   pub good : IsWellFormed state
   pub fits : Fits types state machine meaning
   pub closed : IsClosedState machine state meaning
 
--- an id is sized, by this pattern
+-- an id is sized, and this is its pattern
 pub record IsSizedBy (state : AbstractState) (id : ℕ) (pattern : Pattern) : Type 0 where
   pub sized : IsSized state id
   pub is : IsPattern state id pattern
 
--- each variable of a pattern has as its number what the term of its value weighs
+-- the number of each variable of a pattern is what the term of the variable's value weighs
 abbrev pub HaveWeights : (ℕ → ℤ) → MachineState → Meaning → (ℕ → ℤ) → (ℕ → ℕ) → Pattern → Type 0
 HaveWeights weigh machine meaning numbers place pattern = All
     (λ (id : ℕ). Weighs weigh machine.heap (meaning id) (numbers (place id))) (variables_in pattern)
 
--- no class weighs less than nothing
+-- no class weighs less than 0
 abbrev pub IsWeighing : (ℕ → ℤ) → Type 0
 IsWeighing weigh = (class : ℕ) → pos 0 ≤ℤ weigh class
 
@@ -47,7 +47,7 @@ TermsFillPatterns =
     → IsDescribed types state machine meaning
     → (id : ℕ) (pattern : Pattern) → IsSizedBy state id pattern → HasTermByPattern machine.heap meaning id pattern
 
--- Its size is the size of its pattern, whatever the classes weigh.
+-- What the term of a sized id weighs is the size of the id's pattern, whatever the classes weigh.
 abbrev pub SizesAreOfPatterns : Type 0
 SizesAreOfPatterns =
     (types : WorldTypes) (state : AbstractState) (machine : MachineState) (meaning : Meaning)

@@ -2,4 +2,4 @@ pub mod Encoding
 pub mod Filling
 pub mod Sizes
 pub mod Laws
-pub mod Counting
+pub mod inner

@@ -11,7 +11,7 @@ use Rattle.abs_cells.specs.Patterns.{Pattern, Patterns, null, leaf, node, variab
 
 -- ---- terms
 
--- what a term weighs: the sum over its nodes
+-- what a term weighs: the sum of the weights of its nodes' classes; and what a list of terms weighs
 abbrev mutual
   pub weight_of : (ℕ → ℤ) → HeapTerm → ℤ
   weight_of weigh terms.null = pos 0
@@ -30,7 +30,7 @@ pub record Weighs (weigh : ℕ → ℤ) (heap : Heap) (value : Value) (number : 
 
 -- ---- patterns
 
--- the variables of a pattern, and the classes of its nodes, each as often as it stands there
+-- the variables of a pattern, each as often as it stands there; and those of a list of patterns
 abbrev mutual
   pub variables_in : Pattern → List ℕ
   variables_in null = []
@@ -42,6 +42,7 @@ abbrev mutual
   variables_among none = []
   variables_among (more pattern rest) = variables_in pattern ++ variables_among rest
 
+-- the classes of the nodes of a pattern, each as often as a node of it stands there; and those of a list of patterns
 abbrev mutual
   pub classes_in : Pattern → List ℕ
   classes_in null = []
@@ -55,6 +56,7 @@ abbrev mutual
 
 -- ---- sums
 
+-- a term in front of others, but where its number is 0
 abbrev pub unless_zero : ℕ → ℤ → List (ℕ × ℤ) → List (ℕ × ℤ)
 unless_zero name number rest = if int_eq number (pos 0) then rest else (name, number) ∷ rest
 
@@ -71,19 +73,20 @@ abbrev pub collected : List (ℕ × ℤ) → List (ℕ × ℤ)
 collected [] = []
 collected (term ∷ terms) = with_term term (collected terms)
 
--- a number beside each name
+-- terms of some names, each with one number
 abbrev pub each_times : ℤ → List ℕ → List (ℕ × ℤ)
 each_times number names = map (λ (name : ℕ). (name, number)) names
 
--- the size of a pattern: its variables, each by the number that it has in a rule, with their coefficients, and its classes, each
--- with the multiple of its weight. There is no other constant
+-- the variables in the size of a pattern, each by the number that it has in a rule, and how often it stands in the pattern. The
+-- size is the sum of these, and of the multiples of the weights of its classes; there is no other constant
 abbrev pub size_terms : (ℕ → ℕ) → Pattern → List (ℕ × ℤ)
 size_terms place pattern = collected (each_times (pos 1) (map place (variables_in pattern)))
 
+-- the classes in the size of a pattern, each with how often a node of it stands in the pattern
 abbrev pub size_weights : Pattern → List (ℕ × ℤ)
 size_weights pattern = collected (each_times (pos 1) (classes_in pattern))
 
--- the row that says that a variable is the size of a pattern
+-- the row that says that a variable is the size of a pattern: the variable less that size is 0
 abbrev pub size_row : ℕ → (ℕ → ℕ) → Pattern → WRow
 size_row v place pattern = record {
   kind = IsZero;

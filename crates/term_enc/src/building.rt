@@ -1,7 +1,7 @@
 //! The pattern of an id, built.
 ghost use Rattle.std.specs.Prelude.{◌<◌, ◌^◌, IfOk};
 ghost use Rattle.abs_cells.specs.Sound.{AreIdsRising};
-ghost use Rattle.term_enc.specs.Counting.{IsAnswer, IsSmallAnswer};
+ghost use Rattle.term_enc.specs.inner.Counting.{IsAnswer, IsSmallAnswer};
 
 use crate::terms::PatternTerm;
 use abs_cells::{Cell, Id};

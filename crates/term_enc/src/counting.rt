@@ -1,7 +1,7 @@
 //! Whether the pattern of an id has at most so many parts.
 ghost use Rattle.std.specs.Prelude.{◌≡◌, ◌<◌, ◌^◌, ◌↔◌, IsTrue};
 ghost use Rattle.abs_cells.specs.Sound.{AreIdsRising};
-ghost use Rattle.term_enc.specs.Counting.{one_less, left_after, IsSmall};
+ghost use Rattle.term_enc.specs.inner.Counting.{one_less, left_after, IsSmall};
 
 use abs_cells::{Cell, Id};
 use abs_reach::cell_of;

@@ -20,29 +20,30 @@ use Rattle.term_graph.specs.declared.links.Link.{Link}
 
 -- ---- rows
 
--- the number of an int
+-- the number that an int of the machine is; 0 for another value
 abbrev pub number_of : Value → ℤ
 number_of (values.Int n) = n
 number_of values.Null = pos 0
 number_of (values.Ref r) = pos 0
 
--- the map of a side's state
+-- the map from ids to values of the state on one side of an edge
 abbrev pub map_of : Meaning → Meaning → Side → Meaning
 map_of before after Before = before
 map_of before after After = after
 
--- the sum of the terms, each id's int by the map of its side
+-- the sum of an edge's terms, where each id counts with its int by the map of its side
 abbrev pub value_of_terms : Meaning → Meaning → List (Side × ℕ × ℤ) → ℤ
 value_of_terms before after [] = pos 0
 value_of_terms before after (term ∷ terms) = term.2 *ℤ number_of (map_of before after term.0 term.1) +ℤ value_of_terms before after terms
 
--- a row says so of its terms and its constant: their sum is at least 0, or is 0
+-- a row of an edge holds of the maps of its two states: the sum of its terms and its constant is at least 0, or is 0, as
+-- its kind asks
 abbrev pub HoldsBetween : Meaning → Meaning → LinkRow → Type 0
 HoldsBetween before after row = IsOfKind row.kind (value_of_terms before after row.terms +ℤ row.constant)
 
 -- ---- sizes
 
--- an object, or null, of which nothing is known but its type and that no cycle is in its region: its size is a variable
+-- the size of a cell's object is a variable: nothing is told of the object but its bound and that no cycle is in its region
 abbrev pub is_size_variable : Cell → Bool
 is_size_variable (cells.Int interval) = false
 is_size_variable cells.Null = false
@@ -60,15 +61,16 @@ abbrev pub HasSameSize : Heap → Value → Heap → Value → Type 0
 HasSameSize heap a heap_after b =
     (weights : List ℕ) (s t : HeapTerm) → IsTerm heap a s → IsTerm heap_after b t → size_of weights s ≡ size_of weights t
 
--- the id that stands in a child for an id: the one that it was merged into, or itself
+-- the id that stands in a child for an id of its parent: the one that it was merged into, or itself
 abbrev pub id_after : Option (ℕ × ℕ) → ℕ → ℕ
 id_after None id = id
 id_after (Some merged) id = if merged.0 == id then merged.1 else id
 
 -- ---- edges
 
--- an edge from a state to its child: an id that is an int's in both has one value, the link's rows hold, and each size
--- that is a variable of the state is the size of the child's id for it, where the child has that id and it is sized
+-- an edge of a termination graph leads from a state to its child, as states of the machine at both ends show: an id that is
+-- an int's in both has one value, the link's rows hold, and each size that is a variable of the state is the size of the
+-- child's id for it, where the child has that id and it has a size
 pub record Edge (state : AbstractState) (machine : MachineState) (meaning : Meaning) (link : Link) (child : AbstractState)
     (machine_after : MachineState) (meaning_after : Meaning) : Type 0 where
   pub ints : (id : ℕ) → HasCell is_int state id → HasCell is_int child id → meaning_after id ≡ meaning id
@@ -76,8 +78,8 @@ pub record Edge (state : AbstractState) (machine : MachineState) (meaning : Mean
   pub sizes : (id : ℕ) → HasCell is_size_variable state id → IsSized child (id_after link.merged id)
       → HasSameSize machine.heap (meaning id) machine_after.heap (meaning_after (id_after link.merged id))
 
--- an edge from a state to the one of which it is an instance: each id there has its image's value, and the machine's state
--- is the same. A map lists each id of the target with its image
+-- an edge of a termination graph leads from a state to the one of which it is an instance: the machine's state is the same
+-- at both ends, and each id of the target has the value of its image, as the map lists them
 pub record InstanceEdge (map : List (ℕ × ℕ)) (machine : MachineState) (meaning : Meaning) (machine_after : MachineState)
     (meaning_after : Meaning) : Type 0 where
   pub same : machine_after ≡ machine

@@ -1,6 +1,6 @@
 -- How large a termination graph may be.
 use Rattle.std.specs.Prelude.{ℕ}
 
--- the nodes of a termination graph
+-- the largest number of nodes that a termination graph may have
 abbrev pub most_nodes : ℕ
 most_nodes = 20000

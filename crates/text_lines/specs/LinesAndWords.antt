@@ -15,6 +15,7 @@ parts at (b ∷ bytes) = if b == at then [] ∷ parts at bytes else onto b (part
 abbrev pub lines_of : List ℕ → List (List ℕ)
 lines_of text = parts 10 text
 
+-- a part that is not empty, so that spaces side by side divide no empty word
 abbrev pub is_word : List ℕ → Bool
 is_word part = not (length part == 0)
 

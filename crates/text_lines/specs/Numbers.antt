@@ -6,9 +6,11 @@ use Rattle.std.specs.Option.{option_and_then}
 use Rattle.std.proofs.Common.{◌-ℤ◌}
 use Rattle.text_lines.specs.declared.numbers.Number.{Number}
 
+-- a byte is one of the digits `0` to `9`
 abbrev pub is_digit : ℕ → Bool
 is_digit b = nat_le 48 b && nat_le b 57
 
+-- one digit or more, and nothing else
 abbrev pub is_digits : List ℕ → Bool
 is_digits digits = nat_lt 0 (length digits) && list_all is_digit digits
 
@@ -17,13 +19,15 @@ abbrev pub decimal_from : ℕ → List ℕ → ℕ
 decimal_from front [] = front
 decimal_from front (b ∷ digits) = decimal_from (front * 10 + (b - 48)) digits
 
+-- the number that digits write in the decimal system
 abbrev pub decimal : List ℕ → ℕ
 decimal digits = decimal_from 0 digits
 
--- none from 2^64 on
+-- a number that a field of 64 bits holds, and nothing from 2^64 on
 abbrev pub capped : ℕ → Option ℕ
 capped n = if nat_lt n (2 ^ 64) then Some n else None
 
+-- the number of these digits, with its sign; none where a byte is no digit or there is none at all
 abbrev pub number_of_digits : Bool → List ℕ → Option Number
 number_of_digits negative digits = if is_digits digits then Some (record { negative = negative; size = capped (decimal digits) }) else None
 

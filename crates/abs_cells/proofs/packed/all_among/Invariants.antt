@@ -1,5 +1,6 @@
 use Rattle.std.proofs.Common.{ℕ, ◌<◌}
-use Rattle.abs_cells.specs.PackedBits.{hit, IsRowAmong}
+use Rattle.abs_cells.specs.PackedBits.{hit}
+use Rattle.abs_cells.specs.inner.PackedRows.{IsRowAmong}
 use Rattle.abs_cells.proofs.packed.all_among.Given as goal
 
 abbrev pub invariant-loop-a : goal.invariant-loop-a

@@ -1,6 +1,7 @@
 use Rattle.std.proofs.Common.{◌+◌, sym, subst}
 use Rattle.abs_cells.specs.declared.packed.Packed.{Packed}
-use Rattle.abs_cells.specs.PackedBits.{pairs_in, ArePacked, IsCleared}
+use Rattle.abs_cells.specs.PackedBits.{pairs_in, ArePacked}
+use Rattle.abs_cells.specs.inner.PackedRows.{IsCleared}
 use Rattle.abs_cells.proofs.PackedLaws.{packed_rises}
 use Rattle.abs_cells.proofs.KeepLaws.{cleared_none, cleared_one, cleared_over}
 use Rattle.abs_cells.proofs.packed.clear_row.Goals as goal

@@ -1,4 +1,5 @@
-use Rattle.abs_cells.specs.PackedBits.{pairs_in, ArePacked, IsCleared}
+use Rattle.abs_cells.specs.PackedBits.{pairs_in, ArePacked}
+use Rattle.abs_cells.specs.inner.PackedRows.{IsCleared}
 use Rattle.abs_cells.proofs.packed.clear_row.Given as goal
 
 abbrev pub invariant-loop-b : goal.invariant-loop-b

@@ -1,6 +1,7 @@
 use Rattle.std.proofs.Common.{◌+◌, sym, subst}
 use Rattle.abs_cells.specs.declared.packed.Packed.{Packed}
-use Rattle.abs_cells.specs.PackedBits.{pairs_in, ArePacked, IsKeptTo}
+use Rattle.abs_cells.specs.PackedBits.{pairs_in, ArePacked}
+use Rattle.abs_cells.specs.inner.PackedRows.{IsKeptTo}
 use Rattle.abs_cells.proofs.PackedLaws.{packed_rises}
 use Rattle.abs_cells.proofs.KeepLaws.{kept_none, kept_over, kept_less, kept_at_end, stays}
 use Rattle.abs_cells.proofs.packed.keep_pairs.Goals as goal

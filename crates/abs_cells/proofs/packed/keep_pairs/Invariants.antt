@@ -1,4 +1,5 @@
-use Rattle.abs_cells.specs.PackedBits.{pairs_in, ArePacked, IsKeptTo}
+use Rattle.abs_cells.specs.PackedBits.{pairs_in, ArePacked}
+use Rattle.abs_cells.specs.inner.PackedRows.{IsKeptTo}
 use Rattle.abs_cells.proofs.packed.keep_pairs.Given as goal
 
 abbrev pub invariant-loop-a : goal.invariant-loop-a

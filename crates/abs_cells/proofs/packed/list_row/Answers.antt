@@ -1,5 +1,6 @@
 use Rattle.std.proofs.Common.{arith, ℕ, List, Option, ◌++◌, length, sym, ◌∙◌, ap}
-use Rattle.abs_cells.specs.PackedBits.{slot_of, hit, whole_row}
+use Rattle.abs_cells.specs.PackedBits.{slot_of, hit}
+use Rattle.abs_cells.specs.inner.PackedRows.{whole_row}
 use Rattle.abs_cells.proofs.PackedLooks.{nothing_listed, row_listed}
 use Rattle.abs_cells.proofs.packed.list_row.Goals as goal
 

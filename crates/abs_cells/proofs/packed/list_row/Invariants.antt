@@ -1,5 +1,6 @@
 use Rattle.std.proofs.Common.{◌≡◌, ◌-◌, ◌++◌, length}
-use Rattle.abs_cells.specs.PackedBits.{hit, row_from, whole_row}
+use Rattle.abs_cells.specs.PackedBits.{hit, row_from}
+use Rattle.abs_cells.specs.inner.PackedRows.{whole_row}
 use Rattle.abs_cells.proofs.packed.list_row.Given as goal
 
 abbrev pub invariant-loop-b : goal.invariant-loop-b

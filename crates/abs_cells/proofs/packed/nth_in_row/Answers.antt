@@ -1,5 +1,6 @@
 use Rattle.std.proofs.Common.{Bool, ◌+◌, cond, sym, ap, ◌∙◌, length, arith}
-use Rattle.abs_cells.specs.PackedBits.{hit, whole_row}
+use Rattle.abs_cells.specs.PackedBits.{hit}
+use Rattle.abs_cells.specs.inner.PackedRows.{whole_row}
 use Rattle.abs_cells.proofs.PackedLooks.{row_found, row_goes_on}
 use Rattle.abs_cells.proofs.packed.nth_in_row.Goals as goal
 

@@ -1,5 +1,6 @@
 use Rattle.std.proofs.Common.{length}
-use Rattle.abs_cells.specs.PackedBits.{hit, whole_row}
+use Rattle.abs_cells.specs.PackedBits.{hit}
+use Rattle.abs_cells.specs.inner.PackedRows.{whole_row}
 use Rattle.abs_cells.proofs.PackedLooks.{IsInRow}
 use Rattle.abs_cells.proofs.packed.nth_in_row.Given as goal
 

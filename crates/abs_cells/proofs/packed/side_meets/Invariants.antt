@@ -1,6 +1,6 @@
 use Rattle.std.proofs.Common.{◌≡◌, ℕ, ◌<◌, true}
 use Rattle.abs_cells.specs.IdSets.{has_id}
-use Rattle.abs_cells.specs.PackedBits.{RowMeets}
+use Rattle.abs_cells.specs.inner.PackedRows.{RowMeets}
 use Rattle.abs_cells.proofs.packed.side_meets.Given as goal
 
 abbrev pub invariant-loop-slot : goal.invariant-loop-slot

@@ -1,6 +1,7 @@
 use Rattle.std.proofs.Common.{◌≡◌, ℕ, ◌<◌, true, Some}
 use Rattle.abs_cells.specs.IdSets.{has_id}
-use Rattle.abs_cells.specs.PackedBits.{slot_of, HasSlot}
+use Rattle.abs_cells.specs.PackedBits.{slot_of}
+use Rattle.abs_cells.specs.inner.PackedRows.{HasSlot}
 use Rattle.abs_cells.proofs.packed.slots_of.Given as goal
 
 abbrev pub invariant-loop-id : goal.invariant-loop-id

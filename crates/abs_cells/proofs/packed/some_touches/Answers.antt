@@ -1,6 +1,7 @@
 use Rattle.std.proofs.Common.{ℕ, List, Option, sym, ap, subst, ◌∙◌}
 use Rattle.abs_cells.specs.IdSets.{are_touched}
-use Rattle.abs_cells.specs.PackedBits.{slot_of, pairs_in, HasSlot, SideMeets}
+use Rattle.abs_cells.specs.PackedBits.{slot_of, pairs_in}
+use Rattle.abs_cells.specs.inner.PackedRows.{HasSlot, SideMeets}
 use Rattle.abs_cells.proofs.PackedCalls.{slot_low, few_slots}
 use Rattle.abs_cells.proofs.PackedLooks.{AreSlotSets, side_touches, other_side_touches, none_touched, decided}
 use Rattle.abs_cells.proofs.packed.some_touches.Goals as goal

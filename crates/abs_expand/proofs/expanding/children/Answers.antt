@@ -6,7 +6,7 @@ use Rattle.abs_reach.proofs.Room.{count_low}
 use Rattle.abs_turns.specs.declared.plans.Turn.{Turn}
 use Rattle.abs_turns.specs.GoodPlans.{IsGoodTurn}
 use Rattle.abs_turns.specs.PlansSeen.{turn_seen}
-use Rattle.abs_expand.specs.Building.{IsChildOf, turn_counts}
+use Rattle.abs_expand.specs.inner.Building.{IsChildOf, turn_counts}
 use Rattle.abs_expand.specs.Expansions.{AreFew, IsFirstTooMany}
 use Rattle.abs_expand.proofs.ChildLists.{zip_mapped, all_mapped, expanded}
 use Rattle.abs_expand.proofs.TurnChildren.{all_few}

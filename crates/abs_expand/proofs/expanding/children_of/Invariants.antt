@@ -5,7 +5,7 @@ use Rattle.class_program.specs.Views.{program_of}
 use Rattle.class_world.specs.WorldTypes.{types_of}
 use Rattle.abs_turns.specs.GoodPlans.{IsGoodTurn}
 use Rattle.abs_turns.specs.PlansSeen.{turn_seen}
-use Rattle.abs_expand.specs.Building.{IsChildOf}
+use Rattle.abs_expand.specs.inner.Building.{IsChildOf}
 use Rattle.abs_expand.proofs.TurnChildren.{HasRoom}
 use Rattle.abs_expand.proofs.expanding.children_of.Given as goal
 

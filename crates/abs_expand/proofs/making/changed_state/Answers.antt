@@ -7,7 +7,7 @@ use Rattle.abs_cells.specs.PairLists.{IsRising}
 use Rattle.abs_cells.specs.Sound.{AreIdsRising, IsWellFormed}
 use Rattle.abs_cells.specs.declared.cells.Cell.{Cell}
 use Rattle.abs_heap.specs.Given.{IsGiven, with_cells}
-use Rattle.abs_expand.specs.Making.{changed_cell, changed_cells}
+use Rattle.abs_expand.specs.inner.Making.{changed_cell, changed_cells}
 use Rattle.abs_expand.proofs.CellLists.{changed_rising}
 use Rattle.abs_expand.proofs.Changing.{changed_as, changed_given, changed_good}
 use Rattle.abs_expand.proofs.making.changed_state.Goals as goal

@@ -4,7 +4,7 @@ use Rattle.abs_cells.specs.Sound.{IsWellFormed}
 use Rattle.abs_turns.specs.Plans.{Goal, nowhere}
 use Rattle.abs_turns.specs.PlansSeen.{goal_seen}
 use Rattle.abs_expand.specs.Children.{gone_to}
-use Rattle.abs_expand.specs.Making.{GoesSomewhere}
+use Rattle.abs_expand.specs.inner.Making.{GoesSomewhere}
 use Rattle.abs_expand.proofs.GoingTo.{gone_good, gone_as}
 use Rattle.abs_expand.proofs.making.gone_to.Goals as goal
 

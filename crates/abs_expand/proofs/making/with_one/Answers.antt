@@ -5,7 +5,7 @@ use Rattle.abs_cells.specs.PairLists.{IsRising}
 use Rattle.abs_cells.specs.Sound.{IsWellFormed}
 use Rattle.abs_cells.specs.declared.cells.Cell.{Cell}
 use Rattle.abs_heap.specs.Given.{IsGiven, AreFresh, with_cells}
-use Rattle.abs_expand.specs.Making.{inserted}
+use Rattle.abs_expand.specs.inner.Making.{inserted}
 use Rattle.abs_expand.proofs.CellLists.{free_is_low, free_after}
 use Rattle.abs_expand.proofs.Changing.{state_as, one_made, one_good, one_there}
 use Rattle.abs_expand.proofs.making.with_one.Goals as goal

@@ -1,7 +1,7 @@
 use Rattle.std.proofs.Common.{◌≡◌, ◌∙◌, ◌+◌, ◌-◌, ◌&&◌, Bool, ℕ, List, take, reverse, sym, ap, arith}
 use Rattle.class_program.specs.Views.{program_of}
 use Rattle.code_verify.specs.Typings.{typing_at}
-use Rattle.abs_expand.specs.PlaceTests.{caller_test, callers_test}
+use Rattle.abs_expand.specs.inner.PlaceTests.{caller_test, callers_test}
 use Rattle.class_program.specs.declared.program.StaticField.{StaticField}
 use Rattle.abs_expand.proofs.Placed.{callers_more}
 use Rattle.abs_expand.proofs.places.are_callers_placed.Goals as goal

@@ -1,7 +1,7 @@
 use Rattle.std.proofs.Common.{◌≡◌, ◌≤◌, length, take, reverse}
 use Rattle.class_program.specs.Views.{program_of}
 use Rattle.code_verify.specs.Typings.{typing_at}
-use Rattle.abs_expand.specs.PlaceTests.{callers_test}
+use Rattle.abs_expand.specs.inner.PlaceTests.{callers_test}
 use Rattle.abs_expand.proofs.places.are_callers_placed.Given as goal
 
 abbrev pub invariant-loop-n : goal.invariant-loop-n

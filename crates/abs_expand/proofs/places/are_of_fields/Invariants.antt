@@ -1,5 +1,5 @@
 use Rattle.std.proofs.Common.{◌≡◌, drop}
-use Rattle.abs_expand.specs.PlaceTests.{are_of_fields}
+use Rattle.abs_expand.specs.inner.PlaceTests.{are_of_fields}
 use Rattle.abs_expand.proofs.places.are_of_fields.Given as goal
 
 abbrev pub invariant-loop-n : goal.invariant-loop-n

@@ -1,6 +1,6 @@
 use Rattle.std.proofs.Common.{◌≡◌, drop}
 use Rattle.abs_sound.specs.Zips.{all_zip}
-use Rattle.abs_expand.specs.PlaceTests.{is_of_place}
+use Rattle.abs_expand.specs.inner.PlaceTests.{is_of_place}
 use Rattle.abs_expand.proofs.places.are_of_places.Given as goal
 
 abbrev pub invariant-loop-n : goal.invariant-loop-n

@@ -2,7 +2,7 @@ use Rattle.std.proofs.Common.{◌∙◌, ap, reverse, drop, refl}
 use Rattle.std.proofs.lemmas.List.{reverse-reverse}
 use Rattle.abs_sound.specs.Zips.{all_zip}
 use Rattle.jvm_values.specs.States.{types_of}
-use Rattle.abs_expand.specs.PlaceTests.{is_entry_of}
+use Rattle.abs_expand.specs.inner.PlaceTests.{is_entry_of}
 use Rattle.abs_expand.proofs.Placed.{stack_at}
 use Rattle.abs_expand.proofs.places.is_stack_at.Goals as goal
 

@@ -1,6 +1,6 @@
 use Rattle.std.proofs.Common.{◌≡◌, drop}
 use Rattle.abs_sound.specs.Zips.{all_zip}
-use Rattle.abs_expand.specs.PlaceTests.{is_entry_of}
+use Rattle.abs_expand.specs.inner.PlaceTests.{is_entry_of}
 use Rattle.abs_expand.proofs.places.is_stack_of.Given as goal
 
 abbrev pub invariant-loop-n : goal.invariant-loop-n

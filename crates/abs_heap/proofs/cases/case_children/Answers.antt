@@ -2,7 +2,7 @@ use Rattle.std.proofs.Common.{List, subst}
 use Rattle.jvm_values.specs.TypedHeaps.{world_types}
 use Rattle.term_graph.specs.Graphs.{GraphChild}
 use Rattle.abs_heap.specs.Refining.{instances_below, numbers_below, element_below, listed, cases_below}
-use Rattle.abs_heap.specs.Splitting.{crowds, AddsCases}
+use Rattle.abs_heap.specs.inner.Splitting.{crowds, AddsCases}
 use Rattle.abs_heap.proofs.Listing.{none_first, none_second, none_third, adds_both}
 use Rattle.abs_heap.proofs.cases.case_children.Goals as goal
 

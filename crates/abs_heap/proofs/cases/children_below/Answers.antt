@@ -1,7 +1,7 @@
 use Rattle.std.proofs.Common.{sym, ◌∙◌, refl}
 use Rattle.jvm_values.specs.TypedHeaps.{world_types}
 use Rattle.abs_heap.specs.Refining.{cases_below}
-use Rattle.abs_heap.specs.Splitting.{crowds}
+use Rattle.abs_heap.specs.inner.Splitting.{crowds}
 use Rattle.abs_heap.proofs.FirstCrowds.{ok_no_err, memory_alone, crowd_none, found_many, none_many}
 use Rattle.abs_heap.proofs.cases.children_below.Goals as goal
 

@@ -2,7 +2,7 @@ use Rattle.std.proofs.Common.{length}
 use Rattle.jvm_values.specs.TypedHeaps.{world_types}
 use Rattle.abs_cells.specs.declared.cells.Cell.TheVariants.{Refs}
 use Rattle.abs_heap.specs.Refining.{references, element_below}
-use Rattle.abs_heap.specs.Splitting.{crowds}
+use Rattle.abs_heap.specs.inner.Splitting.{crowds}
 use Rattle.abs_heap.proofs.Listing.{has_room_for, listed_room, listed_is, listed_none, array_is, adds_this, adds_nothing}
 use Rattle.abs_heap.proofs.cases.put_array.Goals as goal
 

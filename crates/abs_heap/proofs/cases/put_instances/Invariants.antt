@@ -1,7 +1,7 @@
 use Rattle.std.proofs.Common.{◌-◌, take}
 use Rattle.jvm_values.specs.TypedHeaps.{world_types}
 use Rattle.list_views.specs.Lists.{numbers_from}
-use Rattle.abs_heap.specs.Splitting.{instances_among, AddsCases}
+use Rattle.abs_heap.specs.inner.Splitting.{instances_among, AddsCases}
 use Rattle.abs_heap.proofs.cases.put_instances.Given as goal
 
 abbrev pub invariant-loop-class : goal.invariant-loop-class

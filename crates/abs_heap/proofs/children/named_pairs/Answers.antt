@@ -1,7 +1,7 @@
 use Rattle.std.proofs.Common.{◌≡◌, ◌∙◌, ℕ, [], List, true, sym, subst}
 use Rattle.std.specs.Prelude.{IfOk}
 use Rattle.abs_cells.specs.PairLists.{IsRising, has}
-use Rattle.abs_heap.specs.Building.{Gains}
+use Rattle.abs_heap.specs.inner.Building.{Gains}
 use Rattle.abs_heap.specs.Names.{name_in, IsImage}
 use Rattle.abs_heap.proofs.children.named_pairs.Goals as goal
 

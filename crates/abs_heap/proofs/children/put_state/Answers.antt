@@ -2,7 +2,7 @@ use Rattle.std.proofs.Common.{◌<◌, ℕ, List, [], map, sym, subst, All}
 use Rattle.std.proofs.lemmas.Result.{on_ok_weaker}
 use Rattle.abs_cells.specs.declared.cells.Cell.{Cell}
 use Rattle.abs_heap.specs.Names.{name_in}
-use Rattle.abs_heap.specs.Building.{IsOver, named_entry}
+use Rattle.abs_heap.specs.inner.Building.{IsOver, named_entry}
 use Rattle.abs_heap.proofs.Placing.{cells_low}
 use Rattle.abs_heap.proofs.Giving.{over_unnamed}
 use Rattle.abs_heap.proofs.children.put_state.Goals as goal

@@ -1,6 +1,6 @@
 use Rattle.std.proofs.Common.{ℕ, ap}
 use Rattle.abs_cells.specs.declared.cells.Cell.{Cell}
-use Rattle.abs_heap.specs.Splitting.{WantsOne}
+use Rattle.abs_heap.specs.inner.Splitting.{WantsOne}
 use Rattle.abs_heap.proofs.Choosing.{among_none, among_next, among_all}
 use Rattle.abs_heap.proofs.compatible.put_compatible_between.Goals as goal
 

@@ -1,6 +1,6 @@
 use Rattle.std.proofs.Common.{◌≡◌, true, take}
-use Rattle.abs_heap.specs.Building.{Gains}
-use Rattle.abs_heap.specs.Splitting.{WantsOne}
+use Rattle.abs_heap.specs.inner.Building.{Gains}
+use Rattle.abs_heap.specs.inner.Splitting.{WantsOne}
 use Rattle.abs_heap.proofs.PairGains.{is_listed}
 use Rattle.abs_heap.proofs.compatible.put_compatible_between.Given as goal
 

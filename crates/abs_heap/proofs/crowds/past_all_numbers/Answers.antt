@@ -2,7 +2,7 @@ use Rattle.std.proofs.Common.{◌+◌, sym, ◌∙◌, arith}
 use Rattle.jvm_values.specs.Subtyping.{array_of_numbers}
 use Rattle.jvm_values.specs.TypedHeaps.{world_types}
 use Rattle.abs_heap.specs.Refining.{numbers}
-use Rattle.abs_heap.specs.Splitting.{crowds}
+use Rattle.abs_heap.specs.inner.Splitting.{crowds}
 use Rattle.abs_heap.proofs.FirstCrowds.{crowd_more_at, crowd_found, crowd_all, crowd_low, passed_on}
 use Rattle.abs_heap.proofs.crowds.past_all_numbers.Goals as goal
 

@@ -1,6 +1,6 @@
 use Rattle.std.proofs.Common.{◌≡◌, take, Ok}
 use Rattle.jvm_values.specs.TypedHeaps.{world_types}
-use Rattle.abs_heap.specs.Splitting.{numbers_among, crowds, first_crowd}
+use Rattle.abs_heap.specs.inner.Splitting.{numbers_among, crowds, first_crowd}
 use Rattle.abs_heap.proofs.crowds.past_all_numbers.Given as goal
 
 abbrev pub invariant-loop-kind : goal.invariant-loop-kind

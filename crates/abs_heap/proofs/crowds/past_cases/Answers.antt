@@ -1,7 +1,7 @@
 use Rattle.std.proofs.Common.{◌++◌, sym, ◌∙◌}
 use Rattle.jvm_values.specs.TypedHeaps.{world_types}
 use Rattle.abs_heap.specs.Refining.{element_below, instances_below, numbers_below, listed}
-use Rattle.abs_heap.specs.Splitting.{crowds}
+use Rattle.abs_heap.specs.inner.Splitting.{crowds}
 use Rattle.abs_heap.proofs.FirstCrowds.{crowd_joined, crowd_stays, passed_on}
 use Rattle.abs_heap.proofs.crowds.past_cases.Goals as goal
 

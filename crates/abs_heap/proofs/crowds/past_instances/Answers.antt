@@ -3,7 +3,7 @@ use Rattle.jvm_values.specs.Subtyping.{class_type}
 use Rattle.jvm_values.specs.TypedHeaps.{world_types}
 use Rattle.list_views.specs.Lists.{numbers_from}
 use Rattle.abs_heap.specs.Refining.{instance}
-use Rattle.abs_heap.specs.Splitting.{crowds}
+use Rattle.abs_heap.specs.inner.Splitting.{crowds}
 use Rattle.abs_heap.proofs.FirstCrowds.{crowd_more, crowd_found, crowd_all, crowd_low, passed_on}
 use Rattle.abs_heap.proofs.Listing.{number_at, below_length, past_length}
 use Rattle.abs_heap.proofs.crowds.past_instances.Goals as goal

@@ -1,7 +1,7 @@
 use Rattle.std.proofs.Common.{◌≡◌, ◌-◌, take, Ok}
 use Rattle.jvm_values.specs.TypedHeaps.{world_types}
 use Rattle.list_views.specs.Lists.{numbers_from}
-use Rattle.abs_heap.specs.Splitting.{instances_among, crowds, first_crowd}
+use Rattle.abs_heap.specs.inner.Splitting.{instances_among, crowds, first_crowd}
 use Rattle.abs_heap.proofs.crowds.past_instances.Given as goal
 
 abbrev pub invariant-loop-class : goal.invariant-loop-class

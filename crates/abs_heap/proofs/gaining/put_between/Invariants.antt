@@ -1,6 +1,6 @@
 use Rattle.std.proofs.Common.{◌≡◌, true, take}
 use Rattle.abs_cells.specs.IdSets.{has_id}
-use Rattle.abs_heap.specs.Building.{Gains}
+use Rattle.abs_heap.specs.inner.Building.{Gains}
 use Rattle.abs_heap.proofs.PairGains.{is_listed}
 use Rattle.abs_heap.proofs.gaining.put_between.Given as goal
 

@@ -1,6 +1,6 @@
 use Rattle.std.proofs.Common.{◌≡◌, ◌-◌, true, take, length}
 use Rattle.abs_cells.specs.PairLists.{has}
-use Rattle.abs_heap.specs.Building.{Gains}
+use Rattle.abs_heap.specs.inner.Building.{Gains}
 use Rattle.abs_heap.specs.Names.{name_in, IsImage}
 use Rattle.abs_heap.proofs.gaining.put_named.Given as goal
 

@@ -1,5 +1,5 @@
 use Rattle.std.proofs.Common.{map, take, zip}
-use Rattle.abs_heap.specs.Building.{IsOver}
+use Rattle.abs_heap.specs.inner.Building.{IsOver}
 use Rattle.abs_heap.specs.Refining.{cell_of_slot}
 use Rattle.abs_heap.proofs.FieldCells.{entry_by}
 use Rattle.abs_heap.proofs.instances.put_fields.Given as goal

@@ -1,7 +1,7 @@
 use Rattle.std.proofs.Common.{◌≡◌, ◌⊎◌, ℕ, true}
 use Rattle.std.specs.Prelude.{◌↔◌}
 use Rattle.abs_cells.specs.IdSets.{has_id}
-use Rattle.abs_heap.specs.Splitting.{IsFieldBefore}
+use Rattle.abs_heap.specs.inner.Splitting.{IsFieldBefore}
 use Rattle.abs_heap.proofs.instances.put_references.Given as goal
 
 abbrev pub invariant-loop-place : goal.invariant-loop-place

@@ -1,5 +1,5 @@
 use Rattle.std.proofs.Common.{◌≡◌, ◌+◌, drop}
-use Rattle.abs_heap.specs.Building.{place_in}
+use Rattle.abs_heap.specs.inner.Building.{place_in}
 use Rattle.abs_heap.proofs.putting.place_of.Given as goal
 
 abbrev pub invariant-loop-place : goal.invariant-loop-place

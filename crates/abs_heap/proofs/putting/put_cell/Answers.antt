@@ -1,7 +1,7 @@
 use Rattle.std.proofs.Common.{◌≡◌, ℕ, List, sym, ap, subst, ◌∙◌, arith}
 use Rattle.std.proofs.lemmas.Bool.{false≢true}
 use Rattle.abs_cells.specs.declared.cells.Cell.{Cell}
-use Rattle.abs_heap.specs.Building.{place_in, IsIdAt}
+use Rattle.abs_heap.specs.inner.Building.{place_in, IsIdAt}
 use Rattle.abs_heap.proofs.Placing.{place_within, put_in, stays_out}
 use Rattle.abs_heap.proofs.putting.put_cell.Goals as goal
 

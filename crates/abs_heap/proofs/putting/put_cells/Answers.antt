@@ -1,4 +1,4 @@
-use Rattle.abs_heap.specs.Building.{named_entry}
+use Rattle.abs_heap.specs.inner.Building.{named_entry}
 use Rattle.abs_heap.proofs.Placing.{over_next, same_entry}
 use Rattle.abs_heap.proofs.putting.put_cells.Goals as goal
 

@@ -1,5 +1,5 @@
 use Rattle.std.proofs.Common.{map, take}
-use Rattle.abs_heap.specs.Building.{IsOver, named_entry}
+use Rattle.abs_heap.specs.inner.Building.{IsOver, named_entry}
 use Rattle.abs_heap.proofs.putting.put_cells.Given as goal
 
 abbrev pub invariant-loop-id : goal.invariant-loop-id

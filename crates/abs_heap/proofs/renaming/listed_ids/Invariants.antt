@@ -1,5 +1,5 @@
 use Rattle.std.proofs.Common.{◌≡◌, take}
-use Rattle.abs_heap.specs.Renaming.{ids_among}
+use Rattle.abs_heap.specs.inner.Renaming.{ids_among}
 use Rattle.abs_heap.proofs.renaming.listed_ids.Given as goal
 
 abbrev pub invariant-loop-id : goal.invariant-loop-id

@@ -1,7 +1,7 @@
 use Rattle.std.proofs.Common.{◌∙◌, ℕ, List, ap}
 use Rattle.std.proofs.lemmas.Result.{IfOk-weaker}
 use Rattle.abs_heap.specs.Names.{name_in}
-use Rattle.abs_heap.specs.Renaming.{shape_if, written_cell, write_of}
+use Rattle.abs_heap.specs.inner.Renaming.{shape_if, written_cell, write_of}
 use Rattle.abs_heap.specs.Writing.{is_renamed}
 use Rattle.abs_heap.proofs.After.{cell_made}
 use Rattle.abs_heap.proofs.rewriting.cell_after.Goals as goal

@@ -1,7 +1,7 @@
 use Rattle.std.proofs.Common.{◌≡◌, ◌-◌, ℕ, take, length}
 use Rattle.std.specs.List.{list_any}
 use Rattle.abs_cells.specs.IdSets.{has_id}
-use Rattle.abs_heap.specs.Renaming.{is_beside}
+use Rattle.abs_heap.specs.inner.Renaming.{is_beside}
 use Rattle.abs_heap.proofs.rewriting.ids_beside.Given as goal
 
 abbrev pub invariant-loop-a : goal.invariant-loop-a

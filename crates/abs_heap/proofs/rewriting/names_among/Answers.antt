@@ -1,7 +1,7 @@
 use Rattle.std.proofs.Common.{◌<◌, ℕ, sym, subst}
 use Rattle.abs_cells.specs.declared.cells.Cell.{Cell}
 use Rattle.abs_heap.specs.Names.{name_in}
-use Rattle.abs_heap.specs.Renaming.{is_named}
+use Rattle.abs_heap.specs.inner.Renaming.{is_named}
 use Rattle.abs_heap.proofs.After.{names_next, any_all}
 use Rattle.abs_heap.proofs.rewriting.names_among.Goals as goal
 

@@ -1,6 +1,6 @@
 use Rattle.std.proofs.Common.{◌∙◌, ℕ, List, ap}
 use Rattle.abs_heap.specs.Names.{name_in}
-use Rattle.abs_heap.specs.Renaming.{write_of}
+use Rattle.abs_heap.specs.inner.Renaming.{write_of}
 use Rattle.abs_heap.specs.Writing.{shape_after, cell_after}
 use Rattle.abs_heap.proofs.Placing.{over_next, same_entry}
 use Rattle.abs_heap.proofs.rewriting.put_written.Goals as goal

@@ -1,6 +1,6 @@
 use Rattle.std.proofs.Common.{map, take}
-use Rattle.abs_heap.specs.Building.{IsOver}
-use Rattle.abs_heap.specs.Renaming.{write_of}
+use Rattle.abs_heap.specs.inner.Building.{IsOver}
+use Rattle.abs_heap.specs.inner.Renaming.{write_of}
 use Rattle.abs_heap.specs.Writing.{shape_after, cell_after}
 use Rattle.abs_heap.proofs.rewriting.put_written.Given as goal
 

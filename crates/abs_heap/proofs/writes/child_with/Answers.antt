@@ -1,6 +1,6 @@
 use Rattle.std.proofs.Common.{◌∙◌, sym, subst}
 use Rattle.abs_cells.specs.PairLists.{IsRising}
-use Rattle.abs_heap.specs.Renaming.{write_of}
+use Rattle.abs_heap.specs.inner.Renaming.{write_of}
 use Rattle.abs_heap.proofs.WriteChildren.{child_written}
 use Rattle.abs_heap.proofs.writes.child_with.Goals as goal
 use Rattle.std.proofs.lemmas.Result.{IfOk-weaker}

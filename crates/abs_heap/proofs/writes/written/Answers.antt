@@ -1,4 +1,4 @@
-use Rattle.abs_heap.specs.Renaming.{write_of}
+use Rattle.abs_heap.specs.inner.Renaming.{write_of}
 use Rattle.abs_heap.proofs.Affected.{affected_there}
 use Rattle.abs_heap.proofs.WriteChildren.{write_child}
 use Rattle.abs_heap.proofs.writes.written.Goals as goal

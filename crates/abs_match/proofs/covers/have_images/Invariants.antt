@@ -1,6 +1,6 @@
 use Rattle.std.proofs.Common.{Some}
 use Rattle.abs_reach.specs.Instances.{image_in}
-use Rattle.abs_match.specs.Matching.{FirstSame}
+use Rattle.abs_match.specs.inner.Matching.{FirstSame}
 use Rattle.abs_match.proofs.covers.have_images.Given as goal
 
 abbrev pub invariant-loop-place : goal.invariant-loop-place

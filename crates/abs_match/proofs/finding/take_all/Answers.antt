@@ -1,5 +1,5 @@
 use Rattle.std.proofs.Common.{ℕ, List, subst}
-use Rattle.abs_match.specs.Forced.{IsSearching}
+use Rattle.abs_match.specs.inner.Forced.{IsSearching}
 use Rattle.abs_match.proofs.SearchTurns.{went_on, went_less, none_goes}
 use Rattle.abs_match.proofs.finding.take_all.Goals as goal
 

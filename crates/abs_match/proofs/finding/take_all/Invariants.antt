@@ -1,6 +1,6 @@
 use Rattle.std.proofs.Common.{◌+◌, length}
-use Rattle.abs_reach.specs.Turns.{still}
-use Rattle.abs_match.specs.Forced.{IsSearching, names_count}
+use Rattle.abs_reach.specs.inner.Turns.{still}
+use Rattle.abs_match.specs.inner.Forced.{IsSearching, names_count}
 use Rattle.abs_match.proofs.finding.take_all.Given as goal
 
 abbrev pub invariant-loop-id : goal.invariant-loop-id

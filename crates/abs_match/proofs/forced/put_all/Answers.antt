@@ -1,5 +1,5 @@
 use Rattle.std.proofs.Common.{◌∙◌, ◌+◌, ◌<◌, length, drop, sym, ap, arith}
-use Rattle.abs_match.specs.Forced.{stacked}
+use Rattle.abs_match.specs.inner.Forced.{stacked}
 use Rattle.abs_match.proofs.Forcing.{stacked_more, stacked_end}
 use Rattle.abs_match.proofs.forced.put_all.Goals as goal
 

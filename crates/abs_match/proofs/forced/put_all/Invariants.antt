@@ -1,5 +1,5 @@
 use Rattle.std.proofs.Common.{◌≡◌, drop}
-use Rattle.abs_match.specs.Forced.{stacked}
+use Rattle.abs_match.specs.inner.Forced.{stacked}
 use Rattle.abs_match.proofs.forced.put_all.Given as goal
 
 abbrev pub invariant-loop-n : goal.invariant-loop-n

@@ -1,4 +1,4 @@
-use Rattle.abs_match.specs.Forced.{entries_ask}
+use Rattle.abs_match.specs.inner.Forced.{entries_ask}
 use Rattle.abs_match.proofs.Forcing.{first_none, entry_ids, entry_fails, entry_more, all_entries}
 use Rattle.abs_match.proofs.forced.put_entries.Goals as goal
 

@@ -1,4 +1,4 @@
-use Rattle.abs_match.specs.Forced.{AreFirstPut, entries_ask}
+use Rattle.abs_match.specs.inner.Forced.{AreFirstPut, entries_ask}
 use Rattle.abs_match.proofs.Forcing.{entry_ids}
 use Rattle.abs_match.proofs.forced.put_entries.Given as goal
 

@@ -1,7 +1,7 @@
 use Rattle.std.proofs.Common.{◌≡◌, ◌∙◌, ◌+◌, ◌≤◌, length, Some, sym, ap}
 use Rattle.std.specs.Bool.{MatchBool}
 use Rattle.std.proofs.lemmas.Result.{IfOk-weaker}
-use Rattle.abs_match.specs.Forced.{ArePut, NoneDoes, stacked, fields_ask}
+use Rattle.abs_match.specs.inner.Forced.{ArePut, NoneDoes, stacked, fields_ask}
 use Rattle.abs_match.proofs.ForcingPlaces.{fields_put, no_fields}
 use Rattle.abs_match.proofs.forced.put_fields.Goals as goal
 

@@ -1,7 +1,7 @@
 use Rattle.std.specs.Bool.{MatchBool}
 use Rattle.std.proofs.lemmas.Result.{IfOk-weaker}
 use Rattle.abs_cells.specs.Sound.{ids_of_frame}
-use Rattle.abs_match.specs.Forced.{ArePut, NoneDoes, entries_ask, frame_asks}
+use Rattle.abs_match.specs.inner.Forced.{ArePut, NoneDoes, entries_ask, frame_asks}
 use Rattle.abs_match.proofs.Forcing.{frame_none, frame_put, locals_were_put}
 use Rattle.abs_match.proofs.forced.put_frame.Goals as goal
 

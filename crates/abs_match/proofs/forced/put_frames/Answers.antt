@@ -1,7 +1,7 @@
 use Rattle.std.proofs.Common.{◌<◌, length, refl, arith}
 use Rattle.std.proofs.lemmas.Option.{slice_get_read}
 use Rattle.abs_cells.specs.Sound.{ids_of_frame}
-use Rattle.abs_match.specs.Forced.{frames_ask}
+use Rattle.abs_match.specs.inner.Forced.{frames_ask}
 use Rattle.abs_match.proofs.Forcing.{first_none, frame_fails, frame_more, all_frames}
 use Rattle.abs_match.proofs.forced.put_frames.Goals as goal
 

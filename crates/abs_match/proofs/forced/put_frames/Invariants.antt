@@ -1,5 +1,5 @@
 use Rattle.abs_cells.specs.Sound.{ids_of_frame}
-use Rattle.abs_match.specs.Forced.{AreFirstPut, frames_ask}
+use Rattle.abs_match.specs.inner.Forced.{AreFirstPut, frames_ask}
 use Rattle.abs_match.proofs.forced.put_frames.Given as goal
 
 abbrev pub invariant-loop-f : goal.invariant-loop-f

@@ -1,4 +1,4 @@
-use Rattle.abs_match.specs.Forced.{locals_ask}
+use Rattle.abs_match.specs.inner.Forced.{locals_ask}
 use Rattle.abs_match.proofs.Forcing.{first_none, local_ids, local_fails, local_more, all_locals}
 use Rattle.abs_match.proofs.forced.put_locals.Goals as goal
 

@@ -1,4 +1,4 @@
-use Rattle.abs_match.specs.Forced.{AreFirstPut, locals_ask}
+use Rattle.abs_match.specs.inner.Forced.{AreFirstPut, locals_ask}
 use Rattle.abs_match.proofs.Forcing.{local_ids}
 use Rattle.abs_match.proofs.forced.put_locals.Given as goal
 

@@ -2,7 +2,7 @@ use Rattle.std.proofs.Common.{[], ◌∷◌, ◌+◌, ◌≤◌, length, Some, r
 use Rattle.std.specs.Bool.{MatchBool}
 use Rattle.std.proofs.lemmas.Result.{IfOk-weaker}
 use Rattle.abs_cells.specs.Cells.{ids_in}
-use Rattle.abs_match.specs.Forced.{ArePut, NoneDoes, place_asks, fields_ask, cell_asks}
+use Rattle.abs_match.specs.inner.Forced.{ArePut, NoneDoes, place_asks, fields_ask, cell_asks}
 use Rattle.abs_match.proofs.ForcingPlaces.{instance_put, numbers_put, array_put}
 use Rattle.abs_match.proofs.forced.put_named.Goals as goal
 

@@ -5,7 +5,7 @@ use Rattle.std.proofs.lemmas.Bool.{false≢true}
 use Rattle.abs_cells.specs.AbstractStates.{AbstractFrame}
 use Rattle.abs_cells.specs.Sound.{given_ids}
 use Rattle.abs_reach.specs.Reached.{positions}
-use Rattle.abs_match.specs.Forced.{ArePut, NoneDoes, place_asks, state_asks}
+use Rattle.abs_match.specs.inner.Forced.{ArePut, NoneDoes, place_asks, state_asks}
 use Rattle.abs_reach.specs.Instances.{head_of}
 use Rattle.abs_match.proofs.Leasts.{lengths_agree}
 use Rattle.abs_match.proofs.ForcingPlaces.{heads_differ, frames_refused, positions_put}

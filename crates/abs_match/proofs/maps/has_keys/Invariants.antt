@@ -1,4 +1,4 @@
-use Rattle.abs_match.specs.Matching.{FirstSame}
+use Rattle.abs_match.specs.inner.Matching.{FirstSame}
 use Rattle.abs_match.proofs.maps.has_keys.Given as goal
 
 abbrev pub invariant-loop-place : goal.invariant-loop-place

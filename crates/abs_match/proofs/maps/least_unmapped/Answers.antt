@@ -2,7 +2,7 @@ use Rattle.std.proofs.Common.{◌≡◌, ◌∙◌, ◌+◌, ℕ, true, Option, 
 use Rattle.std.proofs.lemmas.Option.{slice_get_within}
 use Rattle.abs_cells.specs.Cells.{cell_in, is_of_sort}
 use Rattle.abs_reach.specs.Instances.{image_in}
-use Rattle.abs_match.specs.Matching.{IsLeastOf, FirstMeet, EntryMeets}
+use Rattle.abs_match.specs.inner.Matching.{IsLeastOf, FirstMeet, EntryMeets}
 use Rattle.abs_match.proofs.Leasts.{all_asked, next_asked, entry_asked}
 use Rattle.abs_match.proofs.Entries.{entry_of, image_is_there}
 use Rattle.abs_match.proofs.maps.least_unmapped.Goals as goal

@@ -1,4 +1,4 @@
-use Rattle.abs_match.specs.Matching.{IsLeastOf, FirstMeet, EntryMeets}
+use Rattle.abs_match.specs.inner.Matching.{IsLeastOf, FirstMeet, EntryMeets}
 use Rattle.abs_match.proofs.maps.least_unmapped.Given as goal
 
 abbrev pub invariant-loop-id : goal.invariant-loop-id

@@ -1,4 +1,4 @@
-use Rattle.abs_match.specs.Matching.{clause_of}
+use Rattle.abs_match.specs.inner.Matching.{clause_of}
 use Rattle.abs_match.proofs.Testing.{tested, agrees_free}
 use Rattle.abs_match.proofs.matching.id_fault.Goals as goal
 

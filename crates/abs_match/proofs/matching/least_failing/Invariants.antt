@@ -1,5 +1,5 @@
 use Rattle.abs_reach.specs.Instances.{Meets}
-use Rattle.abs_match.specs.Matching.{IsLeastOf, FirstMeet, CellMeets, clause_of}
+use Rattle.abs_match.specs.inner.Matching.{IsLeastOf, FirstMeet, CellMeets, clause_of}
 use Rattle.abs_match.proofs.matching.least_failing.Given as goal
 
 abbrev pub invariant-loop-id : goal.invariant-loop-id

@@ -1,5 +1,5 @@
 use Rattle.std.proofs.Common.{◌≡◌, ◌+◌, ℕ, Option, Some, slice_get, sym, subst}
-use Rattle.abs_match.specs.Matching.{IsLeastOf, FirstMeet, HasImage}
+use Rattle.abs_match.specs.inner.Matching.{IsLeastOf, FirstMeet, HasImage}
 use Rattle.abs_match.proofs.Leasts.{next_asked, as_asked, places_past, no_entry_past, entry_is}
 use Rattle.abs_match.proofs.places.least_entry.Goals as goal
 

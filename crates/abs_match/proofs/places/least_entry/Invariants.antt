@@ -1,5 +1,5 @@
 use Rattle.std.proofs.Common.{◌≡◌, Some, slice_get}
-use Rattle.abs_match.specs.Matching.{IsLeastOf, FirstMeet, HasImage}
+use Rattle.abs_match.specs.inner.Matching.{IsLeastOf, FirstMeet, HasImage}
 use Rattle.abs_match.proofs.places.least_entry.Given as goal
 
 abbrev pub invariant-loop-n : goal.invariant-loop-n

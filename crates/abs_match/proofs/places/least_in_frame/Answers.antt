@@ -1,5 +1,5 @@
 use Rattle.std.proofs.Common.{List, ℕ, Option, slice_get, reverse, sym, subst}
-use Rattle.abs_match.specs.Matching.{IsLeastOf, PlacesMeet, FrameMeets, local_at}
+use Rattle.abs_match.specs.inner.Matching.{IsLeastOf, PlacesMeet, FrameMeets, local_at}
 use Rattle.abs_match.proofs.Leasts.{both}
 use Rattle.abs_match.proofs.places.least_in_frame.Goals as goal
 

@@ -1,5 +1,5 @@
 use Rattle.std.proofs.Common.{◌≡◌, ◌+◌, ℕ, Option, Some, sym, subst}
-use Rattle.abs_match.specs.Matching.{IsLeastOf, FirstMeet, HasImage, local_at}
+use Rattle.abs_match.specs.inner.Matching.{IsLeastOf, FirstMeet, HasImage, local_at}
 use Rattle.abs_match.proofs.Leasts.{next_asked, as_asked, places_past, no_local_past, local_is}
 use Rattle.abs_match.proofs.places.least_local.Goals as goal
 

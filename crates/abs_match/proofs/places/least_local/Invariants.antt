@@ -1,5 +1,5 @@
 use Rattle.std.proofs.Common.{◌≡◌, Some}
-use Rattle.abs_match.specs.Matching.{IsLeastOf, FirstMeet, HasImage, local_at}
+use Rattle.abs_match.specs.inner.Matching.{IsLeastOf, FirstMeet, HasImage, local_at}
 use Rattle.abs_match.proofs.places.least_local.Given as goal
 
 abbrev pub invariant-loop-n : goal.invariant-loop-n

@@ -1,6 +1,6 @@
 use Rattle.std.proofs.Common.{◌≡◌, ◌∙◌, ◌+◌, ◌<◌, ℕ, List, length, Option, Some, refl, sym, subst, arith}
 use Rattle.std.proofs.lemmas.Option.{slice_get_read}
-use Rattle.abs_match.specs.Matching.{IsLeastOf, FirstMeet, FramesMeet}
+use Rattle.abs_match.specs.inner.Matching.{IsLeastOf, FirstMeet, FramesMeet}
 use Rattle.abs_match.proofs.Leasts.{next_asked, frame_asked, turned}
 use Rattle.abs_match.proofs.places.least_place.Goals as goal
 

@@ -1,4 +1,4 @@
-use Rattle.abs_match.specs.Matching.{IsLeastOf, FirstMeet, FramesMeet}
+use Rattle.abs_match.specs.inner.Matching.{IsLeastOf, FirstMeet, FramesMeet}
 use Rattle.abs_match.proofs.places.least_place.Given as goal
 
 abbrev pub invariant-loop-f : goal.invariant-loop-f

@@ -6,7 +6,7 @@ use Rattle.abs_cells.proofs.Checking.{id_is_low}
 use Rattle.abs_reach.proofs.Beginning.{begun_none, is_start, starts_are, item_there, item_new, item_room, one_started, none_started}
 use Rattle.abs_reach.specs.declared.walk.Found.{Found}
 use Rattle.abs_cells.specs.IdSets.{has_id}
-use Rattle.abs_reach.specs.Turns.{IsBegun}
+use Rattle.abs_reach.specs.inner.Turns.{IsBegun}
 use Rattle.abs_reach.proofs.walk.begin_at_all.Goals as goal
 use Rattle.abs_reach.proofs.walk.begin_at_all.Goals.{then-has, else-has}
 

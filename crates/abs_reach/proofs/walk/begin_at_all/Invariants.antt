@@ -1,7 +1,7 @@
 use Rattle.std.proofs.Common.{◌≡◌, ℕ, ◌≤◌, take}
 use Rattle.std.specs.List.{list_any}
 use Rattle.abs_cells.specs.IdSets.{has_id}
-use Rattle.abs_reach.specs.Turns.{IsBegun}
+use Rattle.abs_reach.specs.inner.Turns.{IsBegun}
 use Rattle.abs_reach.proofs.Beginning.{is_start}
 use Rattle.abs_reach.proofs.walk.begin_at_all.Given as goal
 

@@ -1,5 +1,5 @@
 use Rattle.std.proofs.Common.{◌+◌, ◌≤◌, length}
-use Rattle.abs_reach.specs.Turns.{still, one}
+use Rattle.abs_reach.specs.inner.Turns.{still, one}
 use Rattle.abs_reach.proofs.Room.{ahead, work}
 use Rattle.abs_reach.proofs.Walked.{WalksFrom}
 use Rattle.abs_reach.proofs.walk.run.Given as goal

@@ -1,4 +1,4 @@
-use Rattle.abs_reach.specs.Steps.{steps_in}
+use Rattle.abs_reach.specs.inner.Steps.{steps_in}
 use Rattle.abs_reach.proofs.Room.{has_cell_low}
 use Rattle.abs_reach.proofs.Beginning.{begun_none, reached_one}
 use Rattle.abs_reach.proofs.walk.walk.Goals as goal

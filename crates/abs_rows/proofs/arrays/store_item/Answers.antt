@@ -3,7 +3,7 @@ use Rattle.abs_turns.specs.PlansSeen.{plan_seen}
 use Rattle.abs_turns.specs.Table.{access_of, aastore_plan}
 use Rattle.abs_turns.proofs.OptionLists.{if_ok}
 use Rattle.abs_rows.specs.declared.arrays.Access.TheVariants.{ItemStore}
-use Rattle.abs_rows.specs.Accesses.{good_of, length_of}
+use Rattle.abs_rows.specs.inner.Accesses.{good_of, length_of}
 use Rattle.abs_rows.proofs.StoredItems.{stored}
 use Rattle.abs_rows.proofs.arrays.store_item.Goals as goal
 

@@ -2,7 +2,7 @@ use Rattle.std.proofs.Common.{◌≡◌, sym, subst, length, List, ℕ}
 use Rattle.std.proofs.lemmas.Option.{slice_get-get_or}
 use Rattle.jvm_values.specs.TypedHeaps.{world_types}
 use Rattle.abs_cells.specs.declared.cells.Cell.{Cell}
-use Rattle.abs_widen.specs.Visiting.{ArePairCells}
+use Rattle.abs_widen.specs.inner.Visiting.{ArePairCells}
 use Rattle.abs_widen.specs.Widening.{AreMergedCells}
 use Rattle.abs_widen.proofs.Merging.{holds_at, merged_goes, merged_ends}
 use Rattle.abs_widen.proofs.merged.merged_cells.Goals as goal

@@ -3,7 +3,7 @@ use Rattle.std.proofs.lemmas.Result.{IfOk-weaker}
 use Rattle.std.proofs.lemmas.List.Elements.{length_all_zip}
 use Rattle.abs_cells.specs.AbstractStates.{AbstractFrame}
 use Rattle.abs_widen.specs.Widening.{merged_frame, merged_frames}
-use Rattle.abs_widen.specs.Visiting.{AreAsLong}
+use Rattle.abs_widen.specs.inner.Visiting.{AreAsLong}
 use Rattle.abs_widen.proofs.Zips.{all_reversed_as, mapped_reversed}
 use Rattle.abs_widen.proofs.numbers.frames_of.Goals as goal
 

@@ -2,7 +2,7 @@ use Rattle.std.proofs.Common.{◌≡◌, ◌∙◌, ◌++◌, ◌+◌, List, len
 use Rattle.std.proofs.lemmas.List.Elements.{length_all_zip}
 use Rattle.abs_cells.specs.AbstractStates.{AbstractFrame}
 use Rattle.abs_widen.specs.Widening.{merged_frame, merged_frames}
-use Rattle.abs_widen.specs.Visiting.{AreAsLong}
+use Rattle.abs_widen.specs.inner.Visiting.{AreAsLong}
 use Rattle.abs_widen.proofs.Zips.{made_at}
 use Rattle.abs_widen.proofs.numbers.merged_frames.Goals as goal
 

@@ -1,4 +1,4 @@
-use Rattle.abs_widen.specs.Pairing.{WantsOne, WantsShare}
+use Rattle.abs_widen.specs.inner.Pairing.{WantsOne, WantsShare}
 use Rattle.abs_widen.proofs.Joining.{joined_more, joined_row}
 use Rattle.abs_widen.proofs.pairing.join_below.Goals as goal
 

@@ -1,4 +1,4 @@
-use Rattle.abs_widen.specs.Pairing.{WantsOne, WantsShare, AreJoinedTo}
+use Rattle.abs_widen.specs.inner.Pairing.{WantsOne, WantsShare, AreJoinedTo}
 use Rattle.abs_widen.proofs.pairing.join_below.Given as goal
 
 abbrev pub invariant-loop-m : goal.invariant-loop-m

@@ -1,5 +1,5 @@
 use Rattle.std.proofs.Common.{◌<◌, length, arith}
-use Rattle.abs_widen.specs.Pairing.{WantsOne, WantsShare}
+use Rattle.abs_widen.specs.inner.Pairing.{WantsOne, WantsShare}
 use Rattle.abs_widen.proofs.Joining.{joined_all}
 use Rattle.abs_widen.proofs.Wanting.{one_within, share_within}
 use Rattle.abs_widen.proofs.pairing.joined.Goals as goal

@@ -1,4 +1,4 @@
-use Rattle.abs_widen.specs.Pairing.{WantsOne, WantsShare, AreJoinedTo}
+use Rattle.abs_widen.specs.inner.Pairing.{WantsOne, WantsShare, AreJoinedTo}
 use Rattle.abs_widen.proofs.pairing.joined.Given as goal
 
 abbrev pub invariant-loop-n : goal.invariant-loop-n

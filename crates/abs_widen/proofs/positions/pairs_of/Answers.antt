@@ -1,6 +1,6 @@
 use Rattle.std.proofs.Common.{◌∙◌, ℕ, Option, ap}
 use Rattle.abs_widen.specs.Visits.{thrown_pair}
-use Rattle.abs_widen.specs.Visiting.{AreAsLong}
+use Rattle.abs_widen.specs.inner.Visiting.{AreAsLong}
 use Rattle.abs_widen.proofs.Zips.{all_reversed_as}
 use Rattle.abs_widen.proofs.Visiting.{frames_paired, thrown_paired, pairs_are}
 use Rattle.abs_widen.proofs.positions.pairs_of.Goals as goal

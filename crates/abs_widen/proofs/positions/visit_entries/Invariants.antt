@@ -1,5 +1,5 @@
 use Rattle.std.proofs.Common.{drop, zip}
-use Rattle.abs_widen.specs.Visiting.{IsWithRest}
+use Rattle.abs_widen.specs.inner.Visiting.{IsWithRest}
 use Rattle.abs_widen.proofs.positions.visit_entries.Given as goal
 
 abbrev pub invariant-loop-n : goal.invariant-loop-n

@@ -1,7 +1,7 @@
 use Rattle.std.proofs.Common.{zip, reverse, List, ℕ, sym, subst}
 use Rattle.list_views.proofs.Quantified.{all_back}
 use Rattle.abs_widen.specs.Visits.{IsPaired, local_pairs}
-use Rattle.abs_widen.specs.Visiting.{ArePaired}
+use Rattle.abs_widen.specs.inner.Visiting.{ArePaired}
 use Rattle.abs_widen.proofs.positions.visit_frame.Goals as goal
 
 pub visit_entries-requires-clause-paired : goal.visit_entries-requires-clause-paired

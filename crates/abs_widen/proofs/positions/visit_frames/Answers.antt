@@ -2,7 +2,7 @@ use Rattle.std.proofs.Common.{◌≡◌, length, get_or, sym, subst, arith}
 use Rattle.std.proofs.lemmas.List.Elements.{length_all_zip}
 use Rattle.abs_cells.specs.AbstractStates.{AbstractFrame}
 use Rattle.abs_widen.specs.Visits.{frame_pairs, frames_pairs}
-use Rattle.abs_widen.specs.Visiting.{AreAsLong}
+use Rattle.abs_widen.specs.inner.Visiting.{AreAsLong}
 use Rattle.abs_widen.proofs.Zips.{all_at}
 use Rattle.abs_widen.proofs.Visiting.{paired_here, gone_past}
 use Rattle.abs_widen.proofs.positions.visit_frames.Goals as goal

@@ -1,6 +1,6 @@
 use Rattle.std.proofs.Common.{drop}
 use Rattle.abs_widen.specs.Visits.{frames_pairs}
-use Rattle.abs_widen.specs.Visiting.{IsWithRest}
+use Rattle.abs_widen.specs.inner.Visiting.{IsWithRest}
 use Rattle.abs_widen.proofs.positions.visit_frames.Given as goal
 
 abbrev pub invariant-loop-n : goal.invariant-loop-n

@@ -1,5 +1,5 @@
 use Rattle.std.proofs.Common.{ℕ, List, sym, subst, ◌∙◌}
-use Rattle.abs_widen.specs.Visiting.{IsLeft}
+use Rattle.abs_widen.specs.inner.Visiting.{IsLeft}
 use Rattle.abs_widen.proofs.Visiting.{left_more, next_of, none_of}
 use Rattle.abs_widen.proofs.visits.next_new.Goals as goal
 

@@ -1,5 +1,5 @@
 use Rattle.std.proofs.Common.{length}
-use Rattle.abs_widen.specs.Visiting.{IsLeft}
+use Rattle.abs_widen.specs.inner.Visiting.{IsLeft}
 use Rattle.abs_widen.proofs.visits.next_new.Given as goal
 
 abbrev pub invariant-loop-pair : goal.invariant-loop-pair

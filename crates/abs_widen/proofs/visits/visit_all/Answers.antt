@@ -1,5 +1,5 @@
 use Rattle.std.proofs.Common.{ℕ, List, subst, arith}
-use Rattle.abs_widen.specs.Visiting.{IsNext}
+use Rattle.abs_widen.specs.inner.Visiting.{IsNext}
 use Rattle.abs_widen.proofs.Visiting.{left_goes, too_many}
 use Rattle.abs_widen.proofs.visits.visit_all.Goals as goal
 

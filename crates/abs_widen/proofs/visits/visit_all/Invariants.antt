@@ -1,5 +1,5 @@
 use Rattle.std.proofs.Common.{◌-◌, length}
-use Rattle.abs_widen.specs.Visiting.{IsLeftOf}
+use Rattle.abs_widen.specs.inner.Visiting.{IsLeftOf}
 use Rattle.abs_widen.proofs.visits.visit_all.Given as goal
 
 abbrev pub invariant-loop-pair : goal.invariant-loop-pair

@@ -1,6 +1,6 @@
 use Rattle.std.proofs.Common.{◌∙◌, ℕ, List, subst}
 use Rattle.abs_cells.specs.declared.cells.Cell.{Cell}
-use Rattle.abs_widen.specs.Pairing.{WantsOne, WantsShare, AreJoined}
+use Rattle.abs_widen.specs.inner.Pairing.{WantsOne, WantsShare, AreJoined}
 use Rattle.abs_widen.proofs.Widened.{paired_of}
 use Rattle.abs_widen.proofs.widening.paired.Goals as goal
 

@@ -1,8 +1,8 @@
 use Rattle.std.proofs.Common.{◌≤◌, ℕ, List, length, sym, subst}
 use Rattle.std.specs.List.{AllByRecursion}
 use Rattle.jvm_values.specs.TypedHeaps.{world_types}
-use Rattle.abs_widen.specs.Visiting.{ArePairCells}
-use Rattle.abs_widen.specs.Pairing.{IsWithin, IsPaired}
+use Rattle.abs_widen.specs.inner.Visiting.{ArePairCells}
+use Rattle.abs_widen.specs.inner.Pairing.{IsWithin, IsPaired}
 use Rattle.abs_widen.specs.Widening.{IsMerged}
 use Rattle.abs_widen.proofs.Alike.{all_paired_cells, all_as_long}
 use Rattle.abs_widen.proofs.Whole.{merged_is_good}

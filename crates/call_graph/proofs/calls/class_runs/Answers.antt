@@ -1,7 +1,7 @@
 use Rattle.std.proofs.Common.{◌∙◌, ap, ◌++◌}
 use Rattle.std.specs.Option.{option_to_list}
 use Rattle.class_program.specs.Views.{program_of}
-use Rattle.call_graph.specs.Listed.{class_run}
+use Rattle.call_graph.specs.inner.Listed.{class_run}
 use Rattle.call_graph.proofs.Rows.{range_step}
 use Rattle.call_graph.proofs.calls.class_runs.Goals as goal
 

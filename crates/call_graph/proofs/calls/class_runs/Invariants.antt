@@ -1,7 +1,7 @@
 use Rattle.std.proofs.Common.{◌≡◌}
 use Rattle.std.specs.List.{filter_map, range_with_len}
 use Rattle.class_program.specs.Views.{program_of}
-use Rattle.call_graph.specs.Listed.{class_run}
+use Rattle.call_graph.specs.inner.Listed.{class_run}
 use Rattle.call_graph.proofs.calls.class_runs.Given as goal
 
 abbrev pub invariant-loop-class : goal.invariant-loop-class

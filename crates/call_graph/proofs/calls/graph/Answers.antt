@@ -2,7 +2,7 @@ use Rattle.std.proofs.Common.{◌∙◌, ap, ℕ, List}
 use Rattle.class_program.specs.declared.op.Op.{Op}
 use Rattle.class_program.specs.declared.program.Method.{Method}
 use Rattle.class_program.specs.Views.{program_of}
-use Rattle.call_graph.specs.Listed.{method_runs}
+use Rattle.call_graph.specs.inner.Listed.{method_runs}
 use Rattle.call_graph.proofs.Rows.{row_step, more_done}
 use Rattle.call_graph.proofs.calls.graph.Goals as goal
 

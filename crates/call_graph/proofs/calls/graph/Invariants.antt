@@ -1,6 +1,6 @@
 use Rattle.std.proofs.Common.{◌≡◌, ◌++◌, drop, length}
 use Rattle.class_program.specs.Views.{program_of}
-use Rattle.call_graph.specs.Listed.{rows_from, graph_of}
+use Rattle.call_graph.specs.inner.Listed.{rows_from, graph_of}
 use Rattle.call_graph.proofs.calls.graph.Given as goal
 
 abbrev pub invariant-loop-number : goal.invariant-loop-number

@@ -1,7 +1,7 @@
 use Rattle.std.proofs.Common.{◌∙◌, ap, ◌++◌, ℕ, List}
 use Rattle.class_program.specs.declared.op.Op.{Op}
 use Rattle.class_program.specs.Views.{program_of}
-use Rattle.call_graph.specs.Listed.{place_runs}
+use Rattle.call_graph.specs.inner.Listed.{place_runs}
 use Rattle.call_graph.proofs.Rows.{flat_step}
 use Rattle.call_graph.proofs.calls.method_runs.Goals as goal
 

@@ -1,7 +1,7 @@
 use Rattle.std.proofs.Common.{◌≡◌, ◌++◌, drop}
 use Rattle.std.specs.List.{flat_map}
 use Rattle.class_program.specs.Views.{program_of}
-use Rattle.call_graph.specs.Listed.{place_runs}
+use Rattle.call_graph.specs.inner.Listed.{place_runs}
 use Rattle.call_graph.proofs.calls.method_runs.Given as goal
 
 abbrev pub invariant-loop-pc : goal.invariant-loop-pc

@@ -1,5 +1,5 @@
 use Rattle.std.proofs.Common.{◌↔◌, drop}
-use Rattle.cert_check.specs.Parts.{AreCutsFrom}
+use Rattle.cert_check.specs.inner.PartChecks.{AreCutsFrom}
 use Rattle.cert_check.proofs.cuts.rise_below.Given as goal
 
 abbrev pub invariant-loop-cut : goal.invariant-loop-cut

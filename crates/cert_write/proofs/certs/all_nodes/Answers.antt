@@ -5,7 +5,7 @@ use Rattle.serde_json.specs.View.{view, items_of}
 use Rattle.serde_json.proofs.Views.{view-Array}
 use Rattle.term_graph.specs.Graphs.{GraphNode}
 use Rattle.cert_write.specs.Data.{node, part_of}
-use Rattle.cert_write.specs.Nodes.{IsPut}
+use Rattle.cert_write.specs.inner.Nodes.{IsPut}
 use Rattle.cert_write.proofs.WritingNodes.{AreWritten, none_written, write_on, all_written}
 use Rattle.cert_write.proofs.certs.all_nodes.Goals as goal
 

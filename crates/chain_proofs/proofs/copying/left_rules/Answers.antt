@@ -1,5 +1,5 @@
 use Rattle.std.proofs.lemmas.Option.{slice_get-get_or}
-use Rattle.chain_proofs.specs.Sets.{IsLeftOf}
+use Rattle.chain_proofs.specs.inner.Sets.{IsLeftOf}
 use Rattle.chain_proofs.proofs.Owning.{zip_more}
 use Rattle.chain_proofs.proofs.copying.left_rules.Goals as goal
 

@@ -1,7 +1,7 @@
 use Rattle.std.proofs.Common.{◌∙◌, arith, length, subst, sym}
 use Rattle.chain_proofs.specs.declared.proving.Turn.{Turn}
-use Rattle.chain_proofs.specs.Dealt.{IsSet}
-use Rattle.chain_proofs.specs.Sets.{TurnsOr}
+use Rattle.chain_proofs.specs.inner.Dealt.{IsSet}
+use Rattle.chain_proofs.specs.inner.Sets.{TurnsOr}
 use Rattle.chain_proofs.proofs.Spending.{set_given}
 use Rattle.chain_proofs.proofs.Starting.{all_asked}
 use Rattle.chain_proofs.proofs.Turning.{has_room, proof_more}

@@ -1,6 +1,6 @@
 use Rattle.std.proofs.Common.{◌∙◌, ap, length, subst}
 use Rattle.descent.specs.Steps.{weak_ones}
-use Rattle.chain_proofs.specs.Sets.{RanksOr}
+use Rattle.chain_proofs.specs.inner.Sets.{RanksOr}
 use Rattle.chain_proofs.proofs.Closing.{later}
 use Rattle.chain_proofs.proofs.Spending.{rank_turns, room_at, set_below}
 use Rattle.chain_proofs.proofs.proving.ranked.Goals as goal

@@ -1,5 +1,5 @@
 use Rattle.std.proofs.Common.{rules}
-use Rattle.chain_proofs.specs.Sets.{IsRenumbered}
+use Rattle.chain_proofs.specs.inner.Sets.{IsRenumbered}
 use Rattle.chain_proofs.proofs.Owning.{zip_pushed}
 use Rattle.chain_proofs.proofs.ranking.all_renumbered.Goals as goal
 

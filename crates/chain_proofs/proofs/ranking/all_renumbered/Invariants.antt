@@ -3,7 +3,7 @@ use Rattle.std.specs.Prelude.{◌<◌, length}
 use Rattle.std.specs.Vec.Iter.{into_iter_items}
 use Rattle.descent.specs.declared.proof.RankRule.{RankRule}
 use Rattle.descent.specs.Steps.{rule_of}
-use Rattle.chain_proofs.specs.Sets.{IsRenumbered}
+use Rattle.chain_proofs.specs.inner.Sets.{IsRenumbered}
 use Rattle.chain_proofs.proofs.ranking.all_renumbered.Given as goal
 
 abbrev pub invariant-loop-one : goal.invariant-loop-one

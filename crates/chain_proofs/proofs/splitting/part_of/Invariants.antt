@@ -1,5 +1,5 @@
 use Rattle.std.proofs.Common.{take}
-use Rattle.chain_proofs.specs.Sets.{AreAt}
+use Rattle.chain_proofs.specs.inner.Sets.{AreAt}
 use Rattle.chain_proofs.proofs.splitting.part_of.Given as goal
 
 abbrev pub invariant-loop-place : goal.invariant-loop-place

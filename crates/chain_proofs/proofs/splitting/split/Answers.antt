@@ -1,7 +1,7 @@
 use Rattle.std.proofs.Common.{ℕ, List, Some, false, length, slice_get, ◌≡◌, ◌<◌, ◌∙◌, ap, sym, subst}
 use Rattle.std.specs.List.{All}
 use Rattle.std.proofs.lemmas.Option.{slice_get-get_or}
-use Rattle.chain_proofs.specs.Sets.{AreAt, IsHanded, is_alone}
+use Rattle.chain_proofs.specs.inner.Sets.{AreAt, IsHanded, is_alone}
 use Rattle.chain_proofs.proofs.Charging.{class_within}
 use Rattle.chain_proofs.proofs.Dividing.{as_long}
 use Rattle.chain_proofs.proofs.Parting.{divided_first, divided_more, split_turns, still_later, still_room}

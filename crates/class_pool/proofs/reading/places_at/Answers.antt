@@ -1,7 +1,7 @@
 use Rattle.std.proofs.Common.{◌≡◌, ◌+◌, ◌∷◌, [], ◌++◌, eqb, length, subst, sym, ap, ◌∙◌, arith}
 use Rattle.std.proofs.lemmas.Result.{err_from_is_err_and}
 use Rattle.class_pool.specs.Entry.{is_wide}
-use Rattle.class_pool.specs.View.{entry_of}
+use Rattle.class_pool.specs.inner.View.{entry_of}
 use Rattle.class_pool.proofs.Places.{Progress, own_places, begins, goes_on, stops, is_done}
 use Rattle.class_pool.proofs.reading.places_at.Goals as goal
 

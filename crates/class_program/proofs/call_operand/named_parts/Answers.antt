@@ -3,7 +3,7 @@ use Rattle.class_world.specs.Worlds.{classes_of}
 use Rattle.class_program.specs.declared.refusal.Refusal.{Refusal}
 use Rattle.jvm_values.specs.declared.types.Ty.{Ty}
 use Rattle.class_program.specs.declared.signature.Signature.{Signature}
-use Rattle.class_program.specs.Reads.{member_seen}
+use Rattle.class_program.specs.inner.Reads.{member_seen}
 use Rattle.class_program.specs.Refusals.{Gives}
 use Rattle.class_program.specs.Ops.{named_parts}
 use Rattle.class_program.proofs.Refused.{together_gives}

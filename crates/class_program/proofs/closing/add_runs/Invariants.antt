@@ -3,7 +3,7 @@ use Rattle.std.specs.Prelude.{flat_map}
 use Rattle.class_world.specs.Worlds.{classes_of}
 use Rattle.class_program.specs.Runs.{runs}
 use Rattle.class_program.specs.Reached.{with_new}
-use Rattle.class_program.specs.Rows.{AreRows}
+use Rattle.class_program.specs.inner.Rows.{AreRows}
 use Rattle.class_program.proofs.closing.add_runs.Given as goal
 
 abbrev pub invariant-loop-insn : goal.invariant-loop-insn

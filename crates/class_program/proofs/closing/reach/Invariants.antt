@@ -1,7 +1,7 @@
 use Rattle.std.proofs.Common.{◌-◌, length}
 use Rattle.class_world.specs.Worlds.{classes_of}
 use Rattle.class_program.specs.Reached.{method_count}
-use Rattle.class_program.specs.Rows.{AreRows}
+use Rattle.class_program.specs.inner.Rows.{AreRows}
 use Rattle.class_program.proofs.GoingThrough.{IsReaching}
 use Rattle.class_program.proofs.closing.reach.Given as goal
 

@@ -4,7 +4,7 @@ use Rattle.std.specs.Vec.Iter.{into_iter_items, into_iter_len}
 use Rattle.class_world.specs.Worlds.{classes_of}
 use Rattle.class_program.specs.declared.op.Op.{Op}
 use Rattle.class_program.specs.Said.{each}
-use Rattle.class_program.specs.Rows.{AreRows}
+use Rattle.class_program.specs.inner.Rows.{AreRows}
 use Rattle.class_program.specs.Methods.{op_said}
 use Rattle.class_program.specs.Widths.{IsConstantInWidth}
 use Rattle.class_program.proofs.method.ops_of.Given as goal

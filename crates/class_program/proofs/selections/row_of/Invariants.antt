@@ -1,7 +1,7 @@
 use Rattle.std.proofs.Common.{◌≡◌, length}
 use Rattle.class_read.specs.View.{method_content}
 use Rattle.class_world.specs.Worlds.{classes_of}
-use Rattle.class_program.specs.Rows.{IsRow}
+use Rattle.class_program.specs.inner.Rows.{IsRow}
 use Rattle.class_program.proofs.selections.row_of.Given as goal
 
 abbrev pub invariant-loop-class : goal.invariant-loop-class

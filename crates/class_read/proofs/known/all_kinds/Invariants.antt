@@ -1,6 +1,6 @@
 use Rattle.std.proofs.Common.{◌≡◌, map, take}
 use Rattle.class_pool.specs.Text.{places_of}
-use Rattle.class_read.specs.Known.{place_kinds}
+use Rattle.class_read.specs.inner.Known.{place_kinds}
 use Rattle.class_read.proofs.known.all_kinds.Given as goal
 
 abbrev pub invariant-places : goal.invariant-places

@@ -1,6 +1,6 @@
 use Rattle.std.proofs.Common.{◌≡◌, map, take}
 use Rattle.class_pool.specs.Text.{places_of}
-use Rattle.class_read.specs.Numbers.{place_number, kept_place, KeepsFirst}
+use Rattle.class_read.specs.inner.Numbers.{place_number, kept_place, KeepsFirst}
 use Rattle.class_read.proofs.known.all_numbers.Given as goal
 
 abbrev pub invariant-places : goal.invariant-places

@@ -1,6 +1,6 @@
 use Rattle.std.proofs.Common.{sym, ap, ◌∙◌}
 use Rattle.class_pool.specs.Text.{places_of}
-use Rattle.class_read.specs.Numbers.{number_in, kept_place}
+use Rattle.class_read.specs.inner.Numbers.{number_in, kept_place}
 use Rattle.class_read.proofs.Numbers.{new_number, keeps_new, kept_borrowed}
 use Rattle.class_read.proofs.known.number.Goals as goal
 

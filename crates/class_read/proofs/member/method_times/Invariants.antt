@@ -1,5 +1,5 @@
 use Rattle.std.proofs.Common.{◌≡◌, ◌-◌, [], map}
-use Rattle.class_read.specs.Numbers.{keys_in, AreNumbers}
+use Rattle.class_read.specs.inner.Numbers.{keys_in, AreNumbers}
 use Rattle.class_read.specs.Reading.{repeated}
 use Rattle.class_read.specs.View.{method_content}
 use Rattle.class_read.specs.FirstFault.{more_methods_at, method_keys}

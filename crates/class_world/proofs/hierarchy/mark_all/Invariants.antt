@@ -1,5 +1,5 @@
 use Rattle.std.proofs.Common.{◌≡◌, length, drop}
-use Rattle.class_world.specs.Marking.{marks_after, todo_after}
+use Rattle.class_world.specs.inner.Marking.{marks_after, todo_after}
 use Rattle.class_world.proofs.hierarchy.mark_all.Given as goal
 
 abbrev pub invariant-loop-class : goal.invariant-loop-class

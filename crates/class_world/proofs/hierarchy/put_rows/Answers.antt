@@ -1,7 +1,7 @@
 use Rattle.std.proofs.Common.{◌≡◌, ◌++◌, ◌∷◌, [], length, ap, sym, ◌∙◌, arith}
 use Rattle.class_world.specs.World.{is_above}
-use Rattle.class_world.specs.Once.{supers_once}
-use Rattle.class_world.specs.Tables.{values_to}
+use Rattle.class_world.specs.inner.Once.{supers_once}
+use Rattle.class_world.specs.inner.Tables.{values_to}
 use Rattle.class_world.proofs.Tables.{length-values, values_more}
 use Rattle.class_world.proofs.Rows.{table_closed, row_is}
 use Rattle.class_world.proofs.hierarchy.put_rows.Goals as goal

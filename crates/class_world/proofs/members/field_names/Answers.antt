@@ -1,5 +1,5 @@
 use Rattle.std.proofs.Common.{refl, get_or}
-use Rattle.class_world.specs.Index.{field_key}
+use Rattle.class_world.specs.inner.Index.{field_key}
 use Rattle.class_world.proofs.Keys.{names_more}
 use Rattle.class_world.proofs.members.field_names.Goals as goal
 

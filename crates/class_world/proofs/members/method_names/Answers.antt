@@ -1,4 +1,4 @@
-use Rattle.class_world.specs.Index.{method_key}
+use Rattle.class_world.specs.inner.Index.{method_key}
 use Rattle.class_world.proofs.Keys.{names_more}
 use Rattle.class_world.proofs.members.method_names.Goals as goal
 

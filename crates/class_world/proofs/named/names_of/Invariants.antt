@@ -1,6 +1,6 @@
 use Rattle.std.proofs.Common.{◌≡◌, take, drop}
 use Rattle.class_world.specs.Linking.{first_broken, duplicate_class}
-use Rattle.class_world.specs.Tables.{names_of}
+use Rattle.class_world.specs.inner.Tables.{names_of}
 use Rattle.class_world.proofs.named.names_of.Given as goal
 
 abbrev pub invariant-loop-class : goal.invariant-loop-class

@@ -1,5 +1,5 @@
 use Rattle.std.proofs.Common.{◌≡◌, drop}
-use Rattle.class_world.specs.Once.{with_numbers, once}
+use Rattle.class_world.specs.inner.Once.{with_numbers, once}
 use Rattle.class_world.proofs.once.once.Given as goal
 
 abbrev pub invariant-loop-number : goal.invariant-loop-number

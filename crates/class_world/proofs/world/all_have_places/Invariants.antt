@@ -1,6 +1,6 @@
 use Rattle.std.proofs.Common.{◌≡◌, drop}
 use Rattle.std.specs.List.{list_all}
-use Rattle.class_world.specs.Index.{has_places}
+use Rattle.class_world.specs.inner.Index.{has_places}
 use Rattle.class_world.proofs.world.all_have_places.Given as goal
 
 abbrev pub invariant-loop-row : goal.invariant-loop-row

@@ -1,5 +1,5 @@
 use Rattle.std.proofs.Common.{◌≡◌, length, arith, refl}
-use Rattle.frame_types.specs.GrowthLaws.{grown_none}
+use Rattle.frame_types.proofs.GrowthLaws.{grown_none}
 use Rattle.jvm_values.specs.States.{types_of as seen}
 use Rattle.code_verify.specs.Flows.{onward}
 use Rattle.code_verify.proofs.WorldOf.{laws_at}

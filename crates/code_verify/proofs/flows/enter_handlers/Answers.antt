@@ -1,5 +1,5 @@
 use Rattle.std.proofs.Common.{◌≡◌, length, arith, refl, sym, ◌∙◌}
-use Rattle.frame_types.specs.GrowthLaws.{grown_none}
+use Rattle.frame_types.proofs.GrowthLaws.{grown_none}
 use Rattle.jvm_values.specs.States.{types_of as seen}
 use Rattle.class_world.specs.Worlds.{classes_of}
 use Rattle.code_verify.specs.Flows.{caught}

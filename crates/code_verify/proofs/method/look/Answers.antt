@@ -7,7 +7,7 @@ use Rattle.class_program.specs.Views.{program_of}
 use Rattle.op_forms.specs.Forms.{form_seen}
 use Rattle.frame_types.specs.Places.{IsProper}
 use Rattle.frame_types.specs.Tables.{types_at}
-use Rattle.code_verify.specs.Solving.{IsPassed}
+use Rattle.code_verify.specs.inner.Solving.{IsPassed}
 use Rattle.code_verify.proofs.WorldOf.{laws_at}
 use Rattle.code_verify.proofs.FlowLaws.{came, did_not_come}
 use Rattle.code_verify.proofs.Running.{run_proper}

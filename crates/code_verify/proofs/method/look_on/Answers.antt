@@ -6,7 +6,7 @@ use Rattle.jvm_values.proofs.Options.{some_is}
 use Rattle.class_world.specs.Worlds.{classes_of}
 use Rattle.class_program.specs.Views.{program_of}
 use Rattle.frame_types.specs.Tables.{types_at}
-use Rattle.code_verify.specs.Solving.{IsPassed}
+use Rattle.code_verify.specs.inner.Solving.{IsPassed}
 use Rattle.code_verify.proofs.WorldOf.{laws_at}
 use Rattle.code_verify.proofs.Solved.{mid_table, mid_proper, nothing_there}
 use Rattle.code_verify.proofs.Steps.{looked_is, looked_less, taken_less, ended}

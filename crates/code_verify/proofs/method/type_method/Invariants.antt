@@ -3,7 +3,7 @@ use Rattle.class_world.specs.WorldTypes.{types_of}
 use Rattle.class_program.specs.Views.{program_of}
 use Rattle.frame_types.specs.Tables.{types_at}
 use Rattle.frame_types.specs.Work.{work_left}
-use Rattle.code_verify.specs.Solving.{IsSolving, IsPassed}
+use Rattle.code_verify.specs.inner.Solving.{IsSolving, IsPassed}
 use Rattle.code_verify.proofs.method.type_method.Given as goal
 
 abbrev pub invariant-loop-passed : goal.invariant-loop-passed

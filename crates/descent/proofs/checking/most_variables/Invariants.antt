@@ -1,5 +1,5 @@
 use Rattle.std.proofs.Common.{ℕ, ◌<◌, ◌≤◌, get_or}
-use Rattle.descent.specs.Handing.{AreOver}
+use Rattle.descent.specs.Conditions.{AreOver}
 use Rattle.descent.specs.declared.rules.PathRule.{PathRule}
 use Rattle.descent.proofs.checking.most_variables.Given as goal
 

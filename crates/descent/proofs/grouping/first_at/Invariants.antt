@@ -1,5 +1,5 @@
 use Rattle.std.proofs.Common.{◌≡◌, ◌+◌, drop}
-use Rattle.descent.specs.Inserting.{first_at}
+use Rattle.descent.specs.inner.Inserting.{first_at}
 use Rattle.descent.proofs.grouping.first_at.Given as goal
 
 abbrev pub invariant-loop-n : goal.invariant-loop-n

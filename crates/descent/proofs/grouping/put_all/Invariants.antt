@@ -1,5 +1,5 @@
 use Rattle.std.proofs.Common.{◌≡◌, ◌-◌, [], length}
-use Rattle.descent.specs.Inserting.{insert_all}
+use Rattle.descent.specs.inner.Inserting.{insert_all}
 use Rattle.descent.proofs.grouping.put_all.Given as goal
 
 abbrev pub invariant-loop-rule : goal.invariant-loop-rule

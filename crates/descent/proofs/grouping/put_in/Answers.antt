@@ -1,5 +1,5 @@
 use Rattle.std.proofs.Common.{◌∙◌, ap, sym, true, false}
-use Rattle.descent.specs.Inserting.{first_at, joins}
+use Rattle.descent.specs.inner.Inserting.{first_at, joins}
 use Rattle.descent.proofs.Classes.{on_ok_then, put_told}
 use Rattle.descent.proofs.grouping.put_in.Goals as goal
 

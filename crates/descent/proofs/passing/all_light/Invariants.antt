@@ -1,5 +1,5 @@
 use Rattle.std.proofs.Common.{◌≡◌, drop}
-use Rattle.descent.specs.Marking.{all_light}
+use Rattle.descent.specs.inner.Marking.{all_light}
 use Rattle.descent.proofs.passing.all_light.Given as goal
 
 abbrev pub invariant-loop-n : goal.invariant-loop-n

@@ -1,5 +1,5 @@
 use Rattle.std.proofs.Common.{◌≡◌, drop}
-use Rattle.descent.specs.Marking.{all_off}
+use Rattle.descent.specs.inner.Marking.{all_off}
 use Rattle.descent.proofs.passing.all_off.Given as goal
 
 abbrev pub invariant-loop-rule : goal.invariant-loop-rule

@@ -1,5 +1,5 @@
 use Rattle.std.proofs.Common.{◌≡◌, drop}
-use Rattle.descent.specs.Marking.{enters}
+use Rattle.descent.specs.inner.Marking.{enters}
 use Rattle.descent.proofs.passing.enters.Given as goal
 
 abbrev pub invariant-loop-number : goal.invariant-loop-number

@@ -1,5 +1,5 @@
 use Rattle.std.proofs.Common.{◌≡◌, drop}
-use Rattle.descent.specs.Marking.{flow}
+use Rattle.descent.specs.inner.Marking.{flow}
 use Rattle.descent.proofs.passing.flow.Given as goal
 
 abbrev pub invariant-loop-part : goal.invariant-loop-part

@@ -1,5 +1,5 @@
 use Rattle.std.proofs.Common.{◌≡◌, drop}
-use Rattle.descent.specs.Marking.{mark_all}
+use Rattle.descent.specs.inner.Marking.{mark_all}
 use Rattle.descent.proofs.passing.mark_all.Given as goal
 
 abbrev pub invariant-loop-rule : goal.invariant-loop-rule

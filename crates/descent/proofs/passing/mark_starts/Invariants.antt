@@ -1,5 +1,5 @@
 use Rattle.std.proofs.Common.{◌≡◌, drop}
-use Rattle.descent.specs.Marking.{mark_starts}
+use Rattle.descent.specs.inner.Marking.{mark_starts}
 use Rattle.descent.proofs.passing.mark_starts.Given as goal
 
 abbrev pub invariant-loop-number : goal.invariant-loop-number

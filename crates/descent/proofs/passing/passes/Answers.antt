@@ -1,5 +1,5 @@
 use Rattle.std.proofs.Common.{◌∙◌, ap, sym}
-use Rattle.descent.specs.Marking.{all_off}
+use Rattle.descent.specs.inner.Marking.{all_off}
 use Rattle.descent.proofs.Passed.{passes_told, done}
 use Rattle.descent.proofs.passing.passes.Goals as goal
 

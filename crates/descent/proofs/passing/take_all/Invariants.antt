@@ -1,5 +1,5 @@
 use Rattle.std.proofs.Common.{◌≡◌, drop}
-use Rattle.descent.specs.Marking.{take_all}
+use Rattle.descent.specs.inner.Marking.{take_all}
 use Rattle.descent.proofs.passing.take_all.Given as goal
 
 abbrev pub invariant-loop-part : goal.invariant-loop-part

@@ -1,5 +1,5 @@
 use Rattle.std.proofs.Common.{◌≡◌, drop}
-use Rattle.descent.specs.Marking.{take_part}
+use Rattle.descent.specs.inner.Marking.{take_part}
 use Rattle.descent.proofs.passing.take_part.Given as goal
 
 abbrev pub invariant-loop-rule : goal.invariant-loop-rule

@@ -2,7 +2,7 @@ use Rattle.std.proofs.Common.{◌≡◌, ◌∙◌, arith, FitsSigned, to_z, of_
 use Rattle.std.specs.Int.{w64}
 use Rattle.lin_core.specs.Sums.{variables}
 use Rattle.lin_core.specs.Weights.{weight_in}
-use Rattle.descent.specs.Shown.{slot_fits}
+use Rattle.descent.specs.lemmas.Shown.{slot_fits}
 use Rattle.descent.proofs.Adding.{adding_room, adding_last, adding_slot_more, adding_none_more}
 use Rattle.descent.proofs.ranking.add_entries.Goals as goal
 use Rattle.descent.proofs.ranking.add_entries.Goals.{in-Some, in_default}

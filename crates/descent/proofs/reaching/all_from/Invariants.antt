@@ -1,5 +1,5 @@
 use Rattle.std.proofs.Common.{◌≡◌, ◌++◌, drop}
-use Rattle.descent.specs.Spreading.{all_from}
+use Rattle.descent.specs.inner.Spreading.{all_from}
 use Rattle.descent.proofs.reaching.all_from.Given as goal
 
 abbrev pub invariant-loop-n : goal.invariant-loop-n

@@ -1,5 +1,5 @@
 use Rattle.std.proofs.Common.{◌≡◌, drop}
-use Rattle.descent.specs.Spreading.{first_from}
+use Rattle.descent.specs.inner.Spreading.{first_from}
 use Rattle.descent.proofs.reaching.first_from.Given as goal
 
 abbrev pub invariant-loop-n : goal.invariant-loop-n

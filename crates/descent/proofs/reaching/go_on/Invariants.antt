@@ -1,5 +1,5 @@
 use Rattle.std.proofs.Common.{◌≡◌, drop}
-use Rattle.descent.specs.Spreading.{spread}
+use Rattle.descent.specs.inner.Spreading.{spread}
 use Rattle.descent.proofs.reaching.go_on.Given as goal
 
 abbrev pub invariant-loop-rule : goal.invariant-loop-rule

@@ -1,5 +1,5 @@
 use Rattle.std.proofs.Common.{◌≡◌, ◌++◌, drop}
-use Rattle.descent.specs.Spreading.{groups_of}
+use Rattle.descent.specs.inner.Spreading.{groups_of}
 use Rattle.descent.proofs.reaching.groups_of.Given as goal
 
 abbrev pub invariant-loop-n : goal.invariant-loop-n

@@ -1,5 +1,5 @@
 use Rattle.std.proofs.Common.{◌≡◌, ◌++◌, drop}
-use Rattle.descent.specs.Spreading.{next_of}
+use Rattle.descent.specs.inner.Spreading.{next_of}
 use Rattle.descent.proofs.reaching.next_of.Given as goal
 
 abbrev pub invariant-loop-rule : goal.invariant-loop-rule

@@ -1,5 +1,5 @@
 use Rattle.std.proofs.Common.{◌≡◌, ◌++◌, drop}
-use Rattle.descent.specs.Placed.{placed_of}
+use Rattle.descent.specs.inner.Placed.{placed_of}
 use Rattle.descent.proofs.sets.placed.Given as goal
 
 abbrev pub invariant-loop-rule : goal.invariant-loop-rule

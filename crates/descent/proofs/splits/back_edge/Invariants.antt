@@ -1,5 +1,5 @@
 use Rattle.std.proofs.Common.{◌≡◌, drop}
-use Rattle.descent.specs.Placed.{back_among}
+use Rattle.descent.specs.inner.Placed.{back_among}
 use Rattle.descent.proofs.splits.back_edge.Given as goal
 
 abbrev pub invariant-loop-rule : goal.invariant-loop-rule

@@ -1,5 +1,5 @@
 use Rattle.std.proofs.Common.{◌≡◌, drop}
-use Rattle.descent.specs.Placed.{loop_among}
+use Rattle.descent.specs.inner.Placed.{loop_among}
 use Rattle.descent.proofs.splits.first_loop.Given as goal
 
 abbrev pub invariant-loop-rule : goal.invariant-loop-rule

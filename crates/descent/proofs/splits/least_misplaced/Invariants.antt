@@ -1,6 +1,6 @@
 use Rattle.std.proofs.Common.{◌≡◌, drop}
 use Rattle.std.specs.Prelude.{filter}
-use Rattle.descent.specs.Placed.{lesser}
+use Rattle.descent.specs.inner.Placed.{lesser}
 use Rattle.descent.specs.Splits.{is_misplaced, least}
 use Rattle.descent.proofs.splits.least_misplaced.Given as goal
 

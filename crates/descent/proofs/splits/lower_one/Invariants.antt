@@ -1,5 +1,5 @@
 use Rattle.std.proofs.Common.{◌≡◌, drop}
-use Rattle.descent.specs.Placed.{lower_among}
+use Rattle.descent.specs.inner.Placed.{lower_among}
 use Rattle.descent.proofs.splits.lower_one.Given as goal
 
 abbrev pub invariant-loop-next : goal.invariant-loop-next

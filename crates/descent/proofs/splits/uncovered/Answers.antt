@@ -1,7 +1,7 @@
 use Rattle.std.proofs.Common.{sym, ap, ◌∙◌}
 use Rattle.std.specs.Prelude.{filter}
 use Rattle.std.specs.List.{concat}
-use Rattle.descent.specs.Placed.{lesser}
+use Rattle.descent.specs.inner.Placed.{lesser}
 use Rattle.descent.specs.Splits.{is_misplaced, least}
 use Rattle.descent.proofs.Placing.{least_filter, part_more}
 use Rattle.descent.proofs.splits.uncovered.Goals as goal

@@ -2,7 +2,7 @@ use Rattle.std.proofs.Common.{◌≡◌, ◌≤◌, length, Some, slice_get, Lis
 use Rattle.term_graph.specs.declared.nodes.By.TheVariants.{Expand}
 use Rattle.term_graph.specs.Graphs.{GraphPart}
 use Rattle.filled_graphs.specs.Filling.{ways_of}
-use Rattle.filled_graphs.specs.Origins.{AreNoted}
+use Rattle.filled_graphs.specs.inner.Noting.{AreNoted}
 use Rattle.filled_graphs.proofs.origins.note_all.Given as goal
 
 abbrev pub invariant-loop-place : goal.invariant-loop-place

@@ -1,4 +1,4 @@
-use Rattle.filled_graphs.specs.Origins.{AreNoted}
+use Rattle.filled_graphs.specs.inner.Noting.{AreNoted}
 use Rattle.filled_graphs.proofs.origins.origins_of.Given as goal
 
 abbrev pub invariant-loop-number : goal.invariant-loop-number

@@ -1,5 +1,5 @@
 use Rattle.std.proofs.Common.{◌<◌, ◌+◌, ◌∙◌, ℕ, length, refl, sym, ap, subst, arith}
-use Rattle.filled_nodes.specs.Holding.{IsFull}
+use Rattle.filled_nodes.specs.inner.Slots.{IsFull}
 use Rattle.filled_nodes.proofs.Putting.{slot_in, looked_at, same_count}
 use Rattle.filled_nodes.proofs.filled.know_all.Goals as goal
 

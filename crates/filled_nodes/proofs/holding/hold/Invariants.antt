@@ -1,5 +1,6 @@
 use Rattle.std.proofs.Common.{length}
-use Rattle.filled_nodes.specs.Holding.{IsFull, AreKept, Leads}
+use Rattle.filled_nodes.specs.inner.Slots.{IsFull, Leads}
+use Rattle.filled_nodes.specs.Holding.{AreKept}
 use Rattle.filled_nodes.proofs.holding.hold.Given as goal
 
 abbrev pub invariant-loop-next : goal.invariant-loop-next

@@ -1,5 +1,6 @@
 use Rattle.std.proofs.Common.{◌≡◌, ◌<◌, ℕ, Some, slice_get}
-use Rattle.filled_nodes.specs.Holding.{IsFull, AreKept, IsNamedBy}
+use Rattle.filled_nodes.specs.inner.Slots.{IsFull, IsNamedBy}
+use Rattle.filled_nodes.specs.Holding.{AreKept}
 use Rattle.filled_nodes.proofs.holding.put_children.Given as goal
 
 abbrev pub invariant-loop-place : goal.invariant-loop-place

@@ -1,5 +1,6 @@
 use Rattle.std.proofs.Common.{◌<◌, length}
-use Rattle.filled_nodes.specs.Holding.{AreKept, Leads, IsFullOrNamed}
+use Rattle.filled_nodes.specs.Holding.{AreKept}
+use Rattle.filled_nodes.specs.inner.Slots.{Leads, IsFullOrNamed}
 use Rattle.filled_nodes.proofs.holding.way_up.Given as goal
 
 abbrev pub invariant-loop-above : goal.invariant-loop-above

@@ -1,4 +1,4 @@
-use Rattle.filled_nodes.specs.Holding.{AreEmpty}
+use Rattle.filled_nodes.specs.inner.Slots.{AreEmpty}
 use Rattle.filled_nodes.proofs.slots.empty_slots.Given as goal
 
 abbrev pub invariant-loop : goal.invariant-loop

@@ -1,6 +1,6 @@
 use Rattle.std.proofs.Common.{◌≡◌, ◌≤◌, ◌<◌, ◌∙◌, length, subst, ap, refl, sym, arith}
 use Rattle.graph_build.specs.Answers.{PassesLimit, HasLarge}
-use Rattle.graph_build.specs.Working.{Work, seen, parent_in, IsSound, IsNextOpen, MayGrow, work_left}
+use Rattle.graph_build.specs.inner.Working.{Work, seen, parent_in, IsSound, IsNextOpen, MayGrow, work_left}
 use Rattle.graph_build.proofs.Starting.{root_is_sound}
 use Rattle.graph_build.proofs.Turning.{some_left, none_left, all_closed, first_within, first_is, next_open, stopped, has_room}
 use Rattle.graph_build.proofs.Turning.{grown_sound, grown_few, less_work}

@@ -1,5 +1,5 @@
 use Rattle.std.proofs.Common.{◌≡◌, ◌≤◌, length}
-use Rattle.graph_build.specs.Working.{seen, IsSound, work_left}
+use Rattle.graph_build.specs.inner.Working.{seen, IsSound, work_left}
 use Rattle.graph_build.proofs.building.build.Given as goal
 
 abbrev pub invariant-loop-alloc : goal.invariant-loop-alloc

@@ -1,5 +1,5 @@
 use Rattle.std.proofs.Common.{◌∙◌, sym, subst, arith, Option, List, ℕ}
-use Rattle.graph_build.specs.Working.{NodeMatches}
+use Rattle.graph_build.specs.inner.Working.{NodeMatches}
 use Rattle.graph_build.proofs.Climbing.{is_found, one_passed, all_passed}
 use Rattle.graph_build.proofs.due.first_found.Goals as goal
 

@@ -1,5 +1,5 @@
 use Rattle.std.proofs.Common.{◌≡◌, ℕ, ◌<◌}
-use Rattle.graph_build.specs.Working.{IsPassed}
+use Rattle.graph_build.specs.inner.Working.{IsPassed}
 use Rattle.graph_build.proofs.due.first_found.Given as goal
 
 abbrev pub invariant-loop-u : goal.invariant-loop-u

@@ -1,6 +1,6 @@
 use Rattle.std.proofs.Common.{◌∙◌, inl, inr, refl, sym, arith}
 use Rattle.std.proofs.lemmas.Bool.{false≢true}
-use Rattle.graph_build.specs.Working.{parent_in}
+use Rattle.graph_build.specs.inner.Working.{parent_in}
 use Rattle.graph_build.proofs.Climbing.{above_zero, next_above, is_nearest, next_passed}
 use Rattle.graph_build.proofs.due.nearest_above.Goals as goal
 

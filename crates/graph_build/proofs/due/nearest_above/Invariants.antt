@@ -1,6 +1,6 @@
 use Rattle.std.proofs.Common.{ℕ, ◌<◌, length}
 use Rattle.graph_build.specs.Disciplined.{IsAbove, IsAtOrAbove}
-use Rattle.graph_build.specs.Working.{parent_in, IsAlike}
+use Rattle.graph_build.specs.inner.Working.{parent_in, IsAlike}
 use Rattle.graph_build.proofs.due.nearest_above.Given as goal
 
 abbrev pub invariant-loop-at : goal.invariant-loop-at

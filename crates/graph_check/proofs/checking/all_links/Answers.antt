@@ -6,7 +6,7 @@ use Rattle.term_graph.specs.declared.links.Link.{Link}
 use Rattle.term_graph.specs.Graphs.{GraphNode}
 use Rattle.graph_check.specs.declared.fault.CheckFault.{CheckFault}
 use Rattle.graph_check.specs.Good.{IsGoodNode}
-use Rattle.graph_check.specs.Checked.{NodeLeavesOr, GoodNodesOr}
+use Rattle.graph_check.specs.inner.Checked.{NodeLeavesOr, GoodNodesOr}
 use Rattle.graph_check.proofs.Answering.{one_more_good, first_bad}
 use Rattle.graph_check.proofs.checking.all_links.Goals as goal
 

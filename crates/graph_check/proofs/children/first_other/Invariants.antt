@@ -1,5 +1,5 @@
 use Rattle.std.proofs.Common.{◌≡◌}
-use Rattle.graph_check.specs.Checked.{FirstNamed}
+use Rattle.graph_check.specs.inner.Checked.{FirstNamed}
 use Rattle.graph_check.proofs.children.first_other.Given as goal
 
 abbrev pub invariant-loop-place : goal.invariant-loop-place

@@ -2,7 +2,7 @@ use Rattle.std.proofs.Common.{ℕ, List, sym, subst}
 use Rattle.class_program.specs.Views.{program_of}
 use Rattle.code_verify.specs.Typings.{typing_at}
 use Rattle.term_graph.specs.declared.nodes.By.{By}
-use Rattle.graph_check.specs.Checked.{MatchesOr, LeavesOr}
+use Rattle.graph_check.specs.inner.Checked.{MatchesOr, LeavesOr}
 use Rattle.graph_check.proofs.Answering.{matched_or}
 use Rattle.graph_check.proofs.leaving.left_good.Goals as goal
 

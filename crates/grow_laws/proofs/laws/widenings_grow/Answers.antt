@@ -1,4 +1,4 @@
-use Rattle.class_world.specs.WorldLaws.{world_laws}
+use Rattle.class_world.specs.lemmas.WorldLaws.{world_laws}
 use Rattle.class_world.specs.WorldTypes.{types_of}
 use Rattle.abs_widen.specs.Widening.{without_pairs}
 use Rattle.place_sorts.proofs.Waiting.{at_calls}

@@ -1,5 +1,5 @@
 use Rattle.std.proofs.Common.{None}
-use Rattle.its_search.specs.Tried.{Tells}
+use Rattle.its_search.specs.inner.Tried.{Tells}
 use Rattle.its_search.proofs.Trying.{BeginsBelow}
 use Rattle.its_search.proofs.plain_forms.plain_form.Given as goal
 

@@ -1,5 +1,5 @@
 use Rattle.std.proofs.Common.{◌≡◌, drop}
-use Rattle.its_search.specs.Following.{bound_from}
+use Rattle.its_search.specs.inner.Following.{bound_from}
 use Rattle.its_search.proofs.ranking.bound_of.Given as goal
 
 abbrev pub invariant-loop-n : goal.invariant-loop-n

@@ -1,5 +1,5 @@
 use Rattle.std.proofs.Common.{◌≡◌, drop}
-use Rattle.its_search.specs.Following.{follow_each}
+use Rattle.its_search.specs.inner.Following.{follow_each}
 use Rattle.its_search.proofs.Plain.{behind}
 use Rattle.its_search.proofs.ranking.follow_all.Given as goal
 

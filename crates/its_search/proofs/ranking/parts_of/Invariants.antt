@@ -1,5 +1,5 @@
 use Rattle.std.proofs.Common.{◌≡◌, map, take}
-use Rattle.its_search.specs.Following.{part_of}
+use Rattle.its_search.specs.inner.Following.{part_of}
 use Rattle.its_search.proofs.ranking.parts_of.Given as goal
 
 abbrev pub invariant-loop-term : goal.invariant-loop-term

@@ -1,5 +1,5 @@
 use Rattle.std.proofs.Common.{◌≡◌, drop}
-use Rattle.its_search.specs.Following.{reasons_of}
+use Rattle.its_search.specs.inner.Following.{reasons_of}
 use Rattle.its_search.proofs.Plain.{behind}
 use Rattle.its_search.proofs.ranking.reasons_of.Given as goal
 

@@ -1,9 +1,9 @@
 use Rattle.std.proofs.Common.{◌∙◌, ◌+◌, ℕ, List, Option, Some, None, subst, sym, arith}
 use Rattle.descent.specs.declared.rules.PathRule.{PathRule}
 use Rattle.term_graph.specs.Graphs.{GraphNode}
-use Rattle.path_rules.specs.Ways.{paths_of}
-use Rattle.path_rules.specs.Building.{IsRuleOfNumber}
-use Rattle.path_rules.specs.Sizing.{sized_graph}
+use Rattle.path_rules.specs.inner.Ways.{paths_of}
+use Rattle.path_rules.specs.inner.Building.{IsRuleOfNumber}
+use Rattle.path_rules.specs.inner.Sizing.{sized_graph}
 use Rattle.path_rules.proofs.Ruling.{AreSoFar, one_more, one_too_long, all_too_long}
 use Rattle.path_rules.proofs.answers.rules_of.Goals as goal
 

@@ -1,5 +1,5 @@
 use Rattle.std.proofs.Common.{◌≡◌}
-use Rattle.path_rules.specs.Ways.{paths_of}
+use Rattle.path_rules.specs.inner.Ways.{paths_of}
 use Rattle.path_rules.proofs.Ruling.{AreSoFar}
 use Rattle.path_rules.proofs.answers.rules_of.Given as goal
 

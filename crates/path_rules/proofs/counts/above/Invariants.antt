@@ -1,5 +1,5 @@
 use Rattle.std.proofs.Common.{◌≡◌, drop}
-use Rattle.path_rules.specs.Ways.{most_of}
+use Rattle.path_rules.specs.Successors.{most_of}
 use Rattle.path_rules.proofs.counts.above.Given as goal
 
 abbrev pub invariant-loop-rank : goal.invariant-loop-rank

@@ -1,5 +1,5 @@
 use Rattle.std.proofs.Common.{◌≡◌, drop}
-use Rattle.path_rules.specs.Ways.{counted_on, count_over}
+use Rattle.path_rules.specs.inner.Ways.{counted_on, count_over}
 use Rattle.path_rules.proofs.counts.count_row.Given as goal
 
 abbrev pub invariant-loop-to : goal.invariant-loop-to

@@ -1,5 +1,5 @@
 use Rattle.std.proofs.Common.{◌∙◌, List, ℕ, ap, sym, map, arith, refl}
-use Rattle.path_rules.specs.Ways.{count_row}
+use Rattle.path_rules.specs.inner.Ways.{count_row}
 use Rattle.path_rules.proofs.Counted.{one_round, settled, enough}
 use Rattle.path_rules.proofs.counts.counts.Goals as goal
 

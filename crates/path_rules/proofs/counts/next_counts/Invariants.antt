@@ -1,5 +1,5 @@
 use Rattle.std.proofs.Common.{◌≡◌, map, take}
-use Rattle.path_rules.specs.Ways.{count_row}
+use Rattle.path_rules.specs.inner.Ways.{count_row}
 use Rattle.path_rules.proofs.counts.next_counts.Given as goal
 
 abbrev pub invariant-loop-row : goal.invariant-loop-row

@@ -3,7 +3,7 @@ use Rattle.std.specs.List.{flat_map}
 use Rattle.abs_reach.specs.Instances.{image_in}
 use Rattle.term_graph.specs.Edges.{is_size_variable}
 use Rattle.path_rules.specs.Rules.{variable_of}
-use Rattle.path_rules.specs.Sizing.{rows_of_image}
+use Rattle.path_rules.specs.inner.Sizing.{rows_of_image}
 use Rattle.path_rules.proofs.Finding.{ids_in_cells}
 use Rattle.path_rules.proofs.legs.push_image_sizes.Given as goal
 

@@ -3,7 +3,7 @@ use Rattle.std.specs.List.{flat_map}
 use Rattle.abs_cells.specs.Cells.{is_int}
 use Rattle.abs_reach.specs.Instances.{image_in}
 use Rattle.path_rules.specs.Rules.{image_row, variable_of}
-use Rattle.path_rules.specs.Sizing.{sized}
+use Rattle.path_rules.specs.inner.Sizing.{sized}
 use Rattle.path_rules.proofs.Finding.{ids_in_cells}
 use Rattle.path_rules.proofs.legs.push_images.Given as goal
 

@@ -1,7 +1,7 @@
 use Rattle.std.proofs.Common.{◌≡◌, ◌++◌, map, drop}
 use Rattle.abs_cells.specs.Cells.{is_int}
 use Rattle.path_rules.specs.Rules.{int_slot}
-use Rattle.path_rules.specs.Sizing.{sized}
+use Rattle.path_rules.specs.inner.Sizing.{sized}
 use Rattle.path_rules.proofs.Finding.{ids_in_cells}
 use Rattle.path_rules.proofs.slots.push_int_slots.Given as goal
 

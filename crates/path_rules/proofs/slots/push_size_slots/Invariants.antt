@@ -1,6 +1,7 @@
 use Rattle.std.proofs.Common.{◌≡◌, ◌++◌, map, drop}
 use Rattle.path_rules.specs.Rules.{size_slot}
-use Rattle.path_rules.specs.Sizing.{size_at, sized, sizes_in}
+use Rattle.path_rules.specs.Sizing.{size_at}
+use Rattle.path_rules.specs.inner.Sizing.{sized, sizes_in}
 use Rattle.path_rules.proofs.slots.push_size_slots.Given as goal
 
 abbrev pub invariant-loop-id : goal.invariant-loop-id

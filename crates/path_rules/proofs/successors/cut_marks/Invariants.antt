@@ -1,7 +1,7 @@
 use Rattle.std.proofs.Common.{◌≡◌, ℕ, length, drop}
 use Rattle.std.specs.Prelude.{◌||◌}
 use Rattle.path_rules.specs.Paths.{is_cut}
-use Rattle.path_rules.specs.Ways.{has_mark}
+use Rattle.path_rules.specs.Successors.{has_mark}
 use Rattle.path_rules.proofs.successors.cut_marks.Given as goal
 
 abbrev pub invariant-loop-cut : goal.invariant-loop-cut

@@ -1,5 +1,5 @@
 use Rattle.std.proofs.Common.{◌≡◌, map, take}
-use Rattle.path_rules.specs.Ways.{inner_row}
+use Rattle.path_rules.specs.Successors.{inner_row}
 use Rattle.path_rules.proofs.successors.inner_lists.Given as goal
 
 abbrev pub invariant-loop-row : goal.invariant-loop-row

@@ -1,5 +1,5 @@
 use Rattle.std.proofs.Common.{◌≡◌, ◌++◌, drop}
-use Rattle.path_rules.specs.Ways.{inner_row}
+use Rattle.path_rules.specs.Successors.{inner_row}
 use Rattle.path_rules.proofs.successors.inner_row.Given as goal
 
 abbrev pub invariant-loop-to : goal.invariant-loop-to

@@ -1,5 +1,5 @@
 use Rattle.std.proofs.Common.{◌≡◌, take}
-use Rattle.path_rules.specs.Ways.{lists_of}
+use Rattle.path_rules.specs.Successors.{lists_of}
 use Rattle.path_rules.proofs.successors.successor_lists.Given as goal
 
 abbrev pub invariant-loop-n : goal.invariant-loop-n

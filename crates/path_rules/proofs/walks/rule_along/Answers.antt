@@ -1,6 +1,6 @@
 use Rattle.std.proofs.Common.{rules, ◌∙◌, ℕ, get_or, ap, subst, sym, refl}
 use Rattle.path_rules.specs.Rules.{slots_of}
-use Rattle.path_rules.specs.Sizing.{sized}
+use Rattle.path_rules.specs.inner.Sizing.{sized}
 use Rattle.path_rules.proofs.Riding.{IsOnPath, moved, path_begins, path_steps_by, gone_moved, path_done, too_long}
 use Rattle.path_rules.proofs.walks.rule_along.Goals as goal
 

@@ -1,5 +1,5 @@
 use Rattle.std.proofs.Common.{◌≡◌, drop, get_or}
-use Rattle.path_rules.specs.Ways.{picked}
+use Rattle.path_rules.specs.inner.Ways.{picked}
 use Rattle.path_rules.proofs.ways.picked_cut.Given as goal
 
 abbrev pub invariant-loop-place : goal.invariant-loop-place

@@ -1,5 +1,5 @@
 use Rattle.std.proofs.Common.{◌≡◌, drop}
-use Rattle.path_rules.specs.Ways.{picked, count_over}
+use Rattle.path_rules.specs.inner.Ways.{picked, count_over}
 use Rattle.path_rules.proofs.ways.picked_edge.Given as goal
 
 abbrev pub invariant-loop-place : goal.invariant-loop-place

@@ -1,5 +1,5 @@
 use Rattle.std.proofs.Common.{◌≡◌, drop, get_or}
-use Rattle.path_rules.specs.Ways.{counted_on}
+use Rattle.path_rules.specs.inner.Ways.{counted_on}
 use Rattle.path_rules.proofs.ways.total.Given as goal
 
 abbrev pub invariant-loop-cut : goal.invariant-loop-cut

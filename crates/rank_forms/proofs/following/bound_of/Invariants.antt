@@ -1,5 +1,5 @@
 use Rattle.std.proofs.Common.{◌≡◌, drop}
-use Rattle.rank_forms.specs.Following.{bound_from}
+use Rattle.rank_forms.specs.inner.Following.{bound_from}
 use Rattle.rank_forms.proofs.following.bound_of.Given as goal
 
 abbrev pub invariant-loop-n : goal.invariant-loop-n

@@ -1,5 +1,5 @@
 use Rattle.std.proofs.Common.{◌≡◌, ◌++◌, drop}
-use Rattle.rank_forms.specs.Following.{step_entries}
+use Rattle.rank_forms.specs.inner.Following.{step_entries}
 use Rattle.rank_forms.proofs.following.step_entries.Given as goal
 
 abbrev pub invariant-loop-tie : goal.invariant-loop-tie

@@ -1,5 +1,5 @@
 use Rattle.std.proofs.Common.{◌≡◌, drop, None}
-use Rattle.rank_forms.specs.Forms.{next_from}
+use Rattle.rank_forms.specs.inner.Forms.{next_from}
 use Rattle.rank_forms.proofs.forms.next_cut.Given as goal
 
 abbrev pub invariant-loop-rule : goal.invariant-loop-rule

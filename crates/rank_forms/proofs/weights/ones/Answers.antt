@@ -1,6 +1,7 @@
 use Rattle.std.proofs.Common.{◌≡◌, ◌∙◌, ap}
 use Rattle.lin_core.specs.Rows.{Rise}
-use Rattle.rank_forms.specs.Weighing.{AreOnes, ones_from}
+use Rattle.rank_forms.specs.Weighing.{AreOnes}
+use Rattle.rank_forms.specs.inner.Weighing.{ones_from}
 use Rattle.rank_forms.proofs.Weighed.{are_ones, if_ok_both}
 use Rattle.rank_forms.proofs.weights.ones.Goals as goal
 

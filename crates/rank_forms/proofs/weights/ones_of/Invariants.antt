@@ -1,6 +1,6 @@
 use Rattle.std.proofs.Common.{◌≡◌, ◌++◌, ◌≤◌, drop}
 use Rattle.lin_core.specs.Rows.{RiseFrom}
-use Rattle.rank_forms.specs.Weighing.{ones_from}
+use Rattle.rank_forms.specs.inner.Weighing.{ones_from}
 use Rattle.rank_forms.proofs.weights.ones_of.Given as goal
 
 abbrev pub invariant-loop-class : goal.invariant-loop-class

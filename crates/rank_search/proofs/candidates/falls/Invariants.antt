@@ -1,5 +1,5 @@
 use Rattle.std.proofs.Common.{◌≡◌, drop}
-use Rattle.rank_search.specs.Candidates.{falls}
+use Rattle.rank_search.specs.inner.Candidates.{falls}
 use Rattle.rank_search.proofs.candidates.falls.Given as goal
 
 abbrev pub invariant-loop-changes : goal.invariant-loop-changes

@@ -1,5 +1,5 @@
 use Rattle.std.proofs.Common.{◌≡◌, drop}
-use Rattle.rank_search.specs.Candidates.{never_rises}
+use Rattle.rank_search.specs.inner.Candidates.{never_rises}
 use Rattle.rank_search.proofs.candidates.never_rises.Given as goal
 
 abbrev pub invariant-loop-changes : goal.invariant-loop-changes

@@ -1,4 +1,4 @@
-use Rattle.rank_search.specs.Candidates.{NoneOfPair}
+use Rattle.rank_search.specs.inner.Candidates.{NoneOfPair}
 use Rattle.rank_search.proofs.candidates.of_pair.Given as goal
 
 abbrev pub invariant-loop-n : goal.invariant-loop-n

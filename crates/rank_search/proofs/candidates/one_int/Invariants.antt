@@ -1,5 +1,5 @@
 use Rattle.std.proofs.Common.{◌≡◌, ℕ, ◌<◌, false, pos}
-use Rattle.rank_search.specs.Candidates.{ranks_by, multiple_of}
+use Rattle.rank_search.specs.inner.Candidates.{ranks_by, multiple_of}
 use Rattle.rank_search.proofs.candidates.one_int.Given as goal
 
 abbrev pub invariant-loop-one : goal.invariant-loop-one

@@ -1,5 +1,5 @@
 use Rattle.std.proofs.Common.{ℕ}
-use Rattle.rank_search.specs.Candidates.{NoneWithOne}
+use Rattle.rank_search.specs.inner.Candidates.{NoneWithOne}
 use Rattle.rank_search.proofs.Pairs.{one_more}
 use Rattle.rank_search.proofs.candidates.sum_of_two.Goals as goal
 

@@ -1,4 +1,4 @@
-use Rattle.rank_search.specs.Candidates.{NoSum}
+use Rattle.rank_search.specs.inner.Candidates.{NoSum}
 use Rattle.rank_search.proofs.candidates.sum_of_two.Given as goal
 
 abbrev pub invariant-loop-one : goal.invariant-loop-one

@@ -1,5 +1,5 @@
 use Rattle.std.proofs.Common.{ℕ}
-use Rattle.rank_search.specs.Candidates.{NoneOfPair}
+use Rattle.rank_search.specs.inner.Candidates.{NoneOfPair}
 use Rattle.rank_search.proofs.Pairs.{one_more}
 use Rattle.rank_search.proofs.candidates.with_one.Goals as goal
 

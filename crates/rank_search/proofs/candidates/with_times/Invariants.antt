@@ -1,5 +1,5 @@
 use Rattle.std.proofs.Common.{◌≡◌, ℕ, ◌<◌, false}
-use Rattle.rank_search.specs.Candidates.{ranks_by, multiple_of}
+use Rattle.rank_search.specs.inner.Candidates.{ranks_by, multiple_of}
 use Rattle.rank_search.proofs.candidates.with_times.Given as goal
 
 abbrev pub invariant-loop-k : goal.invariant-loop-k

@@ -1,5 +1,5 @@
 use Rattle.std.proofs.Common.{◌≡◌, drop}
-use Rattle.rank_search.specs.Heads.{has_size}
+use Rattle.rank_search.specs.inner.Heads.{has_size}
 use Rattle.rank_search.proofs.graph_rules.has_size.Given as goal
 
 abbrev pub invariant-loop-term : goal.invariant-loop-term

@@ -1,5 +1,5 @@
 use Rattle.std.proofs.Common.{◌≡◌, drop}
-use Rattle.rank_search.specs.Heads.{is_size}
+use Rattle.rank_search.specs.inner.Heads.{is_size}
 use Rattle.rank_search.proofs.graph_rules.is_size.Given as goal
 
 abbrev pub invariant-loop-row : goal.invariant-loop-row

@@ -1,7 +1,7 @@
 use Rattle.std.proofs.Common.{ap, sym, ◌∙◌, false, List}
 use Rattle.descent.proofs.Classes.{if_ok_then}
 use Rattle.descent.specs.declared.rules.SlotForm.{SlotForm}
-use Rattle.rule_links.specs.Searching.{variable_at, TellsChange}
+use Rattle.rule_links.specs.Ties.{variable_at, TellsChange}
 use Rattle.rule_links.proofs.Changed.{change_told}
 use Rattle.rule_links.proofs.changes.change_at.Goals as goal
 

@@ -1,6 +1,6 @@
 use Rattle.std.proofs.Common.{None}
 use Rattle.std.proofs.lemmas.Option.{slice_get-get_or}
-use Rattle.rule_links.specs.Searching.{TellsChange}
+use Rattle.rule_links.specs.Ties.{TellsChange}
 use Rattle.rule_links.proofs.Told.{told_first, told_more, told_all}
 use Rattle.rule_links.proofs.changes.changes_at.Goals as goal
 

@@ -1,5 +1,5 @@
 use Rattle.std.proofs.Common.{None}
-use Rattle.rule_links.specs.Searching.{TellsChange}
+use Rattle.rule_links.specs.Ties.{TellsChange}
 use Rattle.rule_links.proofs.Told.{AreTold}
 use Rattle.rule_links.proofs.changes.changes_at.Given as goal
 

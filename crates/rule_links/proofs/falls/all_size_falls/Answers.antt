@@ -1,4 +1,4 @@
-use Rattle.rule_links.specs.Rising.{TellAll, TellsSize}
+use Rattle.rule_links.specs.Falls.{TellAll, TellsSize}
 use Rattle.rule_links.proofs.Falling.{sizes_told}
 use Rattle.rule_links.proofs.falls.all_size_falls.Goals as goal
 use Rattle.descent.proofs.Classes.{if_ok_then}

@@ -1,6 +1,6 @@
 use Rattle.std.proofs.Common.{None, true}
 use Rattle.std.proofs.lemmas.Option.{slice_get-get_or}
-use Rattle.rule_links.specs.Rising.{TellsSteps}
+use Rattle.rule_links.specs.Falls.{TellsSteps}
 use Rattle.rule_links.proofs.Told.{told_first, told_more, told_all}
 use Rattle.rule_links.proofs.Falling.{bounded_told}
 use Rattle.rule_links.proofs.falls.bounded_of.Goals as goal

@@ -1,5 +1,5 @@
 use Rattle.std.proofs.Common.{None, true}
-use Rattle.rule_links.specs.Rising.{TellsSteps}
+use Rattle.rule_links.specs.Falls.{TellsSteps}
 use Rattle.rule_links.proofs.Told.{AreTold}
 use Rattle.rule_links.proofs.falls.bounded_of.Given as goal
 

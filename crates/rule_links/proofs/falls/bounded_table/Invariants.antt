@@ -1,5 +1,5 @@
 use Rattle.std.proofs.Common.{[], true}
-use Rattle.rule_links.specs.Rising.{TellAll, TellsSteps}
+use Rattle.rule_links.specs.Falls.{TellAll, TellsSteps}
 use Rattle.rule_links.proofs.Told.{AreTold}
 use Rattle.rule_links.proofs.falls.bounded_table.Given as goal
 

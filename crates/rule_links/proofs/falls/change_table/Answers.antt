@@ -1,7 +1,7 @@
 use Rattle.std.proofs.Common.{refl, []}
 use Rattle.std.proofs.lemmas.Option.{slice_get_read}
-use Rattle.rule_links.specs.Rising.{TellAll}
-use Rattle.rule_links.specs.Searching.{TellsChange}
+use Rattle.rule_links.specs.Falls.{TellAll}
+use Rattle.rule_links.specs.Ties.{TellsChange}
 use Rattle.rule_links.proofs.Told.{told_first, told_more, told_all}
 use Rattle.rule_links.proofs.falls.change_table.Goals as goal
 

@@ -1,6 +1,6 @@
 use Rattle.std.proofs.Common.{[]}
-use Rattle.rule_links.specs.Rising.{TellAll}
-use Rattle.rule_links.specs.Searching.{TellsChange}
+use Rattle.rule_links.specs.Falls.{TellAll}
+use Rattle.rule_links.specs.Ties.{TellsChange}
 use Rattle.rule_links.proofs.Told.{AreTold}
 use Rattle.rule_links.proofs.falls.change_table.Given as goal
 

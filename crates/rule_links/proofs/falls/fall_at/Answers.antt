@@ -1,8 +1,8 @@
 use Rattle.std.proofs.Common.{ap, sym, ◌∙◌, List}
 use Rattle.descent.proofs.Classes.{if_ok_then}
 use Rattle.descent.specs.declared.rules.SlotForm.{SlotForm}
-use Rattle.rule_links.specs.Rising.{TellsWays}
-use Rattle.rule_links.specs.Searching.{variable_at}
+use Rattle.rule_links.specs.inner.Rising.{TellsWays}
+use Rattle.rule_links.specs.Ties.{variable_at}
 use Rattle.rule_links.proofs.Falling.{ways_told}
 use Rattle.rule_links.proofs.falls.fall_at.Goals as goal
 

@@ -1,6 +1,6 @@
 use Rattle.std.proofs.Common.{None}
 use Rattle.std.proofs.lemmas.Option.{slice_get-get_or}
-use Rattle.rule_links.specs.Rising.{TellsWays}
+use Rattle.rule_links.specs.inner.Rising.{TellsWays}
 use Rattle.rule_links.proofs.Told.{told_first, told_more, told_all}
 use Rattle.rule_links.proofs.falls.falls_at.Goals as goal
 

@@ -1,5 +1,5 @@
 use Rattle.std.proofs.Common.{None}
-use Rattle.rule_links.specs.Rising.{TellsWays}
+use Rattle.rule_links.specs.inner.Rising.{TellsWays}
 use Rattle.rule_links.proofs.Told.{AreTold}
 use Rattle.rule_links.proofs.falls.falls_at.Given as goal
 

@@ -1,7 +1,7 @@
 use Rattle.std.proofs.Common.{refl, subst, sym, []}
 use Rattle.std.proofs.lemmas.Option.{slice_get_read}
 use Rattle.descent.specs.Conditions.{IsRule}
-use Rattle.rule_links.specs.Rising.{TellAll, TellsSize}
+use Rattle.rule_links.specs.Falls.{TellAll, TellsSize}
 use Rattle.rule_links.proofs.Told.{told_first, told_more, told_all}
 use Rattle.rule_links.proofs.falls.size_table.Goals as goal
 

@@ -1,5 +1,5 @@
 use Rattle.std.proofs.Common.{[]}
-use Rattle.rule_links.specs.Rising.{TellAll, TellsSize}
+use Rattle.rule_links.specs.Falls.{TellAll, TellsSize}
 use Rattle.rule_links.proofs.Told.{AreTold}
 use Rattle.rule_links.proofs.falls.size_table.Given as goal
 

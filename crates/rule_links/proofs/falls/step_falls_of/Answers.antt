@@ -1,6 +1,6 @@
 use Rattle.std.proofs.Common.{false}
 use Rattle.descent.proofs.Classes.{if_ok_then}
-use Rattle.rule_links.specs.Rising.{TellAll, TellsSteps}
+use Rattle.rule_links.specs.Falls.{TellAll, TellsSteps}
 use Rattle.rule_links.proofs.Falling.{steps_told}
 use Rattle.rule_links.proofs.falls.step_falls_of.Goals as goal
 

@@ -1,6 +1,6 @@
 use Rattle.std.proofs.Common.{refl, [], false}
 use Rattle.std.proofs.lemmas.Option.{slice_get_read}
-use Rattle.rule_links.specs.Rising.{TellAll, TellsSteps}
+use Rattle.rule_links.specs.Falls.{TellAll, TellsSteps}
 use Rattle.rule_links.proofs.Told.{told_first, told_more, told_all}
 use Rattle.rule_links.proofs.falls.step_table.Goals as goal
 

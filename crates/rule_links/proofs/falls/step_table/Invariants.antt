@@ -1,5 +1,5 @@
 use Rattle.std.proofs.Common.{[], false}
-use Rattle.rule_links.specs.Rising.{TellAll, TellsSteps}
+use Rattle.rule_links.specs.Falls.{TellAll, TellsSteps}
 use Rattle.rule_links.proofs.Told.{AreTold}
 use Rattle.rule_links.proofs.falls.step_table.Given as goal
 

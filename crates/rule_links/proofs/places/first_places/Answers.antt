@@ -1,6 +1,6 @@
 use Rattle.std.proofs.Common.{◌≡◌, ◌∙◌, sym, ap}
 use Rattle.descent.proofs.Classes.{if_ok_then}
-use Rattle.rule_links.specs.Rising.{ArePlacesOf, places_at_start, places_in}
+use Rattle.rule_links.specs.Falls.{ArePlacesOf, places_at_start, places_in}
 use Rattle.rule_links.proofs.Placed.{first_places, starts_there}
 use Rattle.rule_links.proofs.places.first_places.Goals as goal
 

@@ -1,5 +1,5 @@
 use Rattle.std.proofs.Common.{◌≡◌, ◌++◌, drop}
-use Rattle.rule_links.specs.Rising.{places_in}
+use Rattle.rule_links.specs.Falls.{places_in}
 use Rattle.rule_links.proofs.places.places_in.Given as goal
 
 abbrev pub invariant-loop-slot : goal.invariant-loop-slot

@@ -1,6 +1,6 @@
 use Rattle.std.proofs.Common.{◌≡◌, drop}
 use Rattle.std.specs.Prelude.{◌||◌}
-use Rattle.rule_links.specs.Searching.{any_moves, relaxed}
+use Rattle.rule_links.specs.Ties.{any_moves, relaxed}
 use Rattle.rule_links.proofs.reaching.pass.Given as goal
 
 abbrev pub invariant-loop-tie : goal.invariant-loop-tie

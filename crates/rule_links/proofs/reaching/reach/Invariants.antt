@@ -1,5 +1,5 @@
 use Rattle.std.proofs.Common.{◌+◌, cond}
-use Rattle.rule_links.specs.Searching.{unknown}
+use Rattle.rule_links.specs.inner.Searching.{unknown}
 use Rattle.rule_links.proofs.Reached.{IsRelaxing}
 use Rattle.rule_links.proofs.reaching.reach.Given as goal
 

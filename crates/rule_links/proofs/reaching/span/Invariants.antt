@@ -1,6 +1,6 @@
 use Rattle.std.proofs.Common.{◌≡◌, ℕ, suc, ◌<◌, ◌≤◌, drop, get_or}
 use Rattle.rule_links.specs.declared.links.Tie.{Tie}
-use Rattle.rule_links.specs.Searching.{span_from}
+use Rattle.rule_links.specs.Ties.{span_from}
 use Rattle.rule_links.proofs.reaching.span.Given as goal
 
 abbrev pub invariant-loop-tie : goal.invariant-loop-tie

@@ -1,5 +1,5 @@
 use Rattle.std.proofs.Common.{◌≡◌, ◌++◌, drop}
-use Rattle.rule_links.specs.Rising.{given_ties}
+use Rattle.rule_links.specs.inner.Rising.{given_ties}
 use Rattle.rule_links.proofs.sizes.add_all_given.Given as goal
 
 abbrev pub invariant-loop-term : goal.invariant-loop-term

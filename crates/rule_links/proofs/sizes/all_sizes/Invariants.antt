@@ -1,5 +1,5 @@
 use Rattle.std.proofs.Common.{◌≡◌, ◌++◌, drop}
-use Rattle.rule_links.specs.Rising.{size_ties_from}
+use Rattle.rule_links.specs.inner.Rising.{size_ties_from}
 use Rattle.rule_links.proofs.sizes.all_sizes.Given as goal
 
 abbrev pub invariant-loop-n : goal.invariant-loop-n

@@ -1,5 +1,5 @@
 use Rattle.std.proofs.Common.{◌≡◌, drop}
-use Rattle.rule_links.specs.Rising.{gives}
+use Rattle.rule_links.specs.inner.Rising.{gives}
 use Rattle.rule_links.proofs.sizes.gives.Given as goal
 
 abbrev pub invariant-loop-term : goal.invariant-loop-term

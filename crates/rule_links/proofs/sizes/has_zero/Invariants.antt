@@ -1,5 +1,5 @@
 use Rattle.std.proofs.Common.{◌≡◌, drop}
-use Rattle.rule_links.specs.Rising.{has_zero}
+use Rattle.rule_links.specs.Falls.{has_zero}
 use Rattle.rule_links.proofs.sizes.has_zero.Given as goal
 
 abbrev pub invariant-loop-row : goal.invariant-loop-row

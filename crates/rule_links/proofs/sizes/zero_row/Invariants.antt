@@ -1,5 +1,5 @@
 use Rattle.std.proofs.Common.{◌≡◌, drop}
-use Rattle.rule_links.specs.Rising.{zero_from}
+use Rattle.rule_links.specs.Falls.{zero_from}
 use Rattle.rule_links.proofs.sizes.zero_row.Given as goal
 
 abbrev pub invariant-loop-n : goal.invariant-loop-n

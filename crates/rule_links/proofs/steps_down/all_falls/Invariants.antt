@@ -1,5 +1,5 @@
 use Rattle.std.proofs.Common.{◌≡◌, ◌++◌, drop}
-use Rattle.rule_links.specs.Rising.{fall_ties_from}
+use Rattle.rule_links.specs.inner.Rising.{fall_ties_from}
 use Rattle.rule_links.proofs.steps_down.all_falls.Given as goal
 
 abbrev pub invariant-loop-n : goal.invariant-loop-n

@@ -1,5 +1,5 @@
 use Rattle.std.proofs.Common.{◌≡◌, drop}
-use Rattle.rule_links.specs.Rising.{has_bound}
+use Rattle.rule_links.specs.Falls.{has_bound}
 use Rattle.rule_links.proofs.steps_down.has_bound.Given as goal
 
 abbrev pub invariant-loop-row : goal.invariant-loop-row

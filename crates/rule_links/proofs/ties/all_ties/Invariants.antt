@@ -1,5 +1,5 @@
 use Rattle.std.proofs.Common.{◌≡◌, ◌++◌, drop}
-use Rattle.rule_links.specs.Searching.{ties_from}
+use Rattle.rule_links.specs.Ties.{ties_from}
 use Rattle.rule_links.proofs.ties.all_ties.Given as goal
 
 abbrev pub invariant-loop-n : goal.invariant-loop-n

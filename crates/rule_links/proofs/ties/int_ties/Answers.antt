@@ -3,7 +3,7 @@ use Rattle.descent.proofs.Classes.{if_ok_then}
 use Rattle.rule_links.specs.declared.links.Link.{Link}
 use Rattle.rule_links.specs.declared.links.Tie.{Tie}
 use Rattle.rule_links.specs.Links.{IsIntLink}
-use Rattle.rule_links.specs.Searching.{InTies, Covers}
+use Rattle.rule_links.specs.Ties.{InTies, Covers}
 use Rattle.rule_links.proofs.Tied.{sound_is, complete_is}
 use Rattle.rule_links.proofs.ties.int_ties.Goals as goal
 

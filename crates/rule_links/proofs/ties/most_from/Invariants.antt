@@ -1,5 +1,5 @@
 use Rattle.std.proofs.Common.{◌≡◌, drop}
-use Rattle.rule_links.specs.Searching.{most_from}
+use Rattle.rule_links.specs.Ties.{most_from}
 use Rattle.rule_links.proofs.ties.most_from.Given as goal
 
 abbrev pub invariant-loop-n : goal.invariant-loop-n

@@ -1,5 +1,5 @@
 use Rattle.std.proofs.Common.{ap, sym, ◌∙◌, length}
-use Rattle.rule_links.specs.Searching.{last_of}
+use Rattle.rule_links.specs.Ties.{last_of}
 use Rattle.rule_links.proofs.Traced.{more_trail}
 use Rattle.rule_links.proofs.trails.trail.Goals as goal
 

@@ -1,5 +1,5 @@
 use Rattle.std.proofs.Common.{◌≡◌, ◌++◌, ◌-◌, length}
-use Rattle.rule_links.specs.Searching.{trail_from}
+use Rattle.rule_links.specs.Ties.{trail_from}
 use Rattle.rule_links.proofs.trails.trail.Given as goal
 
 abbrev pub invariant-loop-n : goal.invariant-loop-n

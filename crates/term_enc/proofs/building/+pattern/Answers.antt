@@ -1,6 +1,6 @@
 use Rattle.std.proofs.Common.{◌-◌, Some, Vec, Global, ap, ◌∙◌}
 use Rattle.term_enc.specs.declared.terms.PatternTerm.{PatternTerm}
-use Rattle.term_enc.specs.Counting.{pattern_in}
+use Rattle.term_enc.specs.inner.Counting.{pattern_in}
 use Rattle.term_enc.proofs.Built.{int_more, one_more, built_node}
 use Rattle.term_enc.proofs.building.+pattern.Goals as goal
 use Rattle.term_enc.proofs.building.+pattern.Goals.{in-Some-2+in_ok-push-in-Obj, in_default}

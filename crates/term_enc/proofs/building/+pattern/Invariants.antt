@@ -1,5 +1,5 @@
 use Rattle.std.proofs.Common.{◌-◌, drop}
-use Rattle.term_enc.specs.Counting.{pattern_in}
+use Rattle.term_enc.specs.inner.Counting.{pattern_in}
 use Rattle.term_enc.proofs.Built.{ArePassed}
 use Rattle.term_enc.proofs.building.+pattern.Given as goal
 

@@ -1,6 +1,6 @@
 use Rattle.std.proofs.Common.{◌+◌, Option, arith}
 use Rattle.term_enc.specs.declared.terms.PatternTerm.{PatternTerm}
-use Rattle.term_enc.specs.Counting.{IsAnswer, IsSmallAnswer}
+use Rattle.term_enc.specs.inner.Counting.{IsAnswer, IsSmallAnswer}
 use Rattle.term_enc.proofs.Shallow.{shallow}
 use Rattle.term_enc.proofs.Built.{weaker}
 use Rattle.term_enc.proofs.building.built.Goals as goal

@@ -1,5 +1,5 @@
 use Rattle.std.proofs.Common.{◌≡◌, Some, sym, ap, ◌∙◌}
-use Rattle.term_enc.specs.Counting.{one_less}
+use Rattle.term_enc.specs.inner.Counting.{one_less}
 use Rattle.term_enc.proofs.Counted.{all_left, none_left}
 use Rattle.term_enc.proofs.counting.+left_after.Goals as goal
 

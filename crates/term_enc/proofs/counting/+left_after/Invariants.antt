@@ -1,5 +1,5 @@
 use Rattle.std.proofs.Common.{◌≡◌, ◌-◌, drop}
-use Rattle.term_enc.specs.Counting.{left_after, left_after_all}
+use Rattle.term_enc.specs.inner.Counting.{left_after, left_after_all}
 use Rattle.term_enc.proofs.counting.+left_after.Given as goal
 
 abbrev pub decreases-left_after : goal.decreases-left_after

@@ -1,5 +1,5 @@
 use Rattle.std.proofs.Common.{◌≡◌, ◌+◌, ℕ, is_some, suc, ap, sym, ◌∙◌, arith}
-use Rattle.term_enc.specs.Counting.{left_after}
+use Rattle.term_enc.specs.inner.Counting.{left_after}
 use Rattle.term_enc.proofs.Shallow.{counted, counts}
 use Rattle.term_enc.proofs.counting.is_small.Goals as goal
 

@@ -3,7 +3,7 @@ use Rattle.std.specs.Prelude.{◌↔◌}
 use Rattle.abs_cells.specs.declared.cells.Cell.{Cell}
 use Rattle.abs_cells.specs.IdSets.{has_id}
 use Rattle.abs_reach.specs.declared.find.Names.TheVariants.{All}
-use Rattle.abs_reach.specs.Steps.{IsReachedInside}
+use Rattle.abs_reach.specs.inner.Steps.{IsReachedInside}
 use Rattle.abs_reach.proofs.Answering.{rising_of, all_named_of}
 use Rattle.abs_reach.proofs.marks.Marks.walk_names.Goals as goal
 

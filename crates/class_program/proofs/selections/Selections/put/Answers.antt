@@ -1,7 +1,7 @@
 use Rattle.std.proofs.Common.{cond, Some, ap, ◌∙◌}
 use Rattle.std.specs.Map.{lookup}
 use Rattle.class_program.specs.Reached.{same_method}
-use Rattle.class_program.specs.Rows.{Rows}
+use Rattle.class_program.specs.inner.Rows.{Rows}
 use Rattle.class_program.proofs.selections.Selections.put.Goals as goal
 
 pub returns : goal.returns

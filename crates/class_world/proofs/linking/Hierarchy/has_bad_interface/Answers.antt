@@ -1,7 +1,7 @@
 use Rattle.std.proofs.Common.{ℕ, Bool, not, ap, ◌∙◌}
 use Rattle.std.specs.List.{list_any}
 use Rattle.class_world.specs.World.{interfaces_of, is_interface_class}
-use Rattle.class_world.specs.Once.{interfaces_once}
+use Rattle.class_world.specs.inner.Once.{interfaces_once}
 use Rattle.class_world.proofs.Onces.{any_once}
 use Rattle.class_world.proofs.linking.Hierarchy.has_bad_interface.Goals as goal
 

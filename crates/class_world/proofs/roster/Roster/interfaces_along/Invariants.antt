@@ -1,7 +1,7 @@
 use Rattle.std.proofs.Common.{◌≡◌, ◌++◌, length}
 use Rattle.std.specs.Prelude.{reverse}
 use Rattle.std.specs.List.{flat_map}
-use Rattle.class_world.specs.Once.{interfaces_once}
+use Rattle.class_world.specs.inner.Once.{interfaces_once}
 use Rattle.class_world.specs.World.{line_of}
 use Rattle.class_world.proofs.roster.Roster.interfaces_along.Given as goal
 

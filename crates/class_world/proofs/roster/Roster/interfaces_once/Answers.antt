@@ -1,5 +1,5 @@
 use Rattle.std.proofs.Common.{length, ◌∙◌}
-use Rattle.class_world.specs.Once.{interfaces_once}
+use Rattle.class_world.specs.inner.Once.{interfaces_once}
 use Rattle.class_world.proofs.Indexes.{table_found, table_past, no_interfaces}
 use Rattle.class_world.proofs.roster.Roster.interfaces_once.Goals as goal
 

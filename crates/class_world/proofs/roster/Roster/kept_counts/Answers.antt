@@ -1,7 +1,7 @@
 use Rattle.std.proofs.Common.{◌+◌, arith, sym}
 use Rattle.std.specs.Prelude.{map}
 use Rattle.class_read.specs.View.{field_content}
-use Rattle.class_world.specs.Index.{kept_before}
+use Rattle.class_world.specs.inner.Index.{kept_before}
 use Rattle.class_world.proofs.Indexes.{kept_none, kept_step, kept_most, counts_first, counts_more}
 use Rattle.class_world.proofs.roster.Roster.kept_counts.Goals as goal
 

@@ -1,6 +1,6 @@
 use Rattle.std.proofs.Common.{◌≡◌, List, ap, subst}
 use Rattle.std.specs.Prelude.{IfOk}
-use Rattle.class_world.specs.Index.{Key}
+use Rattle.class_world.specs.inner.Index.{Key}
 use Rattle.class_world.proofs.Indexes.{methods_differ, methods_from}
 use Rattle.class_world.proofs.roster.Roster.method_names_of.Goals as goal
 

@@ -1,6 +1,6 @@
 use Rattle.std.proofs.Common.{◌≡◌, ◌++◌, length}
 use Rattle.std.specs.Prelude.{reverse}
-use Rattle.class_world.specs.Once.{interfaces_once}
+use Rattle.class_world.specs.inner.Once.{interfaces_once}
 use Rattle.class_world.proofs.roster.Roster.put_interfaces.Given as goal
 
 abbrev pub invariant-loop-interface : goal.invariant-loop-interface

@@ -1,5 +1,5 @@
 use Rattle.std.proofs.Common.{◌+◌, length}
-use Rattle.class_world.specs.Once.{interfaces_once}
+use Rattle.class_world.specs.inner.Once.{interfaces_once}
 use Rattle.class_world.proofs.Seeking.{left_from}
 use Rattle.class_world.proofs.Gathering.{Gathering}
 use Rattle.class_world.proofs.roster.Roster.sought_in.Given as goal

@@ -1,4 +1,4 @@
-use Rattle.class_world.specs.Once.{AreSought}
+use Rattle.class_world.specs.inner.Once.{AreSought}
 use Rattle.class_world.proofs.roster.Roster.sought_table.Given as goal
 
 abbrev pub invariant-loop-class : goal.invariant-loop-class

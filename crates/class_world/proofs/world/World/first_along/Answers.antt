@@ -1,7 +1,7 @@
 use Rattle.std.proofs.Common.{refl, ap, sym, ◌∙◌, length, arith}
 use Rattle.std.specs.Option.{option_map}
 use Rattle.class_world.specs.World.{super_of, line_of, line_from}
-use Rattle.class_world.specs.Seeking.{place_in}
+use Rattle.class_world.specs.inner.Seeking.{place_in}
 use Rattle.class_world.proofs.Chain.{with_class, found_by, starts, comes_to, stops, ends}
 use Rattle.class_world.proofs.world.World.first_along.Goals as goal
 

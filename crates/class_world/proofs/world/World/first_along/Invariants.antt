@@ -1,6 +1,6 @@
 use Rattle.std.proofs.Common.{◌-◌, length}
 use Rattle.class_world.specs.World.{super_of, line_from}
-use Rattle.class_world.specs.Seeking.{place_in}
+use Rattle.class_world.specs.inner.Seeking.{place_in}
 use Rattle.class_world.proofs.Chain.{with_class, first_by, Goes}
 use Rattle.class_world.proofs.world.World.first_along.Given as goal
 

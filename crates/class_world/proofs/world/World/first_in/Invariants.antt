@@ -1,7 +1,7 @@
 use Rattle.std.proofs.Common.{◌≡◌, drop}
 use Rattle.class_world.specs.declared.resolve.Wanted.TheVariants.{Method}
 use Rattle.class_world.specs.Resolve.{first_found}
-use Rattle.class_world.specs.Seeking.{place_in}
+use Rattle.class_world.specs.inner.Seeking.{place_in}
 use Rattle.class_world.proofs.world.World.first_in.Given as goal
 
 abbrev pub invariant-loop-interface : goal.invariant-loop-interface

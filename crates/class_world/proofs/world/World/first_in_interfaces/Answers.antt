@@ -1,6 +1,6 @@
 use Rattle.std.proofs.Common.{◌∙◌}
 use Rattle.class_world.specs.declared.resolve.Wanted.TheVariants.{Method}
-use Rattle.class_world.specs.Seeking.{place_in}
+use Rattle.class_world.specs.inner.Seeking.{place_in}
 use Rattle.class_world.proofs.world.World.first_in_interfaces.Goals as goal
 
 pub returns : goal.returns

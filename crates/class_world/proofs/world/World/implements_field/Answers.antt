@@ -1,7 +1,7 @@
 use Rattle.std.proofs.Common.{refl, ap, sym, ◌∙◌}
 use Rattle.std.specs.List.{list_any}
 use Rattle.class_world.specs.World.{interfaces_of}
-use Rattle.class_world.specs.Once.{interfaces_once}
+use Rattle.class_world.specs.inner.Once.{interfaces_once}
 use Rattle.class_world.specs.Hidden.{has_field_above, implements_field}
 use Rattle.class_world.proofs.HiddenFields.{any_at, any_past, interface_within}
 use Rattle.class_world.proofs.Onces.{any_once}

@@ -3,7 +3,7 @@ use Rattle.std.specs.Option.{option_map}
 use Rattle.class_world.specs.World.{line_of}
 use Rattle.class_world.specs.declared.resolve.Wanted.TheVariants.{Method}
 use Rattle.class_world.specs.Resolve.{first_found, method_ref, resolve_method, superinterfaces_of}
-use Rattle.class_world.specs.Seeking.{place_in}
+use Rattle.class_world.specs.inner.Seeking.{place_in}
 use Rattle.class_world.proofs.Seeking.{found_below, found_over}
 use Rattle.class_world.proofs.world.World.resolve_method.Goals as goal
 use Rattle.class_world.proofs.world.World.resolve_method.Goals.{in-Some, in-None}

@@ -1,5 +1,5 @@
 use Rattle.std.proofs.Common.{sym, subst}
-use Rattle.class_world.specs.Once.{IsSought}
+use Rattle.class_world.specs.inner.Once.{IsSought}
 use Rattle.class_world.proofs.Gathering.{row_found, row_past}
 use Rattle.class_world.proofs.world.World.sought_in.Goals as goal
 

@@ -1,5 +1,5 @@
 use Rattle.std.proofs.Common.{◌∙◌, ap, sym}
-use Rattle.descent.specs.Laws.{under_fall}
+use Rattle.descent.specs.lemmas.RankingLaws.{under_fall}
 use Rattle.descent.specs.Rankings.{Ranking, weigh_of, fall_of}
 use Rattle.descent.proofs.Adding.{need_told, shown_done, missing_done}
 use Rattle.descent.proofs.needs.Ranks.falls.Goals as goal

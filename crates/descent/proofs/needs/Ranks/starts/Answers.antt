@@ -1,5 +1,5 @@
 use Rattle.std.proofs.Common.{◌∙◌, ap, sym}
-use Rattle.descent.specs.Laws.{under_start}
+use Rattle.descent.specs.lemmas.RankingLaws.{under_start}
 use Rattle.descent.specs.Rankings.{Ranking, weigh_of, start_of}
 use Rattle.descent.proofs.Adding.{need_told, shown_done, missing_done}
 use Rattle.descent.proofs.needs.Ranks.starts.Goals as goal

@@ -1,6 +1,6 @@
 use Rattle.std.proofs.Common.{◌≡◌, ◌++◌, ◌∷◌, sym, ap, ◌∙◌}
 use Rattle.std.specs.Vec.Iter.{into_iter_items}
-use Rattle.graph_build.specs.Working.{seen}
+use Rattle.graph_build.specs.inner.Working.{seen}
 use Rattle.graph_build.proofs.Adding.{added_push, named_push, whole_push, has_room_for}
 use Rattle.graph_build.proofs.growth.Growing.add_all.Goals as goal
 

@@ -1,7 +1,7 @@
 use Rattle.std.proofs.Common.{◌≡◌, ◌++◌, length}
 use Rattle.std.specs.Vec.Iter.{into_iter_items}
 use Rattle.list_views.specs.Lists.{numbers_from}
-use Rattle.graph_build.specs.Working.{seen, with_all}
+use Rattle.graph_build.specs.inner.Working.{seen, with_all}
 use Rattle.graph_build.proofs.growth.Growing.add_all.Given as goal
 
 abbrev pub invariant-loop-state : goal.invariant-loop-state

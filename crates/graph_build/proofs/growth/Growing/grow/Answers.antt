@@ -1,4 +1,4 @@
-use Rattle.graph_build.specs.Working.{Work, seen}
+use Rattle.graph_build.specs.inner.Working.{Work, seen}
 use Rattle.graph_build.proofs.Adding.{kept_within}
 use Rattle.graph_build.proofs.growth.Growing.grow.Goals as goal
 

@@ -1,0 +1,3 @@
+-- Words of private calls.
+pub mod Casts
+pub mod TestsSeen

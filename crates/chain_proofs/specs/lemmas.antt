@@ -1,0 +1,2 @@
+-- Proofs that the impls of traits name.
+pub mod Few

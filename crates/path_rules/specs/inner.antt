@@ -1,0 +1,4 @@
+-- Words of private calls.
+pub mod Building
+pub mod Sizing
+pub mod Ways

@@ -1,0 +1,3 @@
+-- Words of private calls.
+pub mod Rising
+pub mod Searching
