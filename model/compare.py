@@ -22,6 +22,7 @@ import paths
 import proof
 import rank_steps
 import ranking
+import reports
 import search
 import simulate
 import states
@@ -225,15 +226,35 @@ def stepwise(fields):
     return 'Some' if ranked(rank_steps.step_stepwise(rules, *form), rules) else 'a step that is not taken'
 
 
-def check(fields):
+def given(fields):
+    """The program, its typings, the root, the filled nodes and the certificate."""
     text = json.loads(bytes.fromhex(fields[1]))
     program = program_of([text['class'], text['method'], text['desc']] + fields[2:])
     types = least_typings(program)
     nodes, read = paths.read_certificate(program.world, fields[0])
     if any(state is None for state, _ in nodes):
         nodes = certificates.fill(program, types, nodes)
-    root = certificates.initial_of(program, text)
+    return program, types, certificates.initial_of(program, text), nodes, read
+
+
+def check(fields):
+    program, types, root, nodes, read = given(fields)
     return certificates.check_cert(program, types, root, nodes, read['cuts'], read['proof'])
+
+
+def throws(fields):
+    program, types, root, nodes, read = given(fields)
+    said = certificates.check_cert(program, types, root, nodes, read['cuts'], read['proof'])
+    return reports.throws(program, nodes) if said == 'ACCEPTED' else said
+
+
+def bound(fields):
+    program, types, root, nodes, read = given(fields[1:])
+    said = certificates.check_cert(program, types, root, nodes, read['cuts'], read['proof'])
+    if said != 'ACCEPTED':
+        return said
+    text = json.loads(bytes.fromhex(fields[0]))
+    return reports.bound(program, nodes, paths.links_of(program, types, nodes), read['cuts'], read['proof'], text)
 
 
 def prove(fields):
@@ -288,6 +309,8 @@ TABLES = [
     ('check', check, is_refused),
     ('check-2-int', check, is_refused),
     ('check-2', check, is_refused),
+    ('throws', throws, is_refused),
+    ('bound', bound, is_refused),
     ('prove-int', prove, is_refused),
     ('prove', prove, is_refused),
 ]
