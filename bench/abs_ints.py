@@ -3,10 +3,10 @@
 
 usage: abs_ints.py [PROGRAM]
 
-PROGRAM is the program `value_tables`, which reads the calls and prints the cases: its processor time is what is measured.
-Without PROGRAM it is crates/value_tables/out/value_tables, which this proves and builds:
+PROGRAM is the program `class_tables`, which reads the calls and prints the cases: its processor time is what is measured.
+Without PROGRAM it is crates/class_tables/out/class_tables, which this proves and builds:
 
-    cd crates/value_tables && rt run <stdin >/dev/null
+    cd crates/class_tables && rt run <stdin >/dev/null
 """
 import pathlib
 import random
@@ -36,7 +36,7 @@ def seconds(program, text):
 
 
 def main():
-    program = pathlib.Path(sys.argv[1]) if len(sys.argv) == 2 else TOP / 'crates' / 'value_tables' / 'out' / 'value_tables'
+    program = pathlib.Path(sys.argv[1]) if len(sys.argv) == 2 else TOP / 'crates' / 'class_tables' / 'out' / 'class_tables'
     if len(sys.argv) > 2 or not program.is_file():
         sys.exit(__doc__.strip())
     choice = random.Random(1)

@@ -3,7 +3,7 @@
 
 usage: class_world.py [PROGRAM]
 
-PROGRAM is the built `program_tables`: it reads the classes, links them, closes the entry and prints how many methods are reached.
+PROGRAM is the built `class_tables`: it reads the classes, links them, closes the entry and prints how many methods are reached.
 The time of an empty input is taken off. The shapes:
 
 chain     so many classes in one chain, each of which overrides the method that the entry calls
@@ -124,4 +124,4 @@ def cases():
 
 
 if __name__ == '__main__':
-    print_times(__doc__, ['shape', 'size', 'bytes'], cases(), 'program_tables', memory=True)
+    print_times(__doc__, ['shape', 'size', 'bytes'], cases(), 'class_tables', memory=True)

@@ -3,7 +3,7 @@
 
 usage: descent.py [PROGRAM]
 
-PROGRAM is the built `proof_tables`. Rules and a proof are read (`read`), and read and checked (`proof`); the difference is what the
+PROGRAM is the built `state_tables`. Rules and a proof are read (`read`), and read and checked (`proof`); the difference is what the
 check takes. The rules have 200 rows each and go from one cut to itself, or from each cut to the next:
 
 - `ranks`: 48 rank steps, each of which lists all rules that are left and takes 10 of them away, one that takes all others away, and
@@ -63,4 +63,4 @@ def cases():
 
 
 if __name__ == '__main__':
-    print_times(__doc__, ['proof', 'count', 'table'], cases(), 'proof_tables')
+    print_times(__doc__, ['proof', 'count', 'table'], cases(), 'state_tables')

@@ -25,21 +25,17 @@ BUDGET = 240  # processor seconds for 1,000 lines
 TESTS_OF = {
     'table_cases': 'code_decode class_asm class_program code_verify descent abs_expand cert_form run_call',
     'json_cases': 'descent abs_expand cert_form',
-    'class_tables': 'code_forms code_decode class_read asm_lines asm_codes asm_pool class_asm',
+    'class_tables': 'abs_ints json_view jvm_heaps code_forms code_decode class_read asm_lines asm_codes asm_pool class_asm '
+                    'class_program code_verify input_text input_desc jvm_step',
     'entry_cases': 'class_world class_program',
-    'program_tables': 'class_program code_verify input_text input_desc jvm_step',
-    'value_tables': 'abs_ints json_view jvm_heaps',
     'low_calls': 'class_pool code_forms code_decode jvm_values jvm_heaps abs_cells lin_core list_views',
     'state_cases': 'abs_reach term_enc abs_heap abs_match abs_widen abs_turns abs_rows abs_plans abs_expand',
-    'state_tables': 'abs_reach term_enc abs_heap abs_match abs_widen abs_turns abs_rows abs_plans abs_expand',
+    'state_tables': 'abs_reach term_enc abs_heap abs_match abs_widen abs_turns abs_rows abs_plans abs_expand '
+                    'descent rule_links rank_forms rank_search its_front its_search its_call cert_form cert_write cert_check path_rules',
     'rule_cases': 'descent rule_links rank_forms rank_search',
-    'proof_tables': 'descent rule_links rank_forms rank_search',
-    'cert_tables': 'cert_form cert_write cert_check path_rules',
-    'its_tables': 'its_front its_search its_call',
     'line_cases': 'input_steps run_call prove_call check_call',
     'command_tables': 'input_steps run_call desc_steps prove_core prove_call cert_check check_call',
-    'describe_cli': 'describe',
-    'certs_cli': 'check_call',
+    'tools_cli': 'describe check_call',
     'jterm_cli': 'jterm',
     'jterm_calls': 'jterm',
 }

@@ -3,7 +3,7 @@
 
 usage: json_view.py [PROGRAM]
 
-PROGRAM is the built `value_tables`. A list of numbers of seven digits is read (`parse`), and read and gone through (`numbers`): a
+PROGRAM is the built `class_tables`. A list of numbers of seven digits is read (`parse`), and read and gone through (`numbers`): a
 quarter, a half and the whole of 1,000,000 numbers; and lists of 4, 8 and 16 MiB are read. The time of an empty input is taken off;
 the program also decodes the hexadecimal digits of the input. The memory is the most that the program had at once: the line of input,
 the text and the value, and what reading and going through take beside them.
@@ -27,4 +27,4 @@ def cases():
 
 
 if __name__ == '__main__':
-    print_times(__doc__, ['table', 'numbers', 'bytes'], cases(), 'value_tables', memory=True)
+    print_times(__doc__, ['table', 'numbers', 'bytes'], cases(), 'class_tables', memory=True)

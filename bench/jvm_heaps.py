@@ -1,5 +1,5 @@
 #!/usr/bin/env python3
-"""Times regions and shapes of lists of objects: python3 bench/jvm_heaps.py [PROGRAM], where PROGRAM is value_tables as it is built for use.
+"""Times regions and shapes of lists of objects: python3 bench/jvm_heaps.py [PROGRAM], where PROGRAM is class_tables as it is built for use.
 
 The heap is made in the same time, and looked through once for references past its end.
 """
@@ -11,7 +11,7 @@ def line(count):
 
 
 def main():
-    path = common.program(__doc__, 'value_tables')
+    path = common.program(__doc__, 'class_tables')
     none = common.answer_and_seconds(path, line(1))[1]
     for count in (250_000, 500_000, 1_000_000):
         took = common.answer_and_seconds(path, line(count))[1]

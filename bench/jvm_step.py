@@ -1,5 +1,5 @@
 #!/usr/bin/env python3
-"""Times steps of the machine: python3 bench/jvm_step.py [PROGRAM], where PROGRAM is program_tables as it is built for use.
+"""Times steps of the machine: python3 bench/jvm_step.py [PROGRAM], where PROGRAM is class_tables as it is built for use.
 
 Each case runs a loop that does not end for some steps, and for none; the difference is the time of the steps.
 """
@@ -39,7 +39,7 @@ def line(listing, steps):
 
 
 def main():
-    path = common.program(__doc__, 'program_tables')
+    path = common.program(__doc__, 'class_tables')
     for name, listing, steps in CASES:
         none = common.answer_and_seconds(path, line(listing, 20))[1]
         took = common.answer_and_seconds(path, line(listing, steps))[1]

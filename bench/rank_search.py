@@ -3,7 +3,7 @@
 
 usage: rank_search.py [PROGRAM]
 
-PROGRAM is the built `proof_tables`. Rules are read (`read-rules`), and read and searched (`plain`, `stepwise`, `linear`); the difference is
+PROGRAM is the built `state_tables`. Rules are read (`read-rules`), and read and searched (`plain`, `stepwise`, `linear`); the difference is
 what the search takes. No form ranks the rules, so that all are tried, but for `several`, whose form is one over two places:
 
 - `wide`: 50 rules with so many places of ints, each of which rises on some rule by a number of its own;
@@ -49,4 +49,4 @@ def cases():
 
 
 if __name__ == '__main__':
-    print_times(__doc__, ['shape', 'count', 'table'], cases(), 'proof_tables')
+    print_times(__doc__, ['shape', 'count', 'table'], cases(), 'state_tables')

@@ -1,19 +1,13 @@
-//! Answers the cases of the tables of abstract states: what ids reach, patterns, `widen`, the calls of the heap, `instance` and `find`, and `expand`.
-//! Each line of the input is the name of a table or a call with its arguments, a tab and the input fields of a case, divided by tabs. The
-//! answer to each comes on a line of its own. Each state is held with its pairs as a list and as bits, and both give one answer.
+//! Answers the cases of the tables of abstract states, of proofs and rules, of integer transition rules and of certificates: each line of the
+//! input is the name of a table, a tab and the input fields of a case, divided by tabs. The answer to each comes on a line of its own.
 #![tactic(auto)]
 
-mod expansions;
-mod heap_calls;
-mod heap_words;
-mod ids;
-mod matching;
-mod patterns;
-mod reaching;
-mod widenings;
+mod certs;
+mod its;
+mod rules;
+mod states;
 
 use anyhow::Result;
-use state_cases::answer_by_both;
 use std::alloc::Global;
 use table_cases::{Answers, Case, answer_all};
 
@@ -21,17 +15,17 @@ use table_cases::{Answers, Case, answer_all};
 struct Cases;
 
 impl Answers for Cases {
-    /// The answer to the case, as its table writes it.
+    /// The answer to the case, by what knows its table. Calls of the heap name tables of abstract states.
     fn answer(alloc: Global, case: &Case<'_>) -> Result<String> {
         match case.table() {
-            "expand" => expansions::answer(alloc, case),
-            "widen" => answer_by_both::<widenings::Widenings>(alloc, case, 2),
-            "instance" | "find" => answer_by_both::<matching::Matches>(alloc, case, 3),
-            "term" => answer_by_both::<patterns::Patterns>(alloc, case, 2),
-            "known" | "meet" | "in" | "tree" | "finite" => {
-                answer_by_both::<reaching::Reaching>(alloc, case, 2)
+            "components" | "proof" | "orders" | "steps" | "read" => {
+                rules::Cases::answer(alloc, case)
             }
-            _ => answer_by_both::<heap_calls::HeapCalls>(alloc, case, 1),
+            "plain" | "stepwise" | "linear" => rules::Cases::answer(alloc, case),
+            "plain-form" | "stepwise-form" | "read-rules" => rules::Cases::answer(alloc, case),
+            "its" => its::Cases::answer(alloc, case),
+            "cert" | "cert-2" | "second" | "paths" => certs::Cases::answer(alloc, case),
+            _ => states::Cases::answer(alloc, case),
         }
     }
 }
