@@ -25,8 +25,8 @@ use Rattle.abs_cells.specs.declared.cells.Cell.{Cell}
 use Rattle.abs_cells.specs.Cells.{is_int}
 use Rattle.abs_cells.proofs.Checking.{has_cell_from, has_cell_to, all_reversed}
 use Rattle.abs_reach.specs.Instances.{is_no_int}
-use Rattle.abs_sound.specs.Zips.{all_zip}
-use Rattle.abs_sound.proofs.Zipped.{zip_apart, zip_gives, zip_given}
+use Rattle.abs_reach.specs.abs_sound.Zips.{all_zip}
+use Rattle.abs_reach.proofs.Zipped.{zip_apart, zip_gives, zip_given}
 use Rattle.class_program.specs.declared.program.Method.{Method}
 use Rattle.class_program.specs.declared.program.StaticField.{StaticField}
 use Rattle.class_program.specs.Programs.{Program}

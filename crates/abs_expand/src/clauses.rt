@@ -6,7 +6,7 @@ ghost use Rattle.abs_expand.specs.BadStates.{IsGoodState, IsBadState};
 
 use crate::places::{are_below_at_calls, are_placed};
 use abs_cells::{AbsState, Pairs};
-use abs_sound::is_sound;
+use abs_reach::abs_sound::is_sound;
 use class_program::Program;
 use code_verify::Typing;
 

@@ -5,7 +5,7 @@ ghost use Rattle.std.specs.Option.{option_map};
 ghost use Rattle.jvm_values.specs.States.{types_of};
 ghost use Rattle.abs_cells.specs.AbstractStates.{AbstractFrame};
 ghost use Rattle.abs_cells.specs.Sound.{AreIdsRising};
-ghost use Rattle.abs_sound.specs.Zips.{all_zip};
+ghost use Rattle.abs_reach.specs.abs_sound.Zips.{all_zip};
 ghost use Rattle.class_program.specs.Views.{program_of};
 ghost use Rattle.code_verify.specs.Typings.{typing_at};
 ghost use Rattle.abs_expand.specs.BadStates.{call_takes, call_at, below_running};
@@ -13,7 +13,7 @@ ghost use Rattle.abs_expand.specs.inner.PlaceTests.{is_of_place, is_entry_of, is
 ghost use Rattle.abs_expand.specs.inner.PlaceTests.{is_stack_at, caller_test, running_test, fields_under, callers_test, placed_test};
 
 use abs_cells::{AbsFrame, AbsState, Cell, Id, Pairs};
-use abs_sound::{has_int, has_no_int};
+use abs_reach::abs_sound::{has_int, has_no_int};
 use class_program::{Op, Program, StaticField};
 use code_verify::Typing;
 use jvm_values::{FrameType, PlaceType, Slot};

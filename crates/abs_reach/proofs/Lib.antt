@@ -12,3 +12,8 @@ pub mod Searching
 pub mod Sound
 pub mod Walked
 pub mod Walks
+pub mod Cells
+pub mod Thrown
+pub mod Zipped
+pub mod Lists
+pub mod Same

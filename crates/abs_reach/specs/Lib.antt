@@ -12,3 +12,5 @@ pub mod Laws
 pub mod Keys
 -- the words of private calls
 pub mod inner
+pub mod abs_sound
+pub mod abs_equal

@@ -4,6 +4,8 @@
 //! they are sound for every state of the machine that an abstract state describes.
 #![tactic(auto)]
 
+pub mod abs_equal;
+pub mod abs_sound;
 mod dropping;
 mod find;
 mod heads;

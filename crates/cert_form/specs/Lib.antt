@@ -9,3 +9,5 @@ pub mod Steps
 pub mod Certificates
 pub mod Marks
 pub mod Faults
+pub mod cert_write
+pub mod cert_limits

@@ -2,6 +2,8 @@
 #![tactic(auto)]
 
 mod cells;
+pub mod cert_limits;
+pub mod cert_write;
 mod certs;
 mod fault;
 mod fault_text;

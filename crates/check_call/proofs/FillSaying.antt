@@ -9,7 +9,7 @@ use Rattle.term_graph.specs.Graphs.{GraphNode}
 use Rattle.graph_fill.specs.ChildrenOfStates.{IsFilledGraph}
 use Rattle.cert_form.specs.declared.fault.CertFault.{CertFault}
 use Rattle.cert_form.specs.Certificates.{CertContent, cert_of, AnswersText}
-use Rattle.cert_write.specs.Data.{content_in, certificate_in}
+use Rattle.cert_form.specs.cert_write.Data.{content_in, certificate_in}
 use Rattle.descent.specs.declared.proof.ProofStep.{ProofStep}
 use Rattle.check_call.specs.declared.outcome.Outcome.{Outcome}
 use Rattle.check_call.specs.Answers.{IsSaidOfText}

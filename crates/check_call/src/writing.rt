@@ -6,7 +6,7 @@ ghost use Rattle.check_call.specs.FillTexts.{filled_text};
 
 use abs_cells::Pairs;
 use cert_form::ClassNames;
-use cert_write::encode;
+use cert_form::cert_write::encode;
 use descent::Proof;
 use list_views::Seq;
 use std::alloc::{AllocError, Global};

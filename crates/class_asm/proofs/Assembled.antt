@@ -8,8 +8,8 @@ use Rattle.asm_lines.specs.declared.fault.AsmFault.{AsmFault}
 use Rattle.asm_lines.specs.declared.listing.Listing.{Listing}
 use Rattle.asm_lines.specs.declared.statement.ClassLine.{ClassLine}
 use Rattle.asm_lines.specs.Firsts.{with_faults}
-use Rattle.asm_pool.specs.Needs.{listing_needs}
-use Rattle.asm_pool.specs.Pools.{pool_in}
+use Rattle.class_asm.specs.asm_pool.Needs.{listing_needs}
+use Rattle.class_asm.specs.asm_pool.Pools.{pool_in}
 use Rattle.class_asm.specs.Classes.{class_text, class_of, all_faults, unless_faulty}
 use Rattle.asm_lines.proofs.Faults.{in_turn}
 use Rattle.class_asm.proofs.ClassBounds.{has_text}

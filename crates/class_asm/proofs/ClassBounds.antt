@@ -21,12 +21,12 @@ use Rattle.asm_lines.specs.declared.listing.Listing.{Listing}
 use Rattle.asm_lines.specs.declared.statement.AttributeLine.{AttributeLine}
 use Rattle.asm_lines.specs.declared.statement.ClassLine.{ClassLine}
 use Rattle.asm_lines.specs.declared.statement.FieldLine.{FieldLine}
-use Rattle.asm_codes.specs.declared.code.MethodCode.{MethodCode}
+use Rattle.class_asm.specs.declared.asm_codes.code.MethodCode.{MethodCode}
 use Rattle.asm_lines.specs.declared.fault.AsmFault.TheVariants.{OutOfRange}
 use Rattle.asm_lines.specs.Firsts.{with_faults, unless}
-use Rattle.asm_pool.specs.Needs.{line_needs, attribute_entries, listing_needs}
-use Rattle.asm_pool.specs.Pools.{Need, Numbered, need_faults, count_faults, pool_entry, number_of, firsts_in, pool_in, pool_faults}
-use Rattle.asm_pool.specs.Entries.{Entry, Class}
+use Rattle.class_asm.specs.asm_pool.Needs.{line_needs, attribute_entries, listing_needs}
+use Rattle.class_asm.specs.asm_pool.Pools.{Need, Numbered, need_faults, count_faults, pool_entry, number_of, firsts_in, pool_in, pool_faults}
+use Rattle.class_asm.specs.asm_pool.Entries.{Entry, Class}
 use Rattle.class_asm.specs.Rules.{past_count, seconds, field_key, method_key, fields_faults, methods_faults, attributes_faults}
 use Rattle.class_asm.specs.Rules.{field_faults, method_faults, attribute_lines, attribute_faults, constant_faults, content_fits}
 use Rattle.class_asm.specs.Rules.{class_is_good, rule_faults}
@@ -35,7 +35,7 @@ use Rattle.class_asm.specs.Classes.{code_said, code_in, said_faults, item_attrib
 use Rattle.class_asm.specs.Classes.{code_fits, code_faults, field_text, method_text, class_text, all_faults}
 use Rattle.class_asm.proofs.CodeBounds.{few}
 use Rattle.asm_lines.proofs.Faultless.{no_faults, left, right, each, is_good, first_of_both, second_of_both, all_both}
-use Rattle.asm_pool.proofs.PoolBounds.{places_counted}
+use Rattle.class_asm.proofs.PoolBounds.{places_counted}
 
 -- ---- counts
 

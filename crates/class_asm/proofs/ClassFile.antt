@@ -7,11 +7,11 @@ use Rattle.asm_lines.specs.declared.fault.AsmFault.{AsmFault}
 use Rattle.asm_lines.specs.declared.listing.Listing.{Listing}
 use Rattle.asm_lines.specs.declared.statement.ClassLine.{ClassLine}
 use Rattle.class_asm.specs.ClassFiles.{IsClassFile}
-use Rattle.asm_pool.specs.Pools.{pool_in}
+use Rattle.class_asm.specs.asm_pool.Pools.{pool_in}
 use Rattle.class_asm.specs.Classes.{all_faults, class_text, unless_faulty, class_of, assembled}
 use Rattle.asm_lines.specs.Firsts.{with_faults}
 use Rattle.asm_lines.specs.Listings.{listing_of}
-use Rattle.asm_pool.specs.Needs.{listing_needs}
+use Rattle.class_asm.specs.asm_pool.Needs.{listing_needs}
 use Rattle.list_views.specs.Results.{◌>>=◌}
 use Rattle.asm_lines.specs.Statements.{Said}
 use Rattle.asm_lines.proofs.Faultless.{stays, no_faults}

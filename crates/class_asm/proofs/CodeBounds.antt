@@ -2,14 +2,14 @@
 use Rattle.std.proofs.Common.{◌≡◌, ℕ, ◌<◌, ◌^◌, List, length, Option, Some, None, refl, arith, map}
 use Rattle.asm_lines.specs.declared.fault.AsmFault.{AsmFault}
 use Rattle.asm_lines.specs.declared.listing.MethodLines.{MethodLines}
-use Rattle.asm_codes.specs.declared.code.MethodCode.{MethodCode}
-use Rattle.asm_codes.specs.Pooled.{Pooled}
-use Rattle.asm_pool.specs.Pools.{Numbered}
+use Rattle.class_asm.specs.declared.asm_codes.code.MethodCode.{MethodCode}
+use Rattle.class_asm.specs.asm_codes.Pooled.{Pooled}
+use Rattle.class_asm.specs.asm_pool.Pools.{Numbered}
 use Rattle.class_asm.specs.Classes.{pooled, code_said, code_in}
-use Rattle.asm_codes.specs.LineFaults.{first_fault}
-use Rattle.asm_codes.specs.Places.{places_of}
-use Rattle.asm_codes.specs.MethodCodes.{answered, code_at, method_code}
-use Rattle.asm_codes.proofs.CodeSizes.{sized}
+use Rattle.class_asm.specs.asm_codes.LineFaults.{first_fault}
+use Rattle.class_asm.specs.asm_codes.Places.{places_of}
+use Rattle.class_asm.specs.asm_codes.MethodCodes.{answered, code_at, method_code}
+use Rattle.class_asm.proofs.CodeSizes.{sized}
 
 pub record IsFew (code : MethodCode) : Type 0 where
   pub bytes : length code.bytes < 2 ^ 16

@@ -2,7 +2,7 @@
 use Rattle.std.proofs.Common.{◌≡◌, ℕ, ◌+◌, ◌-◌, ◌*◌, ◌^◌, ◌<◌, List, length, suc, inl, inr, sym, ◌∙◌, arith}
 use Rattle.std.proofs.lemmas.Bool.Decides.{leb_tells}
 use Rattle.std.specs.Prelude.{nat_le, nat_lt}
-use Rattle.asm_codes.specs.declared.code.MethodCode.{MethodCode}
+use Rattle.class_asm.specs.declared.asm_codes.code.MethodCode.{MethodCode}
 use Rattle.class_asm.specs.Classes.{attributes_size, code_fits}
 
 left_over : (b s : ℕ) → b < 2 ^ 32 → nat_le s (2 ^ 32 - 1 - b) ≡ nat_lt (b + s) (2 ^ 32)

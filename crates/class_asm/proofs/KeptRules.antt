@@ -25,23 +25,23 @@ use Rattle.asm_lines.specs.declared.item.Item.TheVariants as items
 use Rattle.asm_lines.specs.declared.listing.CodeLine.{CodeLine}
 use Rattle.asm_lines.specs.declared.listing.MethodLines.{MethodLines}
 use Rattle.asm_lines.specs.declared.listing.Listing.{Listing}
-use Rattle.asm_codes.specs.declared.code.MethodCode.{MethodCode}
-use Rattle.asm_codes.specs.declared.pooled.PoolOperand.{PoolOperand}
-use Rattle.asm_codes.specs.Pooled.{Pooled}
+use Rattle.class_asm.specs.declared.asm_codes.code.MethodCode.{MethodCode}
+use Rattle.class_asm.specs.declared.asm_codes.pooled.PoolOperand.{PoolOperand}
+use Rattle.class_asm.specs.asm_codes.Pooled.{Pooled}
 use Rattle.asm_lines.specs.declared.statement.AttributeLine.{AttributeLine}
 use Rattle.asm_lines.specs.declared.statement.ClassLine.{ClassLine}
 use Rattle.asm_lines.specs.declared.statement.FieldLine.{FieldLine}
-use Rattle.asm_pool.specs.Entries.{Entry, Utf8, Class, has_text}
-use Rattle.asm_codes.specs.Instructions.{Places}
-use Rattle.asm_codes.specs.LineFaults.{first_fault}
-use Rattle.asm_codes.specs.MethodCodes as codes_of
-use Rattle.asm_codes.specs.MethodCodes.{answered, code_at, method_code}
-use Rattle.asm_pool.specs.Needs.{insn_entries, catch_entries, attribute_entries, line_needs, catch_entry, code_name, code_needs}
-use Rattle.asm_pool.specs.Needs.{field_needs, method_needs, attribute_needs, constant_needs, super_of, class_needs, listing_needs}
+use Rattle.class_asm.specs.asm_pool.Entries.{Entry, Utf8, Class, has_text}
+use Rattle.class_asm.specs.asm_codes.Instructions.{Places}
+use Rattle.class_asm.specs.asm_codes.LineFaults.{first_fault}
+use Rattle.class_asm.specs.asm_codes.MethodCodes as codes_of
+use Rattle.class_asm.specs.asm_codes.MethodCodes.{answered, code_at, method_code}
+use Rattle.class_asm.specs.asm_pool.Needs.{insn_entries, catch_entries, attribute_entries, line_needs, catch_entry, code_name, code_needs}
+use Rattle.class_asm.specs.asm_pool.Needs.{field_needs, method_needs, attribute_needs, constant_needs, super_of, class_needs, listing_needs}
 use Rattle.asm_lines.specs.Numbers.{unsigned_of, pair_of}
-use Rattle.asm_codes.specs.Places.{places_of, IsNear, item_entry, table_of}
+use Rattle.class_asm.specs.asm_codes.Places.{places_of, IsNear, item_entry, table_of}
 use Rattle.asm_lines.specs.Firsts.{unless}
-use Rattle.asm_pool.specs.Pools.{Need, Numbered, needed, need_faults, count_faults, numbered, number_of, firsts_in, pool_in, pool_faults}
+use Rattle.class_asm.specs.asm_pool.Pools.{Need, Numbered, needed, need_faults, count_faults, numbered, number_of, firsts_in, pool_in, pool_faults}
 use Rattle.class_asm.specs.Rules.{Key, past_count, seconds, field_key, method_key, field_flags, method_flags, field_faults}
 use Rattle.class_asm.specs.Rules.{method_faults, sizes_fit, attribute_lines, fields_faults, methods_faults, attribute_faults}
 use Rattle.class_asm.specs.Rules.{attributes_faults, constant_faults, content_fits, major_of, class_is_good, rule_faults}
@@ -51,15 +51,15 @@ use Rattle.class_asm.specs.Classes.{item_attributes, code_attributes, code_size,
 use Rattle.class_asm.specs.Classes.{method_text, class_text, all_faults}
 use Rattle.class_asm.proofs.MethodFlags.{has_sizes, flags_small}
 use Rattle.class_asm.proofs.ClassBounds.{within_count, content_size, attributes_count, each_short}
-use Rattle.asm_codes.proofs.CodeSizes.{sized}
+use Rattle.class_asm.proofs.CodeSizes.{sized}
 use Rattle.asm_lines.proofs.Faultless.{left, right, each, is_good, first_of_both, second_of_both, all_both}
 use Rattle.asm_lines.proofs.GoodListings.{has_end, GoodMethod, GoodListing}
-use Rattle.asm_pool.proofs.GoodNeeds.{needs_good}
+use Rattle.class_asm.proofs.GoodNeeds.{needs_good}
 use Rattle.asm_lines.proofs.PlainWords.{PlainClass}
-use Rattle.asm_pool.proofs.PoolBounds.{room}
-use Rattle.asm_pool.proofs.PoolEntries.{IsIn, AllIn, in_file, number_small, of_needed, entries_in, needs_in}
-use Rattle.asm_pool.proofs.PoolRules.{pool_room, pool_rules, text_there, class_there}
-use Rattle.asm_codes.proofs.Written.{near}
+use Rattle.class_asm.proofs.PoolBounds.{room}
+use Rattle.class_asm.proofs.PoolEntries.{IsIn, AllIn, in_file, number_small, of_needed, entries_in, needs_in}
+use Rattle.class_asm.proofs.PoolRules.{pool_room, pool_rules, text_there, class_there}
+use Rattle.class_asm.proofs.Written.{near}
 
 -- ---- what indexes name
 

@@ -18,19 +18,19 @@ use Rattle.asm_lines.specs.declared.statement.FieldLine.{FieldLine}
 use Rattle.asm_lines.specs.Firsts.{unless}
 use Rattle.asm_lines.specs.Numbers.{pair_of}
 use Rattle.asm_lines.proofs.Faultless.{left, is_good, first_of_both, second_of_both}
-use Rattle.asm_codes.specs.declared.code.MethodCode.{MethodCode}
-use Rattle.asm_codes.specs.Pooled.{Pooled}
-use Rattle.asm_codes.specs.MethodCodes.{code_at}
-use Rattle.asm_codes.specs.Places.{places_of}
-use Rattle.asm_codes.specs.Said.{InTurn, SaysCode}
-use Rattle.asm_codes.proofs.SaidCode.{code_said}
-use Rattle.asm_pool.specs.Entries.{Entry, Utf8, Class}
-use Rattle.asm_pool.specs.Needs.{insn_entries, catch_entries, attribute_entries, line_needs, code_name, code_needs, field_needs}
-use Rattle.asm_pool.specs.Needs.{method_needs, super_of, listing_needs}
-use Rattle.asm_pool.specs.Pools.{Numbered, needed, numbered, number_of, pool_in}
-use Rattle.asm_pool.proofs.PoolBounds.{room}
-use Rattle.asm_pool.proofs.PoolEntries.{AllIn, in_file, entries_in}
-use Rattle.asm_pool.proofs.PoolRules.{class_there}
+use Rattle.class_asm.specs.declared.asm_codes.code.MethodCode.{MethodCode}
+use Rattle.class_asm.specs.asm_codes.Pooled.{Pooled}
+use Rattle.class_asm.specs.asm_codes.MethodCodes.{code_at}
+use Rattle.class_asm.specs.asm_codes.Places.{places_of}
+use Rattle.class_asm.specs.asm_codes.Said.{InTurn, SaysCode}
+use Rattle.class_asm.proofs.SaidCode.{code_said}
+use Rattle.class_asm.specs.asm_pool.Entries.{Entry, Utf8, Class}
+use Rattle.class_asm.specs.asm_pool.Needs.{insn_entries, catch_entries, attribute_entries, line_needs, code_name, code_needs, field_needs}
+use Rattle.class_asm.specs.asm_pool.Needs.{method_needs, super_of, listing_needs}
+use Rattle.class_asm.specs.asm_pool.Pools.{Numbered, needed, numbered, number_of, pool_in}
+use Rattle.class_asm.proofs.PoolBounds.{room}
+use Rattle.class_asm.proofs.PoolEntries.{AllIn, in_file, entries_in}
+use Rattle.class_asm.proofs.PoolRules.{class_there}
 use Rattle.class_asm.specs.Classes as classes
 use Rattle.class_asm.specs.Classes.{pooled, code_in, said_faults, code_attributes, code_fits, code_faults, field_text, size_of}
 use Rattle.class_asm.specs.Classes.{method_text, class_text, all_faults}

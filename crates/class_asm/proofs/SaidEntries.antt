@@ -17,14 +17,14 @@ use Rattle.asm_lines.specs.declared.operation.Operation.{Operation}
 use Rattle.asm_lines.specs.declared.operation.Operation.TheVariants as operations
 use Rattle.asm_lines.specs.declared.statement.AttributeLine.{AttributeLine}
 use Rattle.asm_lines.specs.Numbers.{int_of}
-use Rattle.asm_codes.specs.declared.pooled.PoolOperand.{PoolOperand}
-use Rattle.asm_codes.specs.Said.{NamedBy, IsNamed}
-use Rattle.asm_pool.specs.Entries.{Entry, Utf8, Integer, Class, Str, Member, NameAndType, has_text}
-use Rattle.asm_pool.specs.Needs.{member_tag, is_member_descriptor, is_class_or_array, insn_entries, catch_entries, line_needs, catch_entry}
-use Rattle.asm_pool.specs.Pools.{numbered, number_of}
-use Rattle.asm_pool.proofs.PoolBounds.{room}
-use Rattle.asm_pool.proofs.PoolEntries.{AllIn, IsIn, in_file, entry_is, of_needed}
-use Rattle.asm_pool.proofs.PoolRules.{text_there, class_there}
+use Rattle.class_asm.specs.declared.asm_codes.pooled.PoolOperand.{PoolOperand}
+use Rattle.class_asm.specs.asm_codes.Said.{NamedBy, IsNamed}
+use Rattle.class_asm.specs.asm_pool.Entries.{Entry, Utf8, Integer, Class, Str, Member, NameAndType, has_text}
+use Rattle.class_asm.specs.asm_pool.Needs.{member_tag, is_member_descriptor, is_class_or_array, insn_entries, catch_entries, line_needs, catch_entry}
+use Rattle.class_asm.specs.asm_pool.Pools.{numbered, number_of}
+use Rattle.class_asm.proofs.PoolBounds.{room}
+use Rattle.class_asm.proofs.PoolEntries.{AllIn, IsIn, in_file, entry_is, of_needed}
+use Rattle.class_asm.proofs.PoolRules.{text_there, class_there}
 use Rattle.asm_lines.proofs.Faultless.{first_of_both, second_of_both}
 use Rattle.class_asm.specs.Classes.{call_words, entry_need, item_need, pooled, no_need}
 use Rattle.class_asm.specs.Rules.{content_fits}

@@ -20,19 +20,19 @@ use Rattle.asm_lines.specs.declared.listing.Listing.{Listing}
 use Rattle.asm_lines.specs.declared.statement.FieldLine.{FieldLine}
 use Rattle.asm_lines.specs.declared.statement.AttributeLine.{AttributeLine}
 use Rattle.asm_lines.specs.declared.statement.ClassLine.{ClassLine}
-use Rattle.asm_codes.specs.declared.pooled.PoolOperand.{PoolOperand}
-use Rattle.asm_codes.specs.Pooled.{Pooled, pooled_line}
-use Rattle.asm_codes.specs.declared.code.MethodCode.{MethodCode}
+use Rattle.class_asm.specs.declared.asm_codes.pooled.PoolOperand.{PoolOperand}
+use Rattle.class_asm.specs.asm_codes.Pooled.{Pooled, pooled_line}
+use Rattle.class_asm.specs.declared.asm_codes.code.MethodCode.{MethodCode}
 use Rattle.asm_lines.specs.Numbers.{pair_of}
 use Rattle.list_views.specs.Results.{◌>>=◌}
 use Rattle.asm_lines.specs.Statements.{Said}
 use Rattle.asm_lines.specs.Firsts.{with_faults, unless}
 use Rattle.asm_lines.specs.Listings.{listing_of}
-use Rattle.asm_pool.specs.Entries.{Entry, Utf8, Class}
-use Rattle.asm_pool.specs.Pools.{Numbered, number_of, pool_entry, pool_in, pool_faults}
-use Rattle.asm_pool.specs.Needs.{counted_words, takes_entry, operation_entry, catch_entry, code_name, super_of, listing_needs}
+use Rattle.class_asm.specs.asm_pool.Entries.{Entry, Utf8, Class}
+use Rattle.class_asm.specs.asm_pool.Pools.{Numbered, number_of, pool_entry, pool_in, pool_faults}
+use Rattle.class_asm.specs.asm_pool.Needs.{counted_words, takes_entry, operation_entry, catch_entry, code_name, super_of, listing_needs}
 use Rattle.class_asm.specs.Rules.{field_flags, method_flags, content_fits, major_of, rule_faults}
-use Rattle.asm_codes.specs.MethodCodes.{make_code, method_code}
+use Rattle.class_asm.specs.asm_codes.MethodCodes.{make_code, method_code}
 
 -- ---- codes
 

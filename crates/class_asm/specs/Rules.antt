@@ -21,7 +21,7 @@ use Rattle.asm_lines.specs.declared.statement.ClassLine.{ClassLine}
 use Rattle.asm_lines.specs.declared.statement.MethodLine.{MethodLine}
 use Rattle.asm_lines.specs.Numbers.{pair_of}
 use Rattle.asm_lines.specs.Firsts.{unless}
-use Rattle.asm_pool.specs.Needs.{super_of, constant_entry, attribute_entries, line_needs}
+use Rattle.class_asm.specs.asm_pool.Needs.{super_of, constant_entry, attribute_entries, line_needs}
 
 -- ---- lists
 

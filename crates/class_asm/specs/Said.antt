@@ -17,9 +17,9 @@ use Rattle.asm_lines.specs.declared.operation.Operation.{Operation}
 use Rattle.asm_lines.specs.declared.operation.Operation.TheVariants.{LoadInt, LoadString, Member, Class}
 use Rattle.asm_lines.specs.declared.statement.ClassLine.{ClassLine}
 use Rattle.asm_lines.specs.declared.statement.FieldLine.{FieldLine}
-use Rattle.asm_codes.specs.Said.{InTurn, SaysCode}
-use Rattle.asm_codes.specs.declared.pooled.PoolOperand.{PoolOperand}
-use Rattle.asm_pool.specs.Needs.{member_tag, super_of}
+use Rattle.class_asm.specs.asm_codes.Said.{InTurn, SaysCode}
+use Rattle.class_asm.specs.declared.asm_codes.pooled.PoolOperand.{PoolOperand}
+use Rattle.class_asm.specs.asm_pool.Needs.{member_tag, super_of}
 use Rattle.class_asm.specs.Rules.{field_flags, method_flags, major_of}
 use Rattle.class_asm.specs.Classes.{class_flags}
 

@@ -4,17 +4,17 @@ ghost use Rattle.std.specs.Prelude.{◌≡◌, OnOk, IfOk, map, true};
 ghost use Rattle.std.specs.List.{AllByRecursion};
 ghost use Rattle.class_pool.specs.Entry.{HasText};
 ghost use Rattle.class_read.specs.Writing.{HasClassText};
-ghost use Rattle.asm_pool.specs.Entries.{has_text};
+ghost use Rattle.class_asm.specs.asm_pool.Entries.{has_text};
 ghost use Rattle.asm_lines.specs.Firsts.{with_faults};
-ghost use Rattle.asm_pool.specs.Needs.{listing_needs};
-ghost use Rattle.asm_pool.specs.Pools.{pool_in};
+ghost use Rattle.class_asm.specs.asm_pool.Needs.{listing_needs};
+ghost use Rattle.class_asm.specs.asm_pool.Pools.{pool_in};
 ghost use Rattle.asm_lines.specs.Statements.{Gives};
 ghost use Rattle.class_asm.specs.Classes.{method_text, class_of, class_text, all_faults, assembled};
 
+use crate::asm_pool::{Entry, Needs, Pool, pool_of, super_of};
 use crate::rules::{check_rules, major_of};
 use crate::texts::{attribute_texts, class_flags, class_numbers, field_texts, method_texts};
 use asm_lines::{AsmFault, ClassLine, First, Listing, read_listing};
-use asm_pool::{Entry, Needs, Pool, pool_of, super_of};
 use class_read::{ClassText, MemberText, write_class};
 use list_views::Seq;
 use std::alloc::{AllocError, Global};
@@ -77,7 +77,7 @@ fn gather<'a>(
     Ok(Gathered { pool, methods })
 }
 
-#[tactic(auto, using(asm_lines::proofs::Outcomes::is_fault, crate::proofs::Assembled::faulty, crate::proofs::Assembled::faultless, crate::proofs::Assembled::has_class_text, asm_pool::proofs::PoolBounds::pool_texts))]
+#[tactic(auto, using(asm_lines::proofs::Outcomes::is_fault, crate::proofs::Assembled::faulty, crate::proofs::Assembled::faultless, crate::proofs::Assembled::has_class_text, crate::proofs::PoolBounds::pool_texts))]
 fn class_of<'a>(
     alloc: Global,
     line: usize,

@@ -2,18 +2,18 @@
 
 ghost use Rattle.std.specs.Prelude.{◌≡◌, ◌++◌, [], ◌<◌, ◌+◌, ◌*◌, ◌^◌, OnOk, IfOk, map, nat_le, length};
 ghost use Rattle.std.specs.Option.{option_map};
-ghost use Rattle.asm_pool.specs.Entries.{seen};
+ghost use Rattle.class_asm.specs.asm_pool.Entries.{seen};
 ghost use Rattle.asm_lines.specs.Firsts.{with_faults};
-ghost use Rattle.asm_pool.specs.Needs.{takes_entry};
+ghost use Rattle.class_asm.specs.asm_pool.Needs.{takes_entry};
 ghost use Rattle.class_asm.specs.Classes.{entry_need, call_words, item_need, pooled, code_said, code_in, said_faults};
 ghost use Rattle.class_asm.specs.Classes.{item_attributes, code_attributes, attributes_size, code_fits};
-ghost use Rattle.asm_codes.specs.MethodCodes.{make_code};
+ghost use Rattle.class_asm.specs.asm_codes.MethodCodes.{make_code};
 ghost use Rattle.asm_lines.specs.Statements.{Gives};
 
+use crate::asm_codes::{MethodCode, PoolOperand, PooledLine, method_code};
+use crate::asm_pool::{Entry, Pool, catch_entry, counted_words, operation_entry};
 use crate::rules::content_fits;
-use asm_codes::{MethodCode, PoolOperand, PooledLine, method_code};
 use asm_lines::{AsmFault, CodeLine, First, Item, MethodLines, Operation, copy};
-use asm_pool::{Entry, Pool, catch_entry, counted_words, operation_entry};
 use list_views::Seq;
 use std::alloc::{AllocError, Global};
 

@@ -4,6 +4,8 @@
 //! `asm_lines`, the constant pool in `asm_pool`, the codes of methods in `asm_codes`.
 #![tactic(auto)]
 
+pub mod asm_codes;
+pub mod asm_pool;
 mod assembly;
 mod codes;
 mod laws;

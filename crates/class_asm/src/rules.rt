@@ -4,16 +4,16 @@ ghost use Rattle.std.specs.Prelude.{◌≡◌, ◌++◌, [], OnOk, IfOk, Some, N
 ghost use Rattle.std.specs.List.{flat_map, list_all};
 ghost use Rattle.class_base.specs.ClassNames.{is_class_name};
 ghost use Rattle.asm_lines.specs.Firsts.{with_faults, unless};
-ghost use Rattle.asm_pool.specs.Needs.{line_needs, attribute_entries};
+ghost use Rattle.class_asm.specs.asm_pool.Needs.{line_needs, attribute_entries};
 ghost use Rattle.class_asm.specs.Rules.{past_count, seconds, field_key, method_key, field_flags, method_flags, field_faults};
 ghost use Rattle.class_asm.specs.Rules.{sizes_fit, attribute_lines, method_faults, fields_faults, methods_faults, attributes_faults};
 ghost use Rattle.class_asm.specs.Rules.{content_fits, attribute_faults, constant_faults, major_of, class_is_good, rule_faults};
 
+use crate::asm_pool::{constant_entry, super_of};
 use asm_lines::{
     AsmFault, AttributeLine, ClassLine, CodeLine, Constant, FieldLine, First, Item, Listing,
     MethodLine, MethodLines, Number,
 };
-use asm_pool::{constant_entry, super_of};
 use class_base::{KeySet, MemberKind, PRIVATE, PUBLIC, STATIC, is_class_name, is_descriptor};
 use list_views::Seq;
 use std::alloc::{AllocError, Global};

@@ -2,16 +2,16 @@
 
 ghost use Rattle.std.specs.Prelude.{◌≡◌, ◌++◌, ◌<◌, OnOk, IfOk, map, if◌then◌else◌};
 ghost use Rattle.std.specs.List.{flat_map};
-ghost use Rattle.asm_pool.specs.Entries.{Class, Utf8};
+ghost use Rattle.class_asm.specs.asm_pool.Entries.{Class, Utf8};
 ghost use Rattle.asm_lines.specs.Firsts.{with_faults, unless};
-ghost use Rattle.asm_pool.specs.Pools.{number_of};
+ghost use Rattle.class_asm.specs.asm_pool.Pools.{number_of};
 ghost use Rattle.class_asm.specs.Classes.{code_said, code_in, said_faults, code_fits, code_attributes, code_faults, field_text};
 ghost use Rattle.class_asm.specs.Classes.{size_of, code_text, method_attributes, method_text, class_flags, attribute_text};
 
+use crate::asm_pool::{Entry, Pool};
 use crate::codes::{code_attributes, code_fits, code_in};
 use crate::rules::{field_flags, method_flags};
 use asm_lines::{AttributeLine, ClassLine, FieldLine, First, MethodLines, Number, copy};
-use asm_pool::{Entry, Pool};
 use class_read::{AttrText, MemberText};
 use list_views::Seq;
 use std::alloc::{AllocError, Global};

@@ -1,9 +1,9 @@
 //! `bound`: the bytes of a bound, of a certificate, of a description and of class files; the bound's three kinds of lines, or why there is none.
 use anyhow::Result;
-use bound_call::bound_line;
-use line_cases::{files_from, refused_line, without_newline};
+use cert_calls::bound_call::bound_line;
 use std::alloc::Global;
 use table_cases::Case;
+use table_cases::line_cases::{files_from, refused_line, without_newline};
 
 pub fn answer(alloc: Global, case: &Case<'_>) -> Result<String> {
     let bound = case.bytes(alloc, 0)?;

@@ -2,9 +2,9 @@
 //! description and of class files; the line that is said of the certificate, or why there is none.
 use anyhow::Result;
 use check_call::check_line;
-use line_cases::{files_from, refused_line, without_newline};
 use std::alloc::Global;
 use table_cases::Case;
+use table_cases::line_cases::{files_from, refused_line, without_newline};
 
 pub fn answer(alloc: Global, case: &Case<'_>) -> Result<String> {
     let cert = case.bytes(alloc, 0)?;

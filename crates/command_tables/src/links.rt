@@ -3,11 +3,11 @@
 //! linking, a cycle of calls, or the first reached method without a typing.
 use anyhow::Result;
 use class_program::Program;
-use entry_cases::{Entry, put_method};
 use input_steps::{Fault, Place, test_calls, typings};
-use line_cases::{fault_line, refused_line};
 use std::alloc::{AllocError, Global};
 use table_cases::Case;
+use table_cases::entry_cases::{Entry, put_method};
+use table_cases::line_cases::{fault_line, refused_line};
 
 /// The answer to a case.
 pub fn answer(alloc: Global, case: &Case<'_>) -> Result<String> {

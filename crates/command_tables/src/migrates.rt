@@ -1,9 +1,9 @@
 //! `migrate`: the bytes of a certificate, of a description and of class files; the certificate in form 2, or why there is none.
 use anyhow::Result;
-use line_cases::{files_from, refused_line, without_newline};
-use migrate_call::migrate_line;
+use cert_calls::migrate_call::migrate_line;
 use std::alloc::Global;
 use table_cases::Case;
+use table_cases::line_cases::{files_from, refused_line, without_newline};
 
 pub fn answer(alloc: Global, case: &Case<'_>) -> Result<String> {
     let cert = case.bytes(alloc, 0)?;

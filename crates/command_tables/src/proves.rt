@@ -4,10 +4,10 @@ ghost use Rattle.std.specs.Prelude.{◌≤◌, IfOk};
 ghost use Rattle.term_graph.specs.Limits.{most_nodes};
 
 use anyhow::{Context, Result, bail};
-use command_rows::DEFAULT_NODES;
-use line_cases::{files_from, refused_line};
+use class_calls::command_rows::DEFAULT_NODES;
 use prove_call::prove_line;
 use std::alloc::Global;
+use table_cases::line_cases::{files_from, refused_line};
 use table_cases::{Case, ascii, natural, said};
 use term_graph::MOST_NODES;
 

@@ -1,10 +1,10 @@
 //! `run`, `run-52`: the number of steps, the bytes of a state and of class files; the line that says how the run ends, or why there
 //! is none.
 use anyhow::Result;
-use line_cases::{files_from, refused_line, without_newline};
-use run_call::run_line;
+use class_calls::run_call::run_line;
 use std::alloc::Global;
 use table_cases::Case;
+use table_cases::line_cases::{files_from, refused_line, without_newline};
 
 pub fn answer(alloc: Global, case: &Case<'_>) -> Result<String> {
     let fuel = case.text(0)?.parse::<u64>()?;

@@ -1,9 +1,9 @@
 //! `throws`: the bytes of a certificate, of a description and of class files; the lines of the ways in which runs end, or why there are none.
 use anyhow::Result;
-use line_cases::{files_from, refused_line, without_newline};
+use cert_calls::throws_call::throws_line;
 use std::alloc::Global;
 use table_cases::Case;
-use throws_call::throws_line;
+use table_cases::line_cases::{files_from, refused_line, without_newline};
 
 pub fn answer(alloc: Global, case: &Case<'_>) -> Result<String> {
     let cert = case.bytes(alloc, 0)?;

@@ -4,6 +4,7 @@
 mod cut_steps;
 mod reducing;
 mod searching;
+pub mod simplex;
 mod stop;
 mod sums;
 mod tables;

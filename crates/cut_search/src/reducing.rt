@@ -6,7 +6,7 @@ use crate::stop::Stop;
 use crate::sums::{Sum, added, put, sum_at, times_of};
 use descent::{PathRule, SlotForm};
 use lin_core::WRow;
-use rule_links::is_inequality;
+use rank_forms::rule_links::is_inequality;
 use std::alloc::{AllocError, Global};
 
 /// What is left of a rule.

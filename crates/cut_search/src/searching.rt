@@ -5,13 +5,13 @@ ghost use Rattle.rank_forms.specs.RankSteps.{IsRankStep};
 
 use crate::cut_steps::cut_step;
 use crate::reducing::{Reduced, reduce};
+use crate::simplex::{Tableau, common_of};
 use crate::stop::Stop;
 use crate::sums::list_sum;
 use crate::tables::{Table, table_of};
 use crate::unknowns::{Unknown, all_unknowns, cuts_of};
 use descent::{PathRule, RankStep};
 use rank_forms::is_rank_step;
-use simplex::{Tableau, common_of};
 use std::alloc::{AllocError, Global};
 
 /// How many rules are looked at together, at most.

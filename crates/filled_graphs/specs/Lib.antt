@@ -1,3 +1,4 @@
 pub mod Filling
 pub mod Origins
 pub mod inner
+pub mod filled_nodes

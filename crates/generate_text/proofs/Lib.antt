@@ -1,0 +1,9 @@
+pub mod Readers
+pub mod Tests
+pub mod LawTexts
+pub mod Reading
+pub mod Places
+pub mod Needed
+pub mod LawBlocks
+pub mod Assembles
+pub mod Hundred

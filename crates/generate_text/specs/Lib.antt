@@ -1,2 +1,3 @@
 pub mod Listings
 pub mod Descriptions
+pub mod generate_laws

@@ -5,6 +5,7 @@
 #![tactic(auto)]
 
 mod blocks;
+pub mod generate_laws;
 mod texts;
 
 pub use texts::{description, listing};

@@ -6,7 +6,7 @@ ghost use Rattle.graph_check.specs.inner.Checked.{AreNamedOr, LinksOr};
 use crate::failure::Failure;
 use crate::fault::What;
 use abs_cells::{AbsState, Pairs};
-use abs_equal::is_same_state;
+use abs_reach::abs_equal::is_same_state;
 use list_views::Seq;
 use std::alloc::{AllocError, Global};
 use term_graph::{Child, Link, NodeSource};

@@ -10,7 +10,7 @@ use Rattle.abs_expand.specs.declared.fault.ExpandFault.TheVariants.{TooManyIds}
 use Rattle.abs_expand.specs.BadStates.{IsBadState}
 use Rattle.abs_expand.specs.Expansions.{plan_of, counts_of}
 use Rattle.one_expansion.proofs.OneAnswer.{few_or_many, no_children, not_bad}
-use Rattle.filled_nodes.specs.Children.{HasNone, HasThemOrNone}
+use Rattle.filled_graphs.specs.filled_nodes.Children.{HasNone, HasThemOrNone}
 use Rattle.graph_fill.specs.ChildrenOfStates.{child_rules}
 
 module _ (p : Program) (typing : ℕ → CodeTypes) (state : AbstractState) where

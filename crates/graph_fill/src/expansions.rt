@@ -8,7 +8,7 @@ use abs_expand::{ExpandFault, expand};
 use abs_reach::Marks;
 use class_program::Program;
 use code_verify::Typing;
-use filled_nodes::Expands;
+use filled_graphs::filled_nodes::Expands;
 use list_views::Seq;
 use std::alloc::{AllocError, Global};
 use term_graph::Child;

@@ -9,7 +9,7 @@ use crate::expansions::Expansions;
 use abs_cells::Pairs;
 use class_program::Program;
 use code_verify::Typing;
-use filled_nodes::Filled;
+use filled_graphs::filled_nodes::Filled;
 use std::alloc::{AllocError, Global};
 use term_graph::PartSource;
 

@@ -7,10 +7,10 @@ use Rattle.its_front.specs.declared.reading.Its.{Its}
 use Rattle.its_front.specs.Reading.{rules_of}
 use Rattle.its_front.specs.Steps.{ChainsEndSteps, StepsEndWalks}
 use Rattle.its_front.specs.Systems.{IsSystem}
-use Rattle.its_search.specs.declared.searching.ItsFound.{ItsFound}
-use Rattle.its_search.specs.declared.searching.ItsFound.TheVariants.{Proof, Left}
-use Rattle.its_search.specs.Found.{Finds}
-use Rattle.its_search.proofs.Asked.{system_rules_are}
+use Rattle.its_call.specs.declared.its_search.searching.ItsFound.{ItsFound}
+use Rattle.its_call.specs.declared.its_search.searching.ItsFound.TheVariants.{Proof, Left}
+use Rattle.its_call.specs.its_search.Found.{Finds}
+use Rattle.its_call.proofs.Asked.{system_rules_are}
 use Rattle.its_call.specs.declared.answer.ItsAnswer.{ItsAnswer}
 use Rattle.its_call.specs.Lines.{yes_line}
 use Rattle.its_call.specs.Answers.{Tells, SaysYes, IsEnding}

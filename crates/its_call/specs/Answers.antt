@@ -5,9 +5,9 @@ use Rattle.its_front.specs.declared.reading.Its.{Its}
 use Rattle.its_front.specs.Faults.{is_memory}
 use Rattle.its_front.specs.Reading.{rules_of}
 use Rattle.its_front.specs.Steps.{StepsEnd, NoInfiniteWalk}
-use Rattle.its_search.specs.declared.searching.ItsFound.{ItsFound}
-use Rattle.its_search.specs.declared.searching.ItsFound.TheVariants.{Proof, Left}
-use Rattle.its_search.specs.Found.{Finds}
+use Rattle.its_call.specs.declared.its_search.searching.ItsFound.{ItsFound}
+use Rattle.its_call.specs.declared.its_search.searching.ItsFound.TheVariants.{Proof, Left}
+use Rattle.its_call.specs.its_search.Found.{Finds}
 use Rattle.its_call.specs.declared.answer.ItsAnswer.{ItsAnswer}
 use Rattle.its_call.specs.Lines.{yes_line, maybe_text}
 

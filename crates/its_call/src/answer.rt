@@ -2,13 +2,13 @@
 ghost use Rattle.std.specs.Prelude.{◌≡◌, IfOk};
 ghost use Rattle.its_front.specs.Faults.{is_memory};
 ghost use Rattle.its_front.specs.Systems.{IsSystem};
-ghost use Rattle.its_search.specs.Found.{Finds};
+ghost use Rattle.its_call.specs.its_search.Found.{Finds};
 ghost use Rattle.its_call.specs.Answers.{Answers, Tells, SystemEnds};
 
+use crate::its_search::{ItsFound, its_search};
 use crate::lines::maybe_text;
 use descent::closed_proofs_end;
 use its_front::{Its, ItsFault, chains_end_steps, read_rules, steps_end_walks};
-use its_search::{ItsFound, its_search};
 use list_views::Seq;
 use std::alloc::{AllocError, Global};
 

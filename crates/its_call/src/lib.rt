@@ -2,8 +2,9 @@
 #![tactic(auto)]
 
 mod answer;
+pub mod its_search;
 mod lines;
 
+pub use crate::its_search::{ItsFound, LeftRule};
 pub use answer::{ItsAnswer, its_answer};
 pub use its_front::ItsFault;
-pub use its_search::{ItsFound, LeftRule};

@@ -4,7 +4,7 @@ ghost use Rattle.std.specs.List.{flat_map};
 ghost use Rattle.std.specs.Fmt.{decimal};
 ghost use Rattle.its_call.specs.Lines.{place_name, rule_line, maybe_text};
 
-use its_search::LeftRule;
+use crate::its_search::LeftRule;
 use list_views::Seq;
 use list_views::fault_words::{joined, number};
 use std::alloc::{AllocError, Global};

@@ -3,3 +3,5 @@ pub mod Placing
 pub mod SaidRows
 pub mod Sound
 pub mod Walking
+pub mod Digits
+pub mod Divided

@@ -14,8 +14,8 @@ use Rattle.list_views.specs.Results.{◌>>=◌, wanted, required}
 use Rattle.list_views.proofs.Items.{length_set}
 use Rattle.list_views.proofs.Options.{then_some, cond_guarded}
 use Rattle.list_views.proofs.Steps.{bind_ok, ok_is}
-use Rattle.text_lines.specs.declared.numbers.Number.{Number}
-use Rattle.text_lines.specs.Numbers.{signed_of}
+use Rattle.its_front.specs.declared.text_lines.numbers.Number.{Number}
+use Rattle.its_front.specs.text_lines.Numbers.{signed_of}
 use Rattle.its_front.specs.declared.words.Term.{Term}
 use Rattle.its_front.specs.Faults.{Said}
 use Rattle.its_front.specs.Words.{before, ranged, most_coefficient, most_constant}

@@ -15,7 +15,7 @@ use Rattle.descent.specs.declared.rules.PathRule.{PathRule}
 use Rattle.list_views.specs.Results.{◌>>=◌, wanted, required}
 use Rattle.list_views.specs.Results.{IsDue}
 use Rattle.list_views.proofs.Steps.{bind_ok, ok_is, handed_on}
-use Rattle.text_lines.specs.LinesAndWords.{lines_of, words_of}
+use Rattle.its_front.specs.text_lines.LinesAndWords.{lines_of, words_of}
 use Rattle.its_front.specs.declared.fault.ItsFault.{ItsFault}
 use Rattle.its_front.specs.declared.reading.Its.{Its}
 use Rattle.its_front.specs.declared.reading.OpenRule.{OpenRule}

@@ -6,3 +6,4 @@ pub mod Reading
 pub mod Systems
 pub mod Steps
 pub mod Faults
+pub mod text_lines

@@ -13,7 +13,7 @@ use Rattle.lin_core.specs.declared.rows.WRow.{WRow}
 use Rattle.descent.specs.declared.rules.PathRule.{PathRule}
 use Rattle.descent.specs.declared.rules.Place.{Place}
 use Rattle.descent.specs.declared.rules.SlotForm.{SlotForm}
-use Rattle.text_lines.specs.LinesAndWords.{lines_of, words_of}
+use Rattle.its_front.specs.text_lines.LinesAndWords.{lines_of, words_of}
 use Rattle.its_front.specs.declared.fault.ItsFault.TheVariants.{Syntax, DuplicateVariable, Limit}
 use Rattle.its_front.specs.declared.reading.Its.{Its}
 use Rattle.its_front.specs.declared.reading.OpenRule.{OpenRule}

@@ -3,7 +3,7 @@ use Rattle.std.specs.Prelude.{ℕ, ◌+◌, ℤ, List, [], length, replicate, No
 use Rattle.list_views.specs.Results.{◌>>=◌, wanted}
 use Rattle.lin_core.specs.declared.rows.RowKind.{RowKind}
 use Rattle.lin_core.specs.declared.rows.WRow.{WRow}
-use Rattle.text_lines.specs.declared.numbers.Number.{Number}
+use Rattle.its_front.specs.declared.text_lines.numbers.Number.{Number}
 use Rattle.its_front.specs.declared.fault.ItsFault.TheVariants.{UnknownVariable, DuplicateVariable, OutOfRange}
 use Rattle.its_front.specs.declared.words.Term.{Term}
 use Rattle.its_front.specs.Faults.{Said}

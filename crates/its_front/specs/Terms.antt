@@ -4,7 +4,7 @@ use Rattle.std.specs.Prelude.{Some, None, if◌then◌else◌}
 use Rattle.std.specs.Ordering.{int_eq}
 use Rattle.std.specs.Str.{bytes_eq}
 use Rattle.list_views.specs.Options.{◌>>=◌}
-use Rattle.text_lines.specs.declared.numbers.Number.{Number}
+use Rattle.its_front.specs.declared.text_lines.numbers.Number.{Number}
 use Rattle.its_front.specs.declared.words.Term.{Term}
 use Rattle.its_front.specs.Words.{before, ranged, most_coefficient}
 

@@ -4,8 +4,8 @@ use Rattle.std.specs.Prelude.{drop, Option, Some, None, codes, unsigned_abs, if�
 use Rattle.std.specs.List.{list_all}
 use Rattle.std.specs.Str.{bytes_eq}
 use Rattle.list_views.specs.Options.{◌>>=◌}
-use Rattle.text_lines.specs.declared.numbers.Number.{Number}
-use Rattle.text_lines.specs.Numbers.{is_digit, number_of, signed_of}
+use Rattle.its_front.specs.declared.text_lines.numbers.Number.{Number}
+use Rattle.its_front.specs.text_lines.Numbers.{is_digit, number_of, signed_of}
 use Rattle.its_front.specs.declared.words.Term.{Term}
 
 -- the words of a line, in order

@@ -11,6 +11,7 @@ mod names;
 mod reading;
 mod rows;
 mod rules;
+pub mod text_lines;
 mod words;
 
 pub use fault::ItsFault;

@@ -13,11 +13,11 @@ use crate::fault::ItsFault;
 use crate::names::Names;
 use crate::rows::row_of;
 use crate::rules::rule_of;
+use crate::text_lines::{lines, words};
 use crate::words::{are_names, row_words, two_names};
 use descent::{PathRule, RowKind, WRow};
 use list_views::{Bytes, Seq};
 use std::alloc::{AllocError, AllocFailed, Global};
-use text_lines::{lines, words};
 
 /// The most variables of a system.
 const MOST_VARIABLES: usize = 256;

@@ -8,11 +8,11 @@ ghost use Rattle.its_front.specs.Rows.{table_of, row_in, row_of};
 
 use crate::fault::ItsFault;
 use crate::names::Names;
+use crate::text_lines::Number;
 use crate::words::{Term, ranged};
 use descent::{RowKind, WRow};
 use list_views::Seq;
 use std::alloc::{AllocError, Global};
-use text_lines::Number;
 
 /// The greatest coefficient, by its size.
 const MOST_COEFFICIENT: u64 = 1 << 31;

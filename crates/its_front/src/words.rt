@@ -4,9 +4,9 @@ ghost use Rattle.std.specs.List.{list_all};
 ghost use Rattle.its_front.specs.Words.{is_letter, is_name_byte, is_name, are_names, front, is_primed, term_of, before, pair_of};
 ghost use Rattle.its_front.specs.Words.{terms_of, row_words, two_names, ranged};
 
+use crate::text_lines::{Number, read_number};
 use list_views::{Bytes, Seq};
 use std::alloc::{AllocError, Global};
-use text_lines::{Number, read_number};
 
 /// So many times the value of a variable, before the rule or after it.
 #[derive(Drop)]

@@ -2,24 +2,24 @@
 use Rattle.std.proofs.Common.{◌≡◌, ◌≤◌, ℕ, List, [], ◌∷◌, length, map, Ok, Err, refl, sym, ap, ◌∙◌, subst, arith, inl, inr}
 use Rattle.std.proofs.lemmas.List.{length-map}
 use Rattle.io_ports.specs.Told.{Told}
-use Rattle.command_rows.specs.declared.table.Request.{Request}
+use Rattle.class_calls.specs.declared.command_rows.table.Request.{Request}
 use Rattle.jterm.specs.declared.verdict.Verdict.{Verdict}
 use Rattle.input_steps.specs.declared.refused.Place.{Place}
 use Rattle.input_steps.specs.declared.refused.Fault.{Fault}
 use Rattle.input_steps.specs.declared.refused.Refused.TheVariants.{At}
 use Rattle.jterm.specs.declared.inputs.Failure.TheVariants.{Broken}
-use Rattle.command_rows.specs.declared.table.Request.TheVariants.{Prove, Check, Run, Asm, Generate, Migrate, Bound, Loop, Its, Throws}
-use Rattle.command_rows.specs.Rows.{Takes}
-use Rattle.command_rows.proofs.OneCommand.{commands_taken}
+use Rattle.class_calls.specs.declared.command_rows.table.Request.TheVariants.{Prove, Check, Run, Asm, Generate, Migrate, Bound, Loop, Its, Throws}
+use Rattle.class_calls.specs.command_rows.Rows.{Takes}
+use Rattle.class_calls.proofs.OneCommand.{commands_taken}
 use Rattle.jterm.specs.Decision.{IsAnswer, HoldsClaim}
 use Rattle.jterm.specs.Outside.{AreContents}
 use Rattle.jterm.specs.inner.Failure.{AreOfCommand, IsAnswered, HasCause}
 use Rattle.jterm.proofs.ReadingOrder.{contents_length}
 use Rattle.check_call.specs.Answers as check
-use Rattle.migrate_call.specs.Answers as migrate
-use Rattle.loop_call.specs.Answers as looping
-use Rattle.bound_call.specs.Answers as bounding
-use Rattle.throws_call.specs.Answers as throws
+use Rattle.cert_calls.specs.migrate_call.Answers as migrate
+use Rattle.cert_calls.specs.loop_call.Answers as looping
+use Rattle.cert_calls.specs.bound_call.Answers as bounding
+use Rattle.cert_calls.specs.throws_call.Answers as throws
 use Rattle.jterm.proofs.Checking.{bound_judged, check_judged, migrate_judged, loop_judged, throws_judged, judged_low}
 use Rattle.jterm.proofs.Proving.{proved_low}
 use Rattle.jterm.proofs.Ruling.{ruled_low}

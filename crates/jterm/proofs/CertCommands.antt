@@ -5,18 +5,18 @@ use Rattle.std.proofs.lemmas.List.{length-map}
 use Rattle.list_views.proofs.Items.{take_length}
 use Rattle.input_steps.specs.declared.refused.Refused.{Refused}
 use Rattle.check_call.specs.declared.outcome.Outcome.{Outcome}
-use Rattle.migrate_call.specs.Answers as migrate
-use Rattle.migrate_call.specs.Headline.{IsMigratedIfDone}
-use Rattle.loop_call.specs.Answers as looping
-use Rattle.bound_call.specs.Answers as bounding
-use Rattle.bound_call.specs.Headline.{AllEndWithinIfDone}
-use Rattle.loop_call.specs.Headline.{AllGoOnIfDone}
-use Rattle.loop_call.specs.Lines.{no_line}
-use Rattle.throws_call.specs.Answers as throws
-use Rattle.throws_call.specs.Headline.{AllEndAsSaidIfDone}
-use Rattle.command_rows.specs.declared.table.Request.{Request}
-use Rattle.command_rows.specs.declared.table.Request.TheVariants.{Migrate, Bound, Loop, Throws}
-use Rattle.command_rows.specs.Rows.{Takes, least_files, row_at}
+use Rattle.cert_calls.specs.migrate_call.Answers as migrate
+use Rattle.cert_calls.specs.migrate_call.Headline.{IsMigratedIfDone}
+use Rattle.cert_calls.specs.loop_call.Answers as looping
+use Rattle.cert_calls.specs.bound_call.Answers as bounding
+use Rattle.cert_calls.specs.bound_call.Headline.{AllEndWithinIfDone}
+use Rattle.cert_calls.specs.loop_call.Headline.{AllGoOnIfDone}
+use Rattle.cert_calls.specs.loop_call.Lines.{no_line}
+use Rattle.cert_calls.specs.throws_call.Answers as throws
+use Rattle.cert_calls.specs.throws_call.Headline.{AllEndAsSaidIfDone}
+use Rattle.class_calls.specs.declared.command_rows.table.Request.{Request}
+use Rattle.class_calls.specs.declared.command_rows.table.Request.TheVariants.{Migrate, Bound, Loop, Throws}
+use Rattle.class_calls.specs.command_rows.Rows.{Takes, least_files, row_at}
 use Rattle.jterm.specs.declared.verdict.Verdict.{Verdict}
 use Rattle.jterm.specs.Decision.{Says, verdict_of, IsAnswer, HoldsClaim}
 use Rattle.jterm.proofs.Checking.{judged_with, judged_done, loop_judged}

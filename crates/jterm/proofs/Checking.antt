@@ -10,11 +10,11 @@ use Rattle.check_call.specs.Answers.{SayingValid, OfBytes, SaysAccepted}
 use Rattle.check_call.specs.Lines as lines
 use Rattle.check_call.specs.Headline.{AllEndIfAccepted}
 use Rattle.check_call.proofs.Outcomes.{IsRefusal, bytes_outcome}
-use Rattle.migrate_call.specs.Answers as migrate
-use Rattle.loop_call.specs.Answers as looping
-use Rattle.bound_call.specs.Answers as bounding
-use Rattle.loop_call.proofs.Outcomes.{IsLoopOutcome, loop_outcome}
-use Rattle.throws_call.specs.Answers as throws
+use Rattle.cert_calls.specs.migrate_call.Answers as migrate
+use Rattle.cert_calls.specs.loop_call.Answers as looping
+use Rattle.cert_calls.specs.bound_call.Answers as bounding
+use Rattle.cert_calls.proofs.Outcomes.{IsLoopOutcome, loop_outcome}
+use Rattle.cert_calls.specs.throws_call.Answers as throws
 use Rattle.jterm.specs.declared.verdict.Verdict.{Verdict}
 use Rattle.jterm.specs.Decision.{Says, IsRefusedLine, refused_with, verdict_of, Judged}
 

@@ -9,13 +9,13 @@ use Rattle.prove_call.specs.declared.answer.Answer.{Answer}
 use Rattle.prove_call.specs.Headline.{AllEndIfYes}
 use Rattle.its_call.specs.Answers.{IsEnding}
 use Rattle.its_call.specs.Lines as its
-use Rattle.run_call.specs.Answers as run
+use Rattle.class_calls.specs.run_call.Answers as run
 use Rattle.check_call.specs.declared.outcome.Outcome.{Outcome}
 use Rattle.check_call.specs.Answers as check
 use Rattle.check_call.specs.Headline.{AllEndIfAccepted}
-use Rattle.command_rows.specs.declared.table.Request.{Request}
-use Rattle.command_rows.specs.declared.table.Request.TheVariants.{Prove, Check, Run, Asm, Generate, Its}
-use Rattle.command_rows.specs.Rows.{Takes, least_files, row_at}
+use Rattle.class_calls.specs.declared.command_rows.table.Request.{Request}
+use Rattle.class_calls.specs.declared.command_rows.table.Request.TheVariants.{Prove, Check, Run, Asm, Generate, Its}
+use Rattle.class_calls.specs.command_rows.Rows.{Takes, least_files, row_at}
 use Rattle.jterm.specs.declared.verdict.Verdict.{Verdict}
 use Rattle.jterm.specs.Decision.{Says, Ruled, Proved, done_of, DoneWith, verdict_of, IsAnswer, HoldsClaim}
 use Rattle.jterm.proofs.Proving.{verdict_of_prove, proved_true}

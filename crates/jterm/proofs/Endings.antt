@@ -12,15 +12,15 @@ use Rattle.io_ports.specs.declared.files.FileFault.{FileFault}
 use Rattle.io_ports.specs.declared.files.FileFault.TheVariants.{Failed, TooLong, Missing, Memory}
 use Rattle.jterm.specs.declared.inputs.Failure.{Failure}
 use Rattle.jterm.specs.declared.inputs.Failure.TheVariants.{Unread, Broken, NoMemory}
-use Rattle.command_rows.specs.declared.table.Request.{Request}
-use Rattle.command_rows.specs.declared.table.Request.TheVariants.{Prove, Check, Run, Asm, Generate, Migrate, Bound, Loop, Its, Throws}
+use Rattle.class_calls.specs.declared.command_rows.table.Request.{Request}
+use Rattle.class_calls.specs.declared.command_rows.table.Request.TheVariants.{Prove, Check, Run, Asm, Generate, Migrate, Bound, Loop, Its, Throws}
 use Rattle.jterm.specs.declared.verdict.Verdict.{Verdict}
 use Rattle.input_steps.specs.declared.refused.Place.{Place}
 use Rattle.input_steps.specs.declared.refused.Fault.{Fault}
 use Rattle.input_steps.specs.declared.refused.Refused.{Refused}
 use Rattle.input_steps.specs.declared.refused.Refused.TheVariants as answers
 use Rattle.input_steps.specs.declared.refused.Refused.TheVariants.{At}
-use Rattle.command_rows.specs.Words.{IsCommand}
+use Rattle.class_calls.specs.command_rows.Words.{IsCommand}
 use Rattle.jterm.specs.Words.{IsProve, IsCheck, IsIts}
 use Rattle.input_steps.specs.Lines.{refusal_line}
 use Rattle.jterm.specs.Lines.{memory_line, read_line}
@@ -29,10 +29,10 @@ use Rattle.prove_core.specs.declared.found.Reason.{Reason}
 use Rattle.prove_call.specs.Lines.{yes_line, yes_text}
 use Rattle.check_call.specs.Answers as check
 use Rattle.check_call.specs.Lines.{accepted_line}
-use Rattle.migrate_call.specs.Answers as migrate
-use Rattle.loop_call.specs.Answers as looping
-use Rattle.bound_call.specs.Answers as bounding
-use Rattle.throws_call.specs.Answers as throws
+use Rattle.cert_calls.specs.migrate_call.Answers as migrate
+use Rattle.cert_calls.specs.loop_call.Answers as looping
+use Rattle.cert_calls.specs.bound_call.Answers as bounding
+use Rattle.cert_calls.specs.throws_call.Answers as throws
 use Rattle.jterm.specs.Decision.{Says, not_proved_for, left_for, accepted, refused_with, IsRefusedLine, IsAnswer, HoldsClaim, HasReason, IsUnproved}
 use Rattle.jterm.specs.Decision.{IsUnrefused}
 use Rattle.jterm.specs.Laws.{AreAlike}
@@ -42,7 +42,7 @@ use Rattle.jterm.specs.GenerateAnswers.{IsClass}
 use Rattle.jterm.specs.GenerateLines.{yes_begin}
 use Rattle.its_call.specs.Answers.{IsEnding}
 use Rattle.its_call.specs.Lines as its
-use Rattle.its_search.specs.declared.searching.ItsFound.{ItsFound}
+use Rattle.its_call.specs.declared.its_search.searching.ItsFound.{ItsFound}
 use Rattle.jterm.specs.Outside.{AreTold, AreContents, AreWithin, AreHanded, IsUnread, ReadFails, Decided, Begins, Claims, IsWritten}
 use Rattle.jterm.specs.Outside.{file_limits, behind}
 use Rattle.jterm.specs.inner.Failure.{IsAnswered, HasCause, HasLine, status_of, line_of}
@@ -51,7 +51,7 @@ use Rattle.jterm.proofs.Checking.{bound_judged, check_judged, migrate_judged, lo
 use Rattle.jterm.proofs.Making.{made_reason}
 use Rattle.jterm.proofs.Ruling.{ruled_low, ruled_left, ruled_reason}
 use Rattle.jterm.proofs.Proving.{proved_low, unproved, reason_kept, certifies}
-use Rattle.command_rows.proofs.OneCommand.{commands_one}
+use Rattle.class_calls.proofs.OneCommand.{commands_one}
 
 -- nothing is claimed where nothing is put
 pub unclaimed : {S : Type 0} (line : List ℕ) (taken : S → Option (List ℕ)) (sink : S) (status : ℕ) → 1 ≤ length line

@@ -2,7 +2,7 @@
 use Rattle.std.proofs.Common.{◌≡◌, ◌<◌, ℕ, List, [], length, take, get_or, eqb, Some, None, sym, ap, ◌∙◌}
 use Rattle.std.specs.Prelude.{position}
 use Rattle.std.proofs.Math.Seq.{take-length}
-use Rattle.text_lines.proofs.Divided.{parts_at, one_part}
+use Rattle.its_front.proofs.Divided.{parts_at, one_part}
 use Rattle.jterm.specs.GenerateLines.{first_line}
 
 abbrev first_of : List (List ℕ) → List ℕ

@@ -5,7 +5,7 @@ use Rattle.class_asm.specs.Classes.{assembled}
 use Rattle.input_steps.specs.declared.refused.Refused.{Refused}
 use Rattle.input_steps.specs.declared.refused.Refused.TheVariants.{At, Memory}
 use Rattle.input_steps.proofs.OneAnswer.{ok_one}
-use Rattle.asm_call.specs.Answers as asm
+use Rattle.class_calls.specs.asm_call.Answers as asm
 use Rattle.generate_text.specs.Listings.{listing_of}
 use Rattle.jterm.specs.declared.generate.Generated.{Generated}
 use Rattle.jterm.specs.GenerateAnswers.{IsClass, AnswersFiles, Answers}

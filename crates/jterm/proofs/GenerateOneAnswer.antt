@@ -11,7 +11,7 @@ use Rattle.input_steps.specs.declared.refused.Place.TheVariants as places
 use Rattle.input_steps.specs.declared.refused.Fault.{Fault}
 use Rattle.input_steps.specs.declared.refused.Fault.TheVariants as faults
 use Rattle.input_steps.proofs.OneAnswer.{at_one, ok_one, err_one, ok_err}
-use Rattle.asm_call.specs.Answers.{RefusesListing}
+use Rattle.class_calls.specs.asm_call.Answers.{RefusesListing}
 use Rattle.prove_call.specs.declared.answer.Answer.{Answer}
 use Rattle.prove_call.specs.Laws.{refusal_of}
 use Rattle.prove_call.proofs.OneAnswer as proving

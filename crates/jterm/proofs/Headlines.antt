@@ -2,14 +2,14 @@
 use Rattle.std.proofs.Common.{◌≡◌, ℕ, List, ◌∷◌, Option, sym, ◌∙◌, inl, inr, arith}
 use Rattle.std.specs.Io.KnownBytes.{Appends}
 use Rattle.io_ports.specs.Told.{Told}
-use Rattle.migrate_call.specs.Headline.{IsMigrated}
-use Rattle.loop_call.specs.Headline.{AllGoOnForEver}
-use Rattle.loop_call.specs.Lines.{no_line}
-use Rattle.throws_call.specs.Headline.{AllEndAsSaid}
-use Rattle.bound_call.specs.Headline.{AllEndWithin}
-use Rattle.command_rows.specs.declared.table.Request.{Request}
-use Rattle.command_rows.specs.declared.table.Request.TheVariants.{Migrate, Bound, Loop, Throws}
-use Rattle.command_rows.specs.Words.{IsCommand}
+use Rattle.cert_calls.specs.migrate_call.Headline.{IsMigrated}
+use Rattle.cert_calls.specs.loop_call.Headline.{AllGoOnForEver}
+use Rattle.cert_calls.specs.loop_call.Lines.{no_line}
+use Rattle.cert_calls.specs.throws_call.Headline.{AllEndAsSaid}
+use Rattle.cert_calls.specs.bound_call.Headline.{AllEndWithin}
+use Rattle.class_calls.specs.declared.command_rows.table.Request.{Request}
+use Rattle.class_calls.specs.declared.command_rows.table.Request.TheVariants.{Migrate, Bound, Loop, Throws}
+use Rattle.class_calls.specs.command_rows.Words.{IsCommand}
 use Rattle.jterm.specs.declared.verdict.Verdict.{Verdict}
 use Rattle.jterm.specs.Decision.{HoldsClaim}
 use Rattle.jterm.specs.Words.{IsMigrate, IsBound, IsLoop, IsThrows}

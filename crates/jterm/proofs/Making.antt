@@ -4,14 +4,14 @@ use Rattle.std.proofs.Common.{subst, inl, inr}
 use Rattle.std.specs.Prelude.{◌↔◌}
 use Rattle.abs_cells.specs.declared.packed.PackedPairs.{PackedPairs}
 use Rattle.input_steps.specs.declared.refused.Refused.{Refused}
-use Rattle.its_search.specs.declared.searching.ItsFound.{ItsFound}
+use Rattle.its_call.specs.declared.its_search.searching.ItsFound.{ItsFound}
 use Rattle.prove_core.specs.declared.found.Reason.{Reason}
 use Rattle.jterm.specs.declared.generate.Generated.{Generated}
 use Rattle.jterm.specs.GenerateAnswers as generate
 use Rattle.jterm.specs.GenerateHeadline.{SaysYes, AllEndIfYes}
 use Rattle.jterm.proofs.GenerateSaying.{yes_says, maybe_says_not}
-use Rattle.command_rows.specs.declared.table.Request.{Request}
-use Rattle.command_rows.specs.declared.table.Request.TheVariants.{Generate}
+use Rattle.class_calls.specs.declared.command_rows.table.Request.{Request}
+use Rattle.class_calls.specs.declared.command_rows.table.Request.TheVariants.{Generate}
 use Rattle.jterm.specs.declared.verdict.Verdict.{Verdict}
 use Rattle.jterm.specs.Decision.{Made, verdict_of_made, IsAnswer, HoldsClaim, HasReason}
 use Rattle.jterm.proofs.Deciding.{claimed}

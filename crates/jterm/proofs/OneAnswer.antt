@@ -1,8 +1,8 @@
 -- A request has one answer for the contents of its files.
 use Rattle.std.proofs.Common.{◌≡◌, ℕ, List, [], ◌∷◌, Option, Some, None, Result, Ok, Err, refl, sym, ap, ◌∙◌}
 use Rattle.std.specs.Prelude.{◌≢◌}
-use Rattle.asm_call.specs.Answers as asm
-use Rattle.asm_call.proofs.OneAnswer as assembling
+use Rattle.class_calls.specs.asm_call.Answers as asm
+use Rattle.class_calls.proofs.AsmOneAnswer as assembling
 use Rattle.jterm.specs.declared.generate.Generated.{Generated}
 use Rattle.jterm.specs.GenerateAnswers as generate
 use Rattle.jterm.proofs.GenerateOneAnswer as generating
@@ -21,18 +21,18 @@ use Rattle.prove_call.proofs.OneAnswer as proving
 use Rattle.check_call.specs.declared.outcome.Outcome.{Outcome}
 use Rattle.check_call.specs.Answers as check
 use Rattle.check_call.proofs.OneAnswer as checking
-use Rattle.migrate_call.specs.Answers as migrate
-use Rattle.migrate_call.proofs.OneAnswer as migrating
-use Rattle.loop_call.specs.Answers as looping
-use Rattle.bound_call.specs.Answers as bounding
-use Rattle.loop_call.proofs.OneAnswer as loops
-use Rattle.bound_call.proofs.OneAnswer as bounded
-use Rattle.throws_call.specs.Answers as throws
-use Rattle.throws_call.proofs.OneAnswer as reporting
-use Rattle.run_call.specs.Answers as run
-use Rattle.run_call.proofs.OneAnswer as running
-use Rattle.command_rows.specs.declared.table.Request.{Request}
-use Rattle.command_rows.specs.declared.table.Request.TheVariants.{Prove, Check, Run, Asm, Generate, Migrate, Bound, Loop, Its, Throws}
+use Rattle.cert_calls.specs.migrate_call.Answers as migrate
+use Rattle.cert_calls.proofs.MigrateOneAnswer as migrating
+use Rattle.cert_calls.specs.loop_call.Answers as looping
+use Rattle.cert_calls.specs.bound_call.Answers as bounding
+use Rattle.cert_calls.proofs.LoopOneAnswer as loops
+use Rattle.cert_calls.proofs.BoundOneAnswer as bounded
+use Rattle.cert_calls.specs.throws_call.Answers as throws
+use Rattle.cert_calls.proofs.ThrowsOneAnswer as reporting
+use Rattle.class_calls.specs.run_call.Answers as run
+use Rattle.class_calls.proofs.RunOneAnswer as running
+use Rattle.class_calls.specs.declared.command_rows.table.Request.{Request}
+use Rattle.class_calls.specs.declared.command_rows.table.Request.TheVariants.{Prove, Check, Run, Asm, Generate, Migrate, Bound, Loop, Its, Throws}
 use Rattle.jterm.specs.declared.verdict.Verdict.{Verdict}
 use Rattle.jterm.specs.Decision.{Ruled, Proved, DoneWith, Judged, Made, IsAnswer}
 use Rattle.jterm.specs.Laws.{AreAlike, AreOne}

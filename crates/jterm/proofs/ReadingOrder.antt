@@ -6,7 +6,7 @@ use Rattle.io_ports.specs.Count.{Rose}
 use Rattle.io_ports.specs.Told.{Told, IsContent, IsPastLimit, IsNotHeld}
 use Rattle.io_ports.specs.declared.files.FileFault.{FileFault}
 use Rattle.io_ports.specs.declared.files.FileFault.TheVariants.{Failed, TooLong, Missing, Memory}
-use Rattle.command_rows.specs.declared.table.Request.{Request}
+use Rattle.class_calls.specs.declared.command_rows.table.Request.{Request}
 use Rattle.jterm.specs.Outside.{AreContents, AreRead, behind}
 use Rattle.jterm.specs.inner.Failure.{HasCause, failure_at}
 

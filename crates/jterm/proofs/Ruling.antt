@@ -8,8 +8,8 @@ use Rattle.its_front.specs.declared.fault.ItsFault.{ItsFault}
 use Rattle.its_front.specs.declared.fault.ItsFault.TheVariants as ruled_faults
 use Rattle.its_front.specs.declared.reading.Its.{Its}
 use Rattle.its_front.specs.Reading.{rules_of}
-use Rattle.its_search.specs.declared.searching.ItsFound.{ItsFound}
-use Rattle.its_search.specs.declared.searching.ItsFound.TheVariants.{Proof, Left}
+use Rattle.its_call.specs.declared.its_search.searching.ItsFound.{ItsFound}
+use Rattle.its_call.specs.declared.its_search.searching.ItsFound.TheVariants.{Proof, Left}
 use Rattle.its_call.specs.declared.answer.ItsAnswer.{ItsAnswer}
 use Rattle.its_call.specs.Answers.{Answers, IsSaid, Tells, SaysYes, IsEnding, SystemEnds}
 use Rattle.its_call.specs.Lines.{yes_line}

@@ -4,15 +4,15 @@ use Rattle.std.specs.Prelude.{IfNone}
 use Rattle.jterm.specs.declared.top.Done.{Done}
 use Rattle.jterm.specs.declared.inputs.Failure.{Failure}
 use Rattle.jterm.specs.declared.inputs.Failure.TheVariants.{Unread, Broken, NoMemory}
-use Rattle.command_rows.specs.declared.table.Request.{Request}
+use Rattle.class_calls.specs.declared.command_rows.table.Request.{Request}
 use Rattle.jterm.specs.declared.verdict.Verdict.{Verdict}
-use Rattle.command_rows.specs.Words.{IsCommand}
-use Rattle.command_rows.specs.Usage.{usage_lines}
+use Rattle.class_calls.specs.command_rows.Words.{IsCommand}
+use Rattle.class_calls.specs.command_rows.Usage.{usage_lines}
 use Rattle.jterm.specs.Lines.{write_line}
 use Rattle.jterm.specs.Outside.{FirstAreRead, Puts, IsWithoutVerdict, IsWritten, file_limits}
 use Rattle.jterm.specs.CallEnds.{Change, Ports, CallEnds}
 use Rattle.jterm.specs.inner.Failure.{IsAnswered, HasCause}
-use Rattle.command_rows.proofs.OneCommand.{commands_one}
+use Rattle.class_calls.proofs.OneCommand.{commands_one}
 use Rattle.jterm.proofs.Endings as endings
 use Rattle.jterm.proofs.Endings.{Reports, not_low, not_four, done_is_no_usage}
 

@@ -6,8 +6,8 @@ use Rattle.io_ports.specs.Told.{Told}
 use Rattle.io_ports.specs.declared.files.FileFault.{FileFault}
 use Rattle.cert_form.specs.Limits.{most_certificate_bytes}
 use Rattle.jterm.specs.declared.top.Done.{Done}
-use Rattle.command_rows.specs.declared.table.Request.{Request}
-use Rattle.command_rows.specs.declared.table.Request.TheVariants.{Check}
+use Rattle.class_calls.specs.declared.command_rows.table.Request.{Request}
+use Rattle.class_calls.specs.declared.command_rows.table.Request.TheVariants.{Check}
 use Rattle.jterm.specs.declared.verdict.Verdict.{Verdict}
 use Rattle.input_steps.specs.declared.refused.Place.{Place}
 use Rattle.input_steps.specs.declared.refused.Fault.{Fault}
@@ -15,10 +15,10 @@ use Rattle.input_steps.specs.declared.refused.Refused.TheVariants.{At}
 use Rattle.input_steps.specs.Lines.{refusal_line}
 use Rattle.abs_cells.specs.declared.packed.PackedPairs.{PackedPairs}
 use Rattle.prove_core.specs.declared.found.Reason.{Reason}
-use Rattle.its_search.specs.declared.searching.ItsFound.{ItsFound}
+use Rattle.its_call.specs.declared.its_search.searching.ItsFound.{ItsFound}
 use Rattle.prove_call.specs.Lines.{yes_text}
-use Rattle.command_rows.specs.Usage.{usage_lines}
-use Rattle.command_rows.specs.Words.{IsCommand}
+use Rattle.class_calls.specs.command_rows.Usage.{usage_lines}
+use Rattle.class_calls.specs.command_rows.Words.{IsCommand}
 use Rattle.jterm.specs.Words.{IsProve}
 use Rattle.jterm.specs.Decision.{IsAnswer, IsUnrefused, not_proved_for, left_for, accepted, refused_with, IsRefusedLine}
 use Rattle.jterm.specs.Laws.{AreAlike}

@@ -1,7 +1,7 @@
 -- What `decide` answers, and why.
 use Rattle.std.specs.Prelude.{◌≡◌, ◌⊎◌, ℕ, List, [], ◌∷◌, ◌++◌, Some, None, Result, Ok, Err, ⊤}
 use Rattle.abs_cells.specs.declared.packed.PackedPairs.{PackedPairs}
-use Rattle.asm_call.specs.Answers as asm
+use Rattle.class_calls.specs.asm_call.Answers as asm
 use Rattle.jterm.specs.declared.generate.Generated.{Generated}
 use Rattle.jterm.specs.GenerateAnswers as generate
 use Rattle.jterm.specs.GenerateHeadline.{SaysYes}
@@ -9,7 +9,7 @@ use Rattle.generate_text.specs.Descriptions.{description}
 use Rattle.its_front.specs.declared.fault.ItsFault.{ItsFault}
 use Rattle.its_front.specs.declared.fault.ItsFault.TheVariants as ruled
 use Rattle.its_front.specs.Reading.{rules_of}
-use Rattle.its_search.specs.declared.searching.ItsFound.{ItsFound}
+use Rattle.its_call.specs.declared.its_search.searching.ItsFound.{ItsFound}
 use Rattle.its_call.specs.Answers.{IsSaid, IsEnding}
 use Rattle.its_call.specs.Lines as its
 use Rattle.input_steps.specs.declared.refused.Refused.{Refused}
@@ -22,24 +22,24 @@ use Rattle.input_steps.specs.Steps.{IsAt}
 use Rattle.check_call.specs.declared.outcome.Outcome.{Outcome}
 use Rattle.check_call.specs.Answers as check
 use Rattle.check_call.specs.Lines.{accepted_line, refused_line}
-use Rattle.migrate_call.specs.Answers as migrate
-use Rattle.migrate_call.specs.Headline.{IsMigrated}
-use Rattle.loop_call.specs.Answers as looping
-use Rattle.loop_call.specs.Headline.{AllGoOnForEver}
-use Rattle.loop_call.specs.Lines as loops
-use Rattle.throws_call.specs.Answers as throws
-use Rattle.bound_call.specs.Answers as bounding
-use Rattle.bound_call.specs.Headline.{AllEndWithin}
-use Rattle.bound_call.specs.Lines as bounds
-use Rattle.throws_call.specs.Headline.{AllEndAsSaid}
+use Rattle.cert_calls.specs.migrate_call.Answers as migrate
+use Rattle.cert_calls.specs.migrate_call.Headline.{IsMigrated}
+use Rattle.cert_calls.specs.loop_call.Answers as looping
+use Rattle.cert_calls.specs.loop_call.Headline.{AllGoOnForEver}
+use Rattle.cert_calls.specs.loop_call.Lines as loops
+use Rattle.cert_calls.specs.throws_call.Answers as throws
+use Rattle.cert_calls.specs.bound_call.Answers as bounding
+use Rattle.cert_calls.specs.bound_call.Headline.{AllEndWithin}
+use Rattle.cert_calls.specs.bound_call.Lines as bounds
+use Rattle.cert_calls.specs.throws_call.Headline.{AllEndAsSaid}
 use Rattle.prove_core.specs.declared.found.Reason.{Reason}
 use Rattle.prove_call.specs.declared.answer.Answer.{Answer}
 use Rattle.prove_call.specs.Answers as prove
 use Rattle.prove_call.specs.Lines.{yes_line}
 use Rattle.desc_steps.specs.Headline.{AllEnd}
-use Rattle.run_call.specs.Answers as run
-use Rattle.command_rows.specs.declared.table.Request.{Request}
-use Rattle.command_rows.specs.declared.table.Request.TheVariants.{Prove, Check, Run, Asm, Generate, Migrate, Bound, Loop, Its, Throws}
+use Rattle.class_calls.specs.run_call.Answers as run
+use Rattle.class_calls.specs.declared.command_rows.table.Request.{Request}
+use Rattle.class_calls.specs.declared.command_rows.table.Request.TheVariants.{Prove, Check, Run, Asm, Generate, Migrate, Bound, Loop, Its, Throws}
 use Rattle.jterm.specs.declared.verdict.Verdict.{Verdict}
 
 -- a verdict says a line: its status is 0, or its output begins with the line

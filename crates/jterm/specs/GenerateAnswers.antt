@@ -5,7 +5,7 @@ use Rattle.term_graph.specs.Limits.{most_nodes}
 use Rattle.input_steps.specs.declared.refused.Refused.{Refused}
 use Rattle.input_steps.specs.declared.refused.Refused.TheVariants.{At, Memory}
 use Rattle.input_steps.specs.Steps.{Then}
-use Rattle.asm_call.specs.Answers.{IsClassFile, RefusesListing}
+use Rattle.class_calls.specs.asm_call.Answers.{IsClassFile, RefusesListing}
 use Rattle.prove_core.specs.declared.found.Reason.{Reason}
 use Rattle.prove_call.specs.declared.answer.Answer.{Answer}
 use Rattle.prove_call.specs.Answers as prove

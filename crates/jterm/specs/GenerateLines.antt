@@ -2,7 +2,7 @@
 use Rattle.std.specs.Prelude.{ℕ, Bool, true, false, List, [], ◌∷◌, codes, get_or}
 use Rattle.std.specs.Fmt.{decimal}
 use Rattle.list_views.specs.FaultWords.{joined}
-use Rattle.text_lines.specs.LinesAndWords.{lines_of}
+use Rattle.its_front.specs.text_lines.LinesAndWords.{lines_of}
 
 -- the first line of a text; nothing of a text without lines
 abbrev pub first_line : List ℕ → List ℕ

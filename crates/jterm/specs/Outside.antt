@@ -9,13 +9,13 @@ use Rattle.io_ports.specs.declared.files.FileFault.{FileFault}
 use Rattle.io_ports.specs.declared.files.FileFault.TheVariants.{Failed, TooLong, Missing, Memory}
 use Rattle.cert_form.specs.Limits.{most_certificate_bytes}
 use Rattle.class_base.specs.Limits.{most_file_bytes}
-use Rattle.command_rows.specs.declared.table.Request.{Request}
-use Rattle.command_rows.specs.declared.row.FileWord.{FileWord}
-use Rattle.command_rows.specs.declared.row.FileWord.TheVariants.{Cert, Bounds}
-use Rattle.command_rows.specs.Rows.{row_at, file_at}
+use Rattle.class_calls.specs.declared.command_rows.table.Request.{Request}
+use Rattle.class_calls.specs.declared.command_rows.row.FileWord.{FileWord}
+use Rattle.class_calls.specs.declared.command_rows.row.FileWord.TheVariants.{Cert, Bounds}
+use Rattle.class_calls.specs.command_rows.Rows.{row_at, file_at}
 use Rattle.jterm.specs.declared.verdict.Verdict.{Verdict}
 use Rattle.input_steps.specs.declared.refused.Refused.{Refused}
-use Rattle.command_rows.specs.Words.{IsCommand}
+use Rattle.class_calls.specs.command_rows.Words.{IsCommand}
 use Rattle.jterm.specs.Decision.{IsAnswer}
 
 -- ---- files

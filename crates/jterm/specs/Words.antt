@@ -1,7 +1,7 @@
 -- The words of the commands that promises name: each is a row of the table of commands.
 use Rattle.std.specs.Prelude.{ℕ, List, [], ◌∷◌}
-use Rattle.command_rows.specs.declared.table.Request.TheVariants.{Prove, Check, Migrate, Bound, Loop, Its, Throws}
-use Rattle.command_rows.specs.Words.{IsCommand}
+use Rattle.class_calls.specs.declared.command_rows.table.Request.TheVariants.{Prove, Check, Migrate, Bound, Loop, Its, Throws}
+use Rattle.class_calls.specs.command_rows.Words.{IsCommand}
 
 -- `prove DESC CLASS..`, with a limit on nodes or without
 abbrev pub IsProve : List (List ℕ) → List ℕ → List (List ℕ) → Type 0

@@ -1,17 +1,17 @@
 //! Commands over certificates, over the bytes of their files.
 ghost use Rattle.std.specs.Prelude.{length, map, IfOk};
-ghost use Rattle.command_rows.specs.declared.table.Request.TheVariants.{Migrate, Bound, Loop, Throws};
-ghost use Rattle.command_rows.specs.Rows.{Takes};
+ghost use Rattle.class_calls.specs.declared.command_rows.table.Request.TheVariants.{Migrate, Bound, Loop, Throws};
+ghost use Rattle.class_calls.specs.command_rows.Rows.{Takes};
 ghost use Rattle.jterm.specs.Decision.{HoldsClaim, IsAnswer};
 
 use crate::decision::judged;
 use crate::verdict::Verdict;
-use bound_call::bound_line;
+use cert_calls::bound_call::bound_line;
+use cert_calls::loop_call::loop_line;
+use cert_calls::migrate_call::migrate_line;
+use cert_calls::throws_call::throws_line;
 use input_steps::Refused;
-use loop_call::loop_line;
-use migrate_call::migrate_line;
 use std::alloc::Global;
-use throws_call::throws_line;
 
 /// What `migrate` says of the bytes of a certificate, of a description and of classes.
 pub(crate) fn migrated(alloc: Global, inputs: &[Vec<u8>]) -> Result<Verdict, Refused>

@@ -1,19 +1,19 @@
 //! The decision over the bytes of the input files.
 ghost use Rattle.std.specs.Prelude.{◌≡◌, length, map, IfOk};
-ghost use Rattle.command_rows.specs.Rows.{Takes};
+ghost use Rattle.class_calls.specs.command_rows.Rows.{Takes};
 ghost use Rattle.jterm.specs.Decision.{HoldsClaim, IsAnswer, done_of, verdict_of, verdict_of_made};
 
 use crate::certs::{bounded, looped, migrated, reported};
 use crate::generate::{Generated, generate_line};
 use crate::rules::rules_verdict;
 use crate::verdict::Verdict;
-use asm_call::class_file;
 use check_call::{Outcome, check_line};
-use command_rows::Request;
+use class_calls::asm_call::class_file;
+use class_calls::command_rows::Request;
+use class_calls::run_call::run_line;
 use input_steps::Refused;
 use list_views::Seq;
 use prove_call::prove_line;
-use run_call::run_line;
 use std::alloc::Global;
 
 /// The verdict of a command that is done, with this output.

@@ -1,7 +1,7 @@
 //! The command `generate`.
 ghost use Rattle.std.specs.Prelude.{◌≡◌, ◌≤◌, ◌∷◌, [], ◌==◌, Ok, length, map};
 ghost use Rattle.class_base.specs.Limits.{most_classes};
-ghost use Rattle.asm_call.specs.Answers as asm;
+ghost use Rattle.class_calls.specs.asm_call.Answers as asm;
 ghost use Rattle.desc_steps.specs.Answers.{AnswersAs};
 ghost use Rattle.generate_text.specs.Listings.{listing_of};
 ghost use Rattle.jterm.specs.GenerateAnswers.{Proves, AnswersFiles, Answers};
@@ -11,7 +11,7 @@ ghost use Rattle.jterm.specs.inner.GenerateSaid.{generated_of};
 use crate::made_cert::is_accepted;
 use crate::made_line::{blocks_line, check_word, first_line};
 use abs_cells::PackedPairs;
-use asm_call::class_file;
+use class_calls::asm_call::class_file;
 use generate_text::{description, listing};
 use input_steps::Refused;
 use list_views::Seq;

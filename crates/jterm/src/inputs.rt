@@ -4,7 +4,7 @@ ghost use Rattle.jterm.specs.Outside.{AreContents, FirstAreRead, limit_at};
 ghost use Rattle.jterm.specs.inner.Failure.{HasCause, failure_at};
 ghost use Rattle.jterm.specs.declared.inputs.Failure.TheVariants.{NoMemory};
 
-use command_rows::{Asked, FileWord, Request};
+use class_calls::command_rows::{Asked, FileWord, Request};
 use input_steps::{Fault, Place};
 use io_ports::{FileFault, Files};
 use list_views::Bytes;

@@ -13,7 +13,7 @@ mod rules;
 mod top;
 mod verdict;
 
-pub use command_rows::Request;
+pub use class_calls::command_rows::Request;
 pub use decision::decide;
 pub use input_steps::{Fault, Place, Refused};
 pub use laws::{accepted_migrate, answers_are_one, certificates_are_accepted, reasons_are_kept};

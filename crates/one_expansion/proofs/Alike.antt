@@ -13,7 +13,7 @@ use Rattle.abs_cells.specs.declared.cells.Cell.{Cell}
 use Rattle.abs_cells.specs.AbstractStates.{AbstractFrame, AbstractState}
 use Rattle.abs_cells.specs.Cells.{ids_in, cell_in, cell_at, HasCell, AreEqual, Share}
 use Rattle.abs_cells.specs.Sound.{AreIdsRising, given_ids, ids_of_frame}
-use Rattle.abs_equal.proofs.Same.{state_same, pairs_same}
+use Rattle.abs_reach.proofs.Same.{state_same, pairs_same}
 use Rattle.abs_reach.specs.Reached.{named_steps, positions, IsReached}
 use Rattle.abs_heap.specs.Given.{IsPair, IsGiven}
 use Rattle.term_graph.specs.Graphs.{GraphChild}

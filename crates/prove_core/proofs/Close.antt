@@ -21,7 +21,7 @@ use Rattle.path_rules.specs.Rules.{rows_along, int_slot, size_slot, slots_of}
 use Rattle.path_rules.specs.Conditions.{IsBounded, AreBounded}
 use Rattle.path_rules.proofs.Finding.{have_sort}
 use Rattle.path_rules.proofs.Walking.{IsGoodStop}
-use Rattle.rule_links.specs.Links.{IsAmong}
+use Rattle.rank_forms.specs.rule_links.Links.{IsAmong}
 use Rattle.rank_forms.specs.Graphs.{HasClose, IsCloseInt}
 
 -- ---- rows among others

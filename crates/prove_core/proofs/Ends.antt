@@ -22,7 +22,7 @@ use Rattle.path_rules.proofs.Finding.{ids_in_cells}
 use Rattle.path_rules.proofs.Ready.{no_rides, ride_first}
 use Rattle.path_rules.proofs.PatternLists.{pattern_first, pattern_later}
 use Rattle.path_rules.proofs.Walking.{IsGoodStop}
-use Rattle.rule_links.specs.Positions.{same}
+use Rattle.rank_forms.specs.rule_links.Positions.{same}
 use Rattle.rank_forms.specs.Graphs.{AreNamed, head_of, heads, ids_of}
 
 -- ---- their ids rise

@@ -17,7 +17,7 @@ use Rattle.descent.specs.Rankings.{form_at, is_slot_of, slot_at, have_slots, siz
 use Rattle.descent.specs.Steps.{rule_of, ranking_of}
 use Rattle.rank_forms.specs.RankSteps.{FormsRise, HaveNoSizes}
 use Rattle.chain_proofs.specs.Lean.{IsOwnCut, IsLeanRank}
-use Rattle.cert_write.specs.Readable.{AreMultiples, OnlyWith, IsForm, RisesBy}
+use Rattle.cert_form.specs.cert_write.Readable.{AreMultiples, OnlyWith, IsForm, RisesBy}
 use Rattle.prove_core.specs.ReadableRules.{AreLow, IsReadableRule}
 use Rattle.prove_core.proofs.Multipliers.{IsFitting, IsFittingIn}
 

@@ -21,7 +21,7 @@ use Rattle.descent.specs.Rankings.{Ranking, weigh_of, weak_fault, strict_fault, 
 use Rattle.descent.specs.Rankings.{start_of, takes_start, takes_end}
 use Rattle.descent.specs.Steps.{rule_of, listed_fault, ranking_fault}
 use Rattle.chain_proofs.proofs.Renumbered.{edge_none, one_listed}
-use Rattle.cert_write.specs.Readable.{IsMultiplier}
+use Rattle.cert_form.specs.cert_write.Readable.{IsMultiplier}
 
 -- ---- multipliers that are not refused
 

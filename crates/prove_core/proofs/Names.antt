@@ -9,7 +9,7 @@ use Rattle.class_world.specs.declared.fault.LinkFault.TheVariants.{DuplicateClas
 use Rattle.class_world.specs.lemmas.Linked.{linked_from}
 use Rattle.class_world.specs.Linking.{is_array_interface, duplicate_class, is_linked}
 use Rattle.class_world.specs.World.{World, class_of}
-use Rattle.cert_write.specs.Readable.{AreDistinct}
+use Rattle.cert_form.specs.cert_write.Readable.{AreDistinct}
 
 -- the class of a name that stands somewhere
 named_at : (classes : List ClassContent) (n : ℕ) (name : List ℕ)

@@ -6,7 +6,7 @@ use Rattle.std.proofs.lemmas.Option.{none-some, same_Some}
 use Rattle.term_graph.specs.declared.nodes.By.{By}
 use Rattle.term_graph.specs.Graphs.{GraphNode, GraphPart}
 use Rattle.cert_form.specs.Certificates.{lacks_state}
-use Rattle.cert_write.specs.Data.{part_of, parts_from}
+use Rattle.cert_form.specs.cert_write.Data.{part_of, parts_from}
 use Rattle.graph_fill.specs.Laws.{IsStateOrNone, ArePartsOf}
 
 -- the parts behind those in front

@@ -22,8 +22,8 @@ use Rattle.cert_form.specs.Certificates.{CertContent, cert_of, SaysOf}
 use Rattle.cert_check.specs.declared.refusal.Cause.{Cause}
 use Rattle.cert_check.specs.Parts.{case_of}
 use Rattle.cert_check.specs.Valid.{IsFirstFault}
-use Rattle.cert_write.specs.Data.{content_of}
-use Rattle.cert_write.specs.Readable.{IsNumber, IsReadableGraph}
+use Rattle.cert_form.specs.cert_write.Data.{content_of}
+use Rattle.cert_form.specs.cert_write.Readable.{IsNumber, IsReadableGraph}
 use Rattle.cert_verdict.specs.declared.verdict.CertVerdict.{CertVerdict}
 use Rattle.cert_verdict.specs.declared.verdict.CertVerdict.TheVariants.{Accepted, Refused, NoText}
 use Rattle.cert_verdict.specs.Verdicts.{SaysFaulty, SaysNone, Judges}

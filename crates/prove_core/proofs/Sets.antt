@@ -19,7 +19,7 @@ use Rattle.chain_proofs.specs.inner.Dealt.{IsSet, AreSets}
 use Rattle.chain_proofs.proofs.Charging.{part_set}
 use Rattle.chain_proofs.proofs.Spending.{sets_more}
 use Rattle.cert_form.specs.Steps.{number_of}
-use Rattle.cert_write.specs.Readable.{IsNumber, IsMaybe, RisesBy}
+use Rattle.cert_form.specs.cert_write.Readable.{IsNumber, IsMaybe, RisesBy}
 
 -- ---- what steps are given
 

@@ -40,7 +40,7 @@ use Rattle.path_rules.proofs.PatternIds.{pattern_variables}
 use Rattle.path_rules.proofs.PatternLists.{pattern_first, pattern_later}
 use Rattle.path_rules.proofs.Picking.{get_back}
 use Rattle.path_rules.proofs.Walking.{IsGoodStop, of_sort, sized_by, IsGoodLeg, AreGoodAlong, good_first}
-use Rattle.rule_links.specs.Links.{IsAmong, HasBound}
+use Rattle.rank_forms.specs.rule_links.Links.{IsAmong, HasBound}
 use Rattle.rank_forms.specs.Graphs.{IsSizeSlot, IsOneKind}
 use Rattle.prove_core.proofs.Close.{among_along, among_second}
 use Rattle.prove_core.proofs.RuleRows.{few_size_terms}

@@ -28,7 +28,7 @@ use Rattle.chain_proofs.specs.inner.Dealt.{IsSet, AreSets}
 use Rattle.chain_proofs.specs.Lean.{IsLeanRank, IsLeanStep}
 use Rattle.chain_proofs.proofs.Renumbered.{listed_are}
 use Rattle.chain_proofs.proofs.Spending.{set_given, sets_first, weak_rise, weak_below}
-use Rattle.cert_write.specs.Readable.{IsNumber, IsMaybe, IsMultiplier, IsForm, IsRule, IsRank, IsStep, OnlyWith}
+use Rattle.cert_form.specs.cert_write.Readable.{IsNumber, IsMaybe, IsMultiplier, IsForm, IsRule, IsRank, IsStep, OnlyWith}
 use Rattle.prove_core.specs.TextLaws.{ProofsAreReadable}
 use Rattle.prove_core.specs.ReadableRules.{IsReadableRule, AreReadableRules}
 use Rattle.prove_core.proofs.Multipliers.{HasSmall, IsFittingIn, all_fit}

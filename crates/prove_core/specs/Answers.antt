@@ -3,7 +3,7 @@ use Rattle.std.specs.Prelude.{◌≡◌, ℕ, ◌≤◌, List, length, Result, O
 use Rattle.serde_json.specs.Written.{compact_text}
 use Rattle.cert_form.specs.Certificates.{CertContent}
 use Rattle.cert_form.specs.Limits.{most_certificate_bytes}
-use Rattle.cert_write.specs.Data.{certificate}
+use Rattle.cert_form.specs.cert_write.Data.{certificate}
 use Rattle.cert_verdict.specs.Verdicts as verdict
 use Rattle.prove_core.specs.declared.found.Found.{Found}
 use Rattle.prove_core.specs.declared.found.Found.TheVariants.{Certificate, Maybe}

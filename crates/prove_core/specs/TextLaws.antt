@@ -13,8 +13,8 @@ use Rattle.graph_build.specs.Disciplined.{IsNode, IsDisciplined}
 use Rattle.graph_check.specs.Good.{GraphOk}
 use Rattle.graph_fill.specs.Laws.{ArePartsOf}
 use Rattle.graph_laws.specs.Growth.{growth_by}
-use Rattle.cert_write.specs.Data.{parts_from}
-use Rattle.cert_write.specs.Readable.{IsNode as IsReadableNode}
+use Rattle.cert_form.specs.cert_write.Data.{parts_from}
+use Rattle.cert_form.specs.cert_write.Readable.{IsNode as IsReadableNode}
 use Rattle.prove_core.specs.Stored.{IsStoredGraph}
 use Rattle.class_world.specs.Linking.{is_linked}
 use Rattle.class_world.specs.World.{World}
@@ -23,7 +23,7 @@ use Rattle.descent.specs.declared.rules.PathRule.{PathRule}
 use Rattle.descent.specs.Conditions.{AreSteps}
 use Rattle.descent.specs.Steps.{proof_fault}
 use Rattle.chain_proofs.specs.Lean.{AreLean}
-use Rattle.cert_write.specs.Readable.{IsStep, AreDistinct}
+use Rattle.cert_form.specs.cert_write.Readable.{IsStep, AreDistinct}
 use Rattle.prove_core.specs.ReadableRules.{AreReadableRules}
 
 -- A closed proof without idle steps is readable, where its steps are within the limits of proofs, and the ids and rows of its rules are

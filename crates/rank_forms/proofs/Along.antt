@@ -12,14 +12,14 @@ use Rattle.descent.specs.declared.rules.PathRule.{PathRule}
 use Rattle.descent.specs.declared.rules.Place.{Place}
 use Rattle.descent.specs.declared.rules.SlotForm.{SlotForm}
 use Rattle.rank_forms.specs.declared.following.Followed.{Followed}
-use Rattle.rule_links.specs.declared.links.Come.{Come}
+use Rattle.rank_forms.specs.declared.rule_links.links.Come.{Come}
 use Rattle.rank_forms.specs.inner.Following.{SmallConstants, TellsBetween}
 use Rattle.rank_forms.specs.Following.{TellsFollowed}
-use Rattle.rule_links.specs.Links.{IsWay}
-use Rattle.rule_links.specs.Positions.{is_at, slot_at}
-use Rattle.rule_links.specs.Ties.{Known, variable_at}
-use Rattle.rule_links.specs.FallLinks.{IsFallLink, StepsDown}
-use Rattle.rule_links.proofs.Changed.{stands_is, stands_at}
+use Rattle.rank_forms.specs.rule_links.Links.{IsWay}
+use Rattle.rank_forms.specs.rule_links.Positions.{is_at, slot_at}
+use Rattle.rank_forms.specs.rule_links.Ties.{Known, variable_at}
+use Rattle.rank_forms.specs.rule_links.FallLinks.{IsFallLink, StepsDown}
+use Rattle.rank_forms.proofs.Changed.{stands_is, stands_at}
 
 -- what holds of all slots holds of the one at a place
 fits_cases : (P : SlotForm → Type 0) (here : Bool) (first slot : SlotForm) (found : Option SlotForm) → P first

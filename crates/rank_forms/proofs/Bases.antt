@@ -18,7 +18,7 @@ use Rattle.rank_forms.specs.declared.following.Bound.{Bound}
 use Rattle.rank_forms.specs.declared.following.Followed.{Followed}
 use Rattle.rank_forms.specs.Forms.{base_of_bound, greater_of, list_from, listed_as, listed_by, needed, or_zero, strict_bound}
 use Rattle.rank_forms.specs.RankSteps.{has_strict, is_strict}
-use Rattle.rule_links.proofs.Rests.{IsRest, rest_first, rest_more}
+use Rattle.rank_forms.proofs.Rests.{IsRest, rest_first, rest_more}
 
 -- a number that may be there is at least another one
 abbrev IsHigh : Option ℤ → ℤ → Type 0

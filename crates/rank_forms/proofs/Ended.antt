@@ -5,12 +5,12 @@ use Rattle.descent.specs.declared.rules.PathRule.{PathRule}
 use Rattle.descent.specs.declared.rules.Place.{Place}
 use Rattle.rank_forms.specs.declared.following.Followed.{Followed}
 use Rattle.rank_forms.specs.declared.reasons.Reasons.{Reasons}
-use Rattle.rule_links.specs.declared.links.Tie.{Tie}
-use Rattle.rule_links.specs.Positions.{AreEnds}
-use Rattle.rule_links.specs.Ties.{variable_at}
+use Rattle.rank_forms.specs.declared.rule_links.links.Tie.{Tie}
+use Rattle.rank_forms.specs.rule_links.Positions.{AreEnds}
+use Rattle.rank_forms.specs.rule_links.Ties.{variable_at}
 use Rattle.rank_forms.specs.Reasons.{TellsInt, TellsIntAt, followed_of}
 use Rattle.rank_forms.specs.SizeReasons.{TellsSizeAt, TellsSizeReasons}
-use Rattle.rule_links.proofs.Changed.{stands_at, stands_is}
+use Rattle.rank_forms.proofs.Changed.{stands_at, stands_is}
 
 ends_there : (size : Bool) (rule : PathRule) (place : Place) (start finish : ℕ) → variable_at rule.first size place ≡ Some start
     → variable_at rule.last size place ≡ Some finish → AreEnds rule size place start finish

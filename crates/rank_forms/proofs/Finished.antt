@@ -8,13 +8,13 @@ use Rattle.std.proofs.lemmas.Bool.Decides.{nat_tests}
 use Rattle.std.proofs.lemmas.List.{get_or-set_same, get_or-set_other, length-replicate}
 use Rattle.std.proofs.lemmas.List.Sums.{sum_by-cons, sum_by-set}
 use Rattle.std.proofs.lemmas.Option.{same_Some}
-use Rattle.rule_links.specs.declared.links.Come.{Come}
-use Rattle.rule_links.specs.declared.links.Tie.{Tie}
-use Rattle.rule_links.specs.Ties.{IsFinished, Known, any_moves, begun, by_of, moves, passed, relaxed, span_from, step}
-use Rattle.rule_links.specs.inner.Searching.{unknown}
-use Rattle.rule_links.specs.Ties.{last_of, trail_by, trail_from}
-use Rattle.rule_links.proofs.FallRows.{Each}
-use Rattle.rule_links.proofs.Reached.{gone, kept_cases, move_is, none_before, relaxed_length, relaxed_still, step_unknown}
+use Rattle.rank_forms.specs.declared.rule_links.links.Come.{Come}
+use Rattle.rank_forms.specs.declared.rule_links.links.Tie.{Tie}
+use Rattle.rank_forms.specs.rule_links.Ties.{IsFinished, Known, any_moves, begun, by_of, moves, passed, relaxed, span_from, step}
+use Rattle.rank_forms.specs.rule_links.inner.Searching.{unknown}
+use Rattle.rank_forms.specs.rule_links.Ties.{last_of, trail_by, trail_from}
+use Rattle.rank_forms.proofs.FallRows.{Each}
+use Rattle.rank_forms.proofs.Reached.{gone, kept_cases, move_is, none_before, relaxed_length, relaxed_still, step_unknown}
 use Rattle.rank_forms.proofs.Trailed.{IsTrail}
 
 -- ---- one list

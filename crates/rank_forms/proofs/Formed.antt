@@ -25,7 +25,7 @@ use Rattle.descent.specs.Rankings
 use Rattle.descent.specs.Rankings.{constant_of, entry_constant, entry_terms, form_at, have_slots, scaled, terms_of}
 use Rattle.rank_forms.specs.Forms.{AreCuts, IsIn, RiseTo, alone, form_of, forms_over, id_of, ids_at, joined, multiples_at, slots_for}
 use Rattle.rank_forms.specs.Graphs.{AreNamed, ArePathRules, IsPathRule, IsEndAt, heads, ids_of}
-use Rattle.rule_links.specs.Positions.{IsVariable, StandsAt, slot_at}
+use Rattle.rank_forms.specs.rule_links.Positions.{IsVariable, StandsAt, slot_at}
 use Rattle.rank_forms.specs.RankSteps.{FormsRise, HaveNoSizes}
 use Rattle.rank_forms.proofs.Lined.{AreEntries, AreLines, IsLine, line_of_ints, line_of_sizes, ranking_with, slot_nothing}
 use Rattle.rank_forms.proofs.Slotted.{named_low, same_id, slot_by_id, slots_stand}

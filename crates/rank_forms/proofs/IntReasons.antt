@@ -17,23 +17,23 @@ use Rattle.lin_core.specs.Rows.{coefficient_of}
 use Rattle.lin_core.specs.Weights.{AreRows, row_under, rows_under, unweighed}
 use Rattle.lin_core.proofs.Signs.{mul-zero_ℤ}
 use Rattle.rank_forms.specs.declared.following.BoundRow.{BoundRow}
-use Rattle.rule_links.specs.declared.links.Beside.{Beside}
-use Rattle.rule_links.specs.declared.links.Come.{Come}
-use Rattle.rule_links.specs.declared.links.Link.{Link}
-use Rattle.rule_links.specs.declared.links.Tie.{Tie}
+use Rattle.rank_forms.specs.declared.rule_links.links.Beside.{Beside}
+use Rattle.rank_forms.specs.declared.rule_links.links.Come.{Come}
+use Rattle.rank_forms.specs.declared.rule_links.links.Link.{Link}
+use Rattle.rank_forms.specs.declared.rule_links.links.Tie.{Tie}
 use Rattle.rank_forms.specs.inner.Following.{unit}
 use Rattle.rank_forms.specs.Graphs.{HasClose, IsShort}
 use Rattle.rank_forms.specs.Reasons.{beside_entries, close_from, int_entries, int_made, int_tie_entries, is_close, often, side}
 use Rattle.rank_forms.specs.Reasons.{signed, taken_out}
-use Rattle.rule_links.specs.Ties.{IsFinished, Known, is_bound, ties_from, trail_from}
-use Rattle.rule_links.proofs.FallRows.{Each}
-use Rattle.rule_links.proofs.Rests.{IsRest, rest_all, rest_first, rest_more}
+use Rattle.rank_forms.specs.rule_links.Ties.{IsFinished, Known, is_bound, ties_from, trail_from}
+use Rattle.rank_forms.proofs.FallRows.{Each}
+use Rattle.rank_forms.proofs.Rests.{IsRest, rest_all, rest_first, rest_more}
 use Rattle.rank_forms.proofs.Finished.{AreLow, gone_back}
 use Rattle.rank_forms.proofs.IntRows.{AreBeside, IsIntTie, IsRowOf, IsThree, IsTwo, Leads, SaysInt, row_of, ties_ways}
 use Rattle.rank_forms.proofs.Reasoned.{IsReasoned}
 use Rattle.rank_forms.proofs.RowValues.{row_allowed, row_constant, row_value, under_constant, under_terms, zero_allowed}
 use Rattle.rank_forms.proofs.Stepped.{under_at}
-use Rattle.rule_links.proofs.Tied.{bound_told}
+use Rattle.rank_forms.proofs.Tied.{bound_told}
 use Rattle.rank_forms.proofs.Trailed.{AreShifts, IsShift, IsTrail, no_shift, shift_more}
 
 -- ---- so many times a number, or its negative

@@ -8,7 +8,7 @@ use Rattle.std.proofs.lemmas.Bool.{and_parts}
 use Rattle.std.proofs.lemmas.Bool.Decides.{Decides-int_eq}
 use Rattle.std.proofs.lemmas.Int.{ints}
 use Rattle.std.proofs.lemmas.Option.{same_Some, none-some}
-use Rattle.rule_links.proofs.Fallen.{none_is, kind_is as equation_is}
+use Rattle.rank_forms.proofs.Fallen.{none_is, kind_is as equation_is}
 use Rattle.list_views.proofs.Quantified.{all_at as at}
 use Rattle.list_views.proofs.Orders.{int_eq_true}
 use Rattle.lin_core.specs.declared.rows.RowKind.TheVariants.{AtLeastZero, IsZero}
@@ -16,17 +16,17 @@ use Rattle.lin_core.specs.declared.rows.WRow.{WRow}
 use Rattle.lin_core.specs.Rows.{coefficient_of, Rise}
 use Rattle.lin_core.specs.Weights.{AreRows, IsRow}
 use Rattle.lin_core.proofs.Signs.{mul-zero_ℤ}
-use Rattle.rule_links.specs.declared.links.Beside.{Beside}
-use Rattle.rule_links.specs.declared.links.Link.{Link}
-use Rattle.rule_links.specs.declared.links.Tie.{Tie}
+use Rattle.rank_forms.specs.declared.rule_links.links.Beside.{Beside}
+use Rattle.rank_forms.specs.declared.rule_links.links.Link.{Link}
+use Rattle.rank_forms.specs.declared.rule_links.links.Tie.{Tie}
 use Rattle.rank_forms.specs.inner.Following.{unit}
 use Rattle.rank_forms.specs.Graphs.{IsShort}
 use Rattle.rank_forms.specs.Reasons.{signed}
-use Rattle.rule_links.specs.Ties.{beside_ties, constant_at, fixed_from, has_none, is_alone, is_bound, is_inequality, order_of}
-use Rattle.rule_links.specs.Ties.{row_ties, terms_ties, ties_at, ties_beside, ties_from, ties_of}
-use Rattle.rule_links.proofs.FallRows.{Each, each_both, each_chosen}
-use Rattle.rule_links.proofs.Rests.{IsRest, rest_all, rest_first, rest_more}
-use Rattle.rule_links.proofs.Tied.{alone_is, found_is, kind_is, most_is}
+use Rattle.rank_forms.specs.rule_links.Ties.{beside_ties, constant_at, fixed_from, has_none, is_alone, is_bound, is_inequality, order_of}
+use Rattle.rank_forms.specs.rule_links.Ties.{row_ties, terms_ties, ties_at, ties_beside, ties_from, ties_of}
+use Rattle.rank_forms.proofs.FallRows.{Each, each_both, each_chosen}
+use Rattle.rank_forms.proofs.Rests.{IsRest, rest_all, rest_first, rest_more}
+use Rattle.rank_forms.proofs.Tied.{alone_is, found_is, kind_is, most_is}
 
 -- a row by its number that says of a variable alone that so many times it, and a constant, is at least 0
 pub record IsRowOf (rows : List WRow) (n variable : ℕ) (times constant : ℤ) : Type 0 where

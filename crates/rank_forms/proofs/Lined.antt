@@ -22,7 +22,7 @@ use Rattle.descent.specs.Rankings.{end_of, strict_fault, takes_end, takes_start,
 use Rattle.rank_forms.specs.declared.following.Bound.{Bound}
 use Rattle.rank_forms.specs.declared.following.Followed.{Followed}
 use Rattle.rank_forms.specs.Following.{IsBoundAt, IsFollowed}
-use Rattle.rule_links.specs.Positions.{IsVariable}
+use Rattle.rank_forms.specs.rule_links.Positions.{IsVariable}
 
 -- the ranking by these forms
 abbrev pub ranking_with : Bool → List (ℕ × ℤ) → List CutForm → Ranking

@@ -7,10 +7,10 @@ use Rattle.lin_core.proofs.Coefficients.{coefficient_both}
 use Rattle.lin_core.specs.Combination.{sum_of, AllAllowed}
 use Rattle.lin_core.specs.Rows.{Row, coefficient_of}
 use Rattle.rank_forms.specs.declared.reasons.Reasons.{Reasons}
-use Rattle.rule_links.specs.Counting.{multipliers_of}
+use Rattle.rank_forms.specs.rule_links.Counting.{multipliers_of}
 use Rattle.rank_forms.specs.Following.{IsBoundAt, IsFollowed}
 use Rattle.rank_forms.specs.Reasons.{both_reasons, followed_by}
-use Rattle.rule_links.proofs.Counted.{multipliers_are, both_small}
+use Rattle.rank_forms.proofs.Counted.{multipliers_are, both_small}
 use Rattle.rank_forms.proofs.Trailed.{allowed_both, size_both, sum_both}
 
 -- the rows show what falls from the start to the end, and what is to be added at the start; no row counts more than `most` times

@@ -15,16 +15,16 @@ use Rattle.lin_core.specs.Combination.{sum_of, AllAllowed}
 use Rattle.lin_core.specs.Rows.{RiseFrom, coefficient_of}
 use Rattle.lin_core.specs.Weights.{rows_under}
 use Rattle.lin_core.proofs.Signs.{mul-zero_ℤ}
-use Rattle.rule_links.specs.declared.links.Link.{Link}
+use Rattle.rank_forms.specs.declared.rule_links.links.Link.{Link}
 use Rattle.rank_forms.specs.inner.Following.{unit}
-use Rattle.rule_links.specs.Links.{HasBound}
+use Rattle.rank_forms.specs.rule_links.Links.{HasBound}
 use Rattle.rank_forms.specs.Reasons.{part_entries, part_entry, part_times, row_times}
-use Rattle.rule_links.specs.Falls.{is_zero, zero_from}
-use Rattle.rule_links.specs.Ties.{is_bound}
-use Rattle.rule_links.proofs.Rests.{IsRest, rest_all, rest_first, rest_more}
+use Rattle.rank_forms.specs.rule_links.Falls.{is_zero, zero_from}
+use Rattle.rank_forms.specs.rule_links.Ties.{is_bound}
+use Rattle.rank_forms.proofs.Rests.{IsRest, rest_all, rest_first, rest_more}
 use Rattle.rank_forms.proofs.IntRows.{IsRowOf, row_of}
 use Rattle.rank_forms.proofs.RowValues.{row_allowed, row_constant, row_value}
-use Rattle.rule_links.proofs.Tied.{bound_told, found_cases}
+use Rattle.rank_forms.proofs.Tied.{bound_told, found_cases}
 use Rattle.rank_forms.proofs.Trailed.{allowed_both, sum_both}
 
 -- ---- the row that a variable is at least 0

@@ -12,20 +12,20 @@ use Rattle.lin_core.specs.Combination.{sum_of}
 use Rattle.lin_core.specs.Rows.{RiseFrom, coefficient_of, value_of_terms}
 use Rattle.lin_core.specs.Weights.{AreRows, IsRow, row_under, rows_under}
 use Rattle.lin_core.proofs.Signs.{mul-zero_ℤ}
-use Rattle.rule_links.specs.declared.links.Come.{Come}
-use Rattle.rule_links.specs.declared.links.Link.{Link}
-use Rattle.rule_links.specs.declared.links.Tie.{Tie}
+use Rattle.rank_forms.specs.declared.rule_links.links.Come.{Come}
+use Rattle.rank_forms.specs.declared.rule_links.links.Link.{Link}
+use Rattle.rank_forms.specs.declared.rule_links.links.Tie.{Tie}
 use Rattle.rank_forms.specs.inner.Following.{unit}
 use Rattle.rank_forms.specs.Graphs.{AreSizeTerms, IsOneKind}
-use Rattle.rule_links.specs.SizeLinks.{weighed_once}
+use Rattle.rank_forms.specs.rule_links.SizeLinks.{weighed_once}
 use Rattle.rank_forms.specs.Reasons.{part_entries, size_entries, size_tie_entries, terms_at}
-use Rattle.rule_links.specs.Falls.{AreRising, IsLongest, size_constant, IsSizeTie, SaysSize, zero_from}
-use Rattle.rule_links.specs.Ties.{Known, trail_from}
+use Rattle.rank_forms.specs.rule_links.Falls.{AreRising, IsLongest, size_constant, IsSizeTie, SaysSize, zero_from}
+use Rattle.rank_forms.specs.rule_links.Ties.{Known, trail_from}
 use Rattle.rank_forms.specs.SizeReasons.{AreSizeTies, size_made}
 use Rattle.rank_forms.proofs.Along.{known_within}
 use Rattle.rank_forms.proofs.Reasoned.{IsReasoned}
 use Rattle.rank_forms.proofs.RowValues.{row_allowed, row_constant, row_value, under_number, under_terms, zero_allowed}
-use Rattle.rule_links.proofs.Sized.{HasTerm, has_term}
+use Rattle.rank_forms.proofs.Sized.{HasTerm, has_term}
 use Rattle.rank_forms.proofs.SizeParts.{AreParts, AreShortTerms, IsPart, parts_out, times_in, zero_row_is}
 use Rattle.rank_forms.proofs.Stepped.{two_coefficients, under_at}
 use Rattle.rank_forms.proofs.Trailed.{AreShifts, IsShift, IsTrail, no_shift, shift_more, trail_is, trail_short}

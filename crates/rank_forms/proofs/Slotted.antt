@@ -13,7 +13,7 @@ use Rattle.descent.specs.declared.rules.Place.{Place}
 use Rattle.descent.specs.declared.rules.SlotForm.{SlotForm}
 use Rattle.rank_forms.specs.Forms.{slots_for}
 use Rattle.rank_forms.specs.Graphs.{IsEndAt, head_of, heads, ids_of}
-use Rattle.rule_links.specs.Positions.{is_at, is_place, same, slot_at}
+use Rattle.rank_forms.specs.rule_links.Positions.{is_at, is_place, same, slot_at}
 
 -- a slot of the kind that comes later has a greater id
 record IsAbove (size : Bool) (low : ℕ) (slot : SlotForm) : Type 0 where

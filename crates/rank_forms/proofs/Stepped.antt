@@ -11,8 +11,8 @@ use Rattle.std.proofs.lemmas.Bool.Decides.{Decides-int_eq}
 use Rattle.std.proofs.lemmas.Int.{ints}
 use Rattle.std.proofs.lemmas.List.{length-map}
 use Rattle.std.proofs.lemmas.Option.{slice_get-map, slice_get_within, same_Some, none-some}
-use Rattle.rule_links.proofs.Tied.{alone_is}
-use Rattle.rule_links.proofs.Fallen.{swapped}
+use Rattle.rank_forms.proofs.Tied.{alone_is}
+use Rattle.rank_forms.proofs.Fallen.{swapped}
 use Rattle.list_views.proofs.Quantified.{all_at as at}
 use Rattle.list_views.proofs.Ring.{times_minus}
 use Rattle.lin_core.specs.declared.rows.RowKind.{RowKind}
@@ -25,19 +25,19 @@ use Rattle.lin_core.specs.Weights.{row_under, rows_under, unweighed}
 use Rattle.lin_core.proofs.Signs.{mul-zero_ℤ}
 use Rattle.rank_forms.specs.declared.following.Bound.{Bound}
 use Rattle.rank_forms.specs.declared.following.BoundRow.{BoundRow}
-use Rattle.rule_links.specs.declared.links.Come.{Come}
-use Rattle.rule_links.specs.declared.links.Link.{Link}
-use Rattle.rule_links.specs.declared.links.Tie.{Tie}
-use Rattle.rule_links.specs.Counting.{multipliers_of}
+use Rattle.rank_forms.specs.declared.rule_links.links.Come.{Come}
+use Rattle.rank_forms.specs.declared.rule_links.links.Link.{Link}
+use Rattle.rank_forms.specs.declared.rule_links.links.Tie.{Tie}
+use Rattle.rank_forms.specs.rule_links.Counting.{multipliers_of}
 use Rattle.rank_forms.specs.Following.{AreSteps, IsBoundAt, made, step_times}
 use Rattle.rank_forms.specs.inner.Following.{SmallConstants, bound_from, bounded_by, step_entries, unit}
-use Rattle.rule_links.specs.Falls.{IsFallTie, SaysAt, AreRising, IsAtLeast, IsLongest, bounds, has_bound}
-use Rattle.rule_links.specs.Links.{IsWay, total}
-use Rattle.rule_links.specs.Ties.{InTies, Known, by_of, is_alone, is_inequality, trail_from}
-use Rattle.rule_links.specs.FallLinks.{IsFallLink, sign}
+use Rattle.rank_forms.specs.rule_links.Falls.{IsFallTie, SaysAt, AreRising, IsAtLeast, IsLongest, bounds, has_bound}
+use Rattle.rank_forms.specs.rule_links.Links.{IsWay, total}
+use Rattle.rank_forms.specs.rule_links.Ties.{InTies, Known, by_of, is_alone, is_inequality, trail_from}
+use Rattle.rank_forms.specs.rule_links.FallLinks.{IsFallLink, sign}
 use Rattle.rank_forms.proofs.Along.{known_within}
-use Rattle.rule_links.proofs.Counted.{fine, multipliers_are}
-use Rattle.rule_links.proofs.Rests.{IsRest, rest_all, rest_first, rest_more}
+use Rattle.rank_forms.proofs.Counted.{fine, multipliers_are}
+use Rattle.rank_forms.proofs.Rests.{IsRest, rest_all, rest_first, rest_more}
 use Rattle.rank_forms.proofs.Trailed.{AreShifts, IsShift, IsTrail, no_shift, shift_more, trail_is, trail_short}
 
 -- a row of the list, under a weighing

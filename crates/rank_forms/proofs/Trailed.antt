@@ -4,18 +4,18 @@ use Rattle.std.proofs.Common.{Option, Some, None, subst, ap, arith, ◌∙◌, s
 use Rattle.std.specs.Prelude.{slice_get, unsigned_abs}
 use Rattle.std.specs.List.{All}
 use Rattle.std.proofs.lemmas.Int.{ints}
-use Rattle.rule_links.proofs.Counted.{both_small}
+use Rattle.rank_forms.proofs.Counted.{both_small}
 use Rattle.lin_core.proofs.Coefficients.{coefficient_both}
 use Rattle.list_views.proofs.Quantified.{all_at}
 use Rattle.list_views.proofs.Ring.{times_plus}
 use Rattle.lin_core.specs.Combination.{number_of, sum_of, AllAllowed}
 use Rattle.lin_core.specs.Rows.{Row, coefficient_of}
 use Rattle.lin_core.proofs.Signs.{mul-zero_ℤ}
-use Rattle.rule_links.specs.declared.links.Come.{Come}
-use Rattle.rule_links.specs.declared.links.Tie.{Tie}
+use Rattle.rank_forms.specs.declared.rule_links.links.Come.{Come}
+use Rattle.rank_forms.specs.declared.rule_links.links.Tie.{Tie}
 use Rattle.rank_forms.specs.inner.Following.{unit}
-use Rattle.rule_links.specs.Falls.{AreLinked, AreRising, ComesBy}
-use Rattle.rule_links.specs.Ties.{Known, last_of, trail_by, trail_from}
+use Rattle.rank_forms.specs.rule_links.Falls.{AreLinked, AreRising, ComesBy}
+use Rattle.rank_forms.specs.rule_links.Ties.{Known, last_of, trail_by, trail_from}
 
 -- ties of a kind from a first variable to v, the last of them first, and what they add up to
 abbrev pub IsTrail : (Tie → Type 0) → ℕ → ℕ → ℤ → List Tie → Type 0

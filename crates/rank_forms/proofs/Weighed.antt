@@ -17,7 +17,7 @@ use Rattle.lin_core.specs.Rows.{Rise, RiseFrom, value_of_terms}
 use Rattle.lin_core.specs.Weights.{AreWeights, weight_in}
 use Rattle.lin_core.specs.declared.rows.WRow.{WRow}
 use Rattle.descent.specs.declared.rules.PathRule.{PathRule}
-use Rattle.rule_links.specs.SizeLinks.{weighed_once}
+use Rattle.rank_forms.specs.rule_links.SizeLinks.{weighed_once}
 use Rattle.rank_forms.specs.Forms.{IsIn}
 use Rattle.rank_forms.specs.Weighing.{AreOnes, all_classes, classes_of, row_classes}
 use Rattle.rank_forms.specs.inner.Weighing.{next_low, one_at, ones_from}

@@ -7,14 +7,14 @@ use Rattle.lin_core.specs.Rows.{Row, coefficient_of}
 use Rattle.lin_core.specs.Weights.{rows_under, unweighed}
 use Rattle.descent.specs.declared.rules.PathRule.{PathRule}
 use Rattle.descent.specs.declared.rules.Place.{Place}
-use Rattle.rule_links.specs.declared.links.Link.{Link}
-use Rattle.rule_links.specs.declared.links.Tie.{Tie}
+use Rattle.rank_forms.specs.declared.rule_links.links.Link.{Link}
+use Rattle.rank_forms.specs.declared.rule_links.links.Tie.{Tie}
 use Rattle.rank_forms.specs.declared.following.Bound.{Bound}
 use Rattle.rank_forms.specs.declared.following.Followed.{Followed}
-use Rattle.rule_links.specs.Links.{IsWay, total}
-use Rattle.rule_links.specs.Positions.{AreEnds}
-use Rattle.rule_links.specs.Falls.{has_bound}
-use Rattle.rule_links.specs.FallLinks.{IsFallLink, StepsDown, sign}
+use Rattle.rank_forms.specs.rule_links.Links.{IsWay, total}
+use Rattle.rank_forms.specs.rule_links.Positions.{AreEnds}
+use Rattle.rank_forms.specs.rule_links.Falls.{has_bound}
+use Rattle.rank_forms.specs.rule_links.FallLinks.{IsFallLink, StepsDown, sign}
 
 -- how often the row of a fall link counts
 abbrev pub step_times : Tie → ℤ

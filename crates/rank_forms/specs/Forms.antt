@@ -12,8 +12,8 @@ use Rattle.rank_forms.specs.declared.following.Bound.{Bound}
 use Rattle.rank_forms.specs.declared.following.Followed.{Followed}
 use Rattle.rank_forms.specs.Following.{IsAlong}
 use Rattle.rank_forms.specs.RankSteps.{IsCutOf}
-use Rattle.rule_links.specs.Positions.{slot_at}
-use Rattle.rule_links.specs.FallLinks.{StepsDown}
+use Rattle.rank_forms.specs.rule_links.Positions.{slot_at}
+use Rattle.rank_forms.specs.rule_links.FallLinks.{StepsDown}
 
 -- numbers that rise from one on, all below another one
 abbrev pub RiseTo : ℕ → List ℕ → ℕ → Type 0

@@ -9,8 +9,8 @@ use Rattle.descent.specs.Conditions.{AreRules}
 use Rattle.descent.specs.declared.rules.PathRule.{PathRule}
 use Rattle.descent.specs.declared.rules.Place.{Place}
 use Rattle.descent.specs.declared.rules.SlotForm.{SlotForm}
-use Rattle.rule_links.specs.Links.{HasBound}
-use Rattle.rule_links.specs.Positions.{IsVariable, same}
+use Rattle.rank_forms.specs.rule_links.Links.{HasBound}
+use Rattle.rank_forms.specs.rule_links.Positions.{IsVariable, same}
 
 -- the ids of the slots of a kind, in the slots' order, each with a multiple of 1
 abbrev pub ids_of : Bool → List SlotForm → List (ℕ × ℤ)

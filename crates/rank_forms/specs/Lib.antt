@@ -6,3 +6,4 @@ pub mod Reasons
 pub mod SizeReasons
 pub mod Weighing
 pub mod inner
+pub mod rule_links

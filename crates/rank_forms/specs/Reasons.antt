@@ -6,16 +6,16 @@ use Rattle.descent.specs.declared.rules.PathRule.{PathRule}
 use Rattle.descent.specs.declared.rules.Place.{Place}
 use Rattle.rank_forms.specs.declared.following.BoundRow.{BoundRow}
 use Rattle.rank_forms.specs.declared.following.Followed.{Followed}
-use Rattle.rule_links.specs.declared.links.Beside.{Beside}
-use Rattle.rule_links.specs.declared.links.Come.{Come}
-use Rattle.rule_links.specs.declared.links.Link.{Link}
-use Rattle.rule_links.specs.declared.links.Tie.{Tie}
+use Rattle.rank_forms.specs.declared.rule_links.links.Beside.{Beside}
+use Rattle.rank_forms.specs.declared.rule_links.links.Come.{Come}
+use Rattle.rank_forms.specs.declared.rule_links.links.Link.{Link}
+use Rattle.rank_forms.specs.declared.rule_links.links.Tie.{Tie}
 use Rattle.rank_forms.specs.declared.reasons.Reasons.{Reasons}
-use Rattle.rule_links.specs.Counting.{multipliers_of}
+use Rattle.rank_forms.specs.rule_links.Counting.{multipliers_of}
 use Rattle.rank_forms.specs.Following.{made, step_times}
-use Rattle.rule_links.specs.Positions.{AreEnds}
-use Rattle.rule_links.specs.Falls.{zero_from}
-use Rattle.rule_links.specs.Ties.{IsFinished, Known, is_bound, ties_from, trail_from}
+use Rattle.rank_forms.specs.rule_links.Positions.{AreEnds}
+use Rattle.rank_forms.specs.rule_links.Falls.{zero_from}
+use Rattle.rank_forms.specs.rule_links.Ties.{IsFinished, Known, is_bound, ties_from, trail_from}
 
 -- ---- reasons
 

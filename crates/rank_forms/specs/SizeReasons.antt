@@ -5,15 +5,15 @@ use Rattle.lin_core.specs.declared.rows.WRow.{WRow}
 use Rattle.descent.specs.declared.rules.PathRule.{PathRule}
 use Rattle.descent.specs.declared.rules.Place.{Place}
 use Rattle.rank_forms.specs.declared.following.Followed.{Followed}
-use Rattle.rule_links.specs.declared.links.Come.{Come}
-use Rattle.rule_links.specs.declared.links.Link.{Link}
-use Rattle.rule_links.specs.declared.links.Tie.{Tie}
+use Rattle.rank_forms.specs.declared.rule_links.links.Come.{Come}
+use Rattle.rank_forms.specs.declared.rule_links.links.Link.{Link}
+use Rattle.rank_forms.specs.declared.rule_links.links.Tie.{Tie}
 use Rattle.rank_forms.specs.declared.reasons.Reasons.{Reasons}
-use Rattle.rule_links.specs.SizeLinks.{IsSizeLink}
-use Rattle.rule_links.specs.Positions.{AreEnds}
+use Rattle.rank_forms.specs.rule_links.SizeLinks.{IsSizeLink}
+use Rattle.rank_forms.specs.rule_links.Positions.{AreEnds}
 use Rattle.rank_forms.specs.Reasons.{followed_of, size_entries}
-use Rattle.rule_links.specs.Falls.{AreRising, IsLongest, IsSizeTie, zero_from}
-use Rattle.rule_links.specs.Ties.{InTies, Known, trail_from}
+use Rattle.rank_forms.specs.rule_links.Falls.{AreRising, IsLongest, IsSizeTie, zero_from}
+use Rattle.rank_forms.specs.rule_links.Ties.{InTies, Known, trail_from}
 
 -- the reasons why a size falls: the rows of the ties from its start to its end, and the row that says the start is at least 0
 abbrev pub size_made : List WRow → Come → ℕ → Known → ℕ → Reasons

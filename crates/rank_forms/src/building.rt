@@ -3,10 +3,10 @@ ghost use Rattle.descent.specs.Conditions.{AreRules};
 
 use crate::cut_forms::forms_by_parts;
 use crate::gathering::{Gathered, gather};
+use crate::rule_links::{Part, counts_size};
 use crate::weights::ones;
 use descent::{PathRule, RankRule, RankStep};
 use list_views::Seq;
-use rule_links::{Part, counts_size};
 use std::alloc::{AllocError, Global};
 
 /// Whether some part is a size.

@@ -1,9 +1,9 @@
 //! The forms of cuts that parts make.
 ghost use Rattle.std.specs.Prelude.{◌<◌, IfSome, length};
 
+use crate::rule_links::{Part, counts_size, slot_at};
 use descent::{CutForm, PathRule, SlotForm};
 use list_views::Seq;
-use rule_links::{Part, counts_size, slot_at};
 use std::alloc::{AllocError, Global};
 
 /// An end of a rule at a cut.

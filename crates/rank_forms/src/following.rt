@@ -6,12 +6,12 @@ ghost use Rattle.rank_forms.specs.inner.Following.{SmallConstants, TellsBetween,
 ghost use Rattle.rank_forms.specs.inner.Following.{step_entries};
 ghost use Rattle.rank_forms.specs.Following.{step_times};
 
+use crate::rule_links::{
+    Tie, bounds, by_of, fall_ties, known_of, longest, multipliers_of, trail, variable_at,
+};
 use descent::{PathRule, Place};
 use lin_core::WRow;
 use list_views::Seq;
-use rule_links::{
-    Tie, bounds, by_of, fall_ties, known_of, longest, multipliers_of, trail, variable_at,
-};
 use std::alloc::{AllocError, Global};
 
 /// A row that bounds what stands at a place where a rule starts.

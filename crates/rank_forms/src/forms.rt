@@ -3,11 +3,11 @@ ghost use Rattle.std.specs.Prelude.{◌≡◌, ◌≤◌, ◌∷◌, ◌++◌, [
 ghost use Rattle.rank_forms.specs.Forms.{AreCuts, alone, form_of, forms_over, id_of, ids_at, joined};
 ghost use Rattle.rank_forms.specs.inner.Forms.{less_of, lesser, next_from};
 ghost use Rattle.rank_forms.specs.Forms.{pair_of, slots_for};
-ghost use Rattle.rule_links.specs.Positions.{slot_at};
+ghost use Rattle.rank_forms.specs.rule_links.Positions.{slot_at};
 
+use crate::rule_links::{slot_at, sum};
 use descent::{CutForm, PathRule, Place, SlotForm};
 use list_views::Seq;
-use rule_links::{slot_at, sum};
 use std::alloc::{AllocError, Global};
 
 /// The lesser of a cut that may be there and another one.

@@ -1,12 +1,12 @@
 //! What shows that a form falls along a rule, and that it is bounded where the rule starts.
 ghost use Rattle.descent.specs.Conditions.{IsRule};
 
-use descent::{PathRule, RankRule, WRow};
-use rule_links::{
+use crate::rule_links::{
     Come, Course, Multipliers, Part, bounds, count_trail, counts_size, fall_ties, int_ties,
     known_of, longest, more_of, reach, size_constant, size_of, size_ties, trail, variable_at,
     with_times,
 };
+use descent::{PathRule, RankRule, WRow};
 use std::alloc::{AllocError, Global};
 
 /// What is gathered of a form on a rule: what it falls by at least, with the multipliers that show it; whether it is bounded

@@ -6,12 +6,12 @@ ghost use Rattle.rank_forms.specs.Reasons.{taken_out};
 
 use crate::following::{BoundRow, Followed};
 use crate::reasons::{Reasons, both, followed_by, reasons_of};
+use crate::rule_links::{
+    Beside, Come, Tie, int_ties, is_bound, known_of, negated, reach, trail, variable_at,
+};
 use descent::{PathRule, Place};
 use lin_core::WRow;
 use list_views::Seq;
-use rule_links::{
-    Beside, Come, Tie, int_ties, is_bound, known_of, negated, reach, trail, variable_at,
-};
 use std::alloc::{AllocError, Global};
 
 /// On which side so many times an int is bounded.

@@ -10,6 +10,7 @@ mod int_reasons;
 mod limits;
 mod listing;
 mod reasons;
+pub mod rule_links;
 mod size_reasons;
 mod weights;
 

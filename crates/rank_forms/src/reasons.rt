@@ -1,11 +1,11 @@
 //! Why a form falls along a rule, and why it is bounded where the rule starts: rows, each with how often it counts.
 ghost use Rattle.std.specs.Prelude.{◌≡◌, ◌++◌, IfOk};
-ghost use Rattle.rule_links.specs.Counting.{multipliers_of};
+ghost use Rattle.rank_forms.specs.rule_links.Counting.{multipliers_of};
 ghost use Rattle.rank_forms.specs.Reasons.{both_reasons, followed_by};
 
 use crate::following::{Bound, Followed, made};
+use crate::rule_links::{multipliers_of, sum};
 use list_views::Seq;
-use rule_links::{multipliers_of, sum};
 use std::alloc::{AllocError, Global};
 
 /// Why a form falls along a rule, and why it is bounded where the rule starts.

@@ -9,12 +9,12 @@ ghost use Rattle.rank_forms.specs.SizeReasons.{TellsSizeAt, TellsSizeReasons, si
 use crate::following::{Followed, step_times};
 use crate::int_reasons::followed_of;
 use crate::reasons::{Reasons, reasons_of};
+use crate::rule_links::{
+    Come, Link, Tie, known_of, longest, negated, size_ties, sum, trail, variable_at, zero_row,
+};
 use descent::{PathRule, Place};
 use lin_core::WRow;
 use list_views::Seq;
-use rule_links::{
-    Come, Link, Tie, known_of, longest, negated, size_ties, sum, trail, variable_at, zero_row,
-};
 use std::alloc::{AllocError, Global};
 
 /// How often a part of a size drops out: once less where the link leads to it.

@@ -15,17 +15,17 @@ use Rattle.descent.specs.declared.rules.Place.{Place}
 use Rattle.descent.specs.declared.rules.SlotForm.{SlotForm}
 use Rattle.rank_forms.specs.declared.following.BoundRow.{BoundRow}
 use Rattle.rank_forms.specs.declared.following.Followed.{Followed}
-use Rattle.rule_links.specs.declared.links.Come.{Come}
+use Rattle.rank_forms.specs.declared.rule_links.links.Come.{Come}
 use Rattle.rank_forms.specs.declared.reasons.Reasons.{Reasons}
 use Rattle.rank_forms.specs.Following.{IsFollowed}
 use Rattle.rank_forms.specs.Graphs.{HasClose, IsCloseInt, IsPathRule, IsPlainRule}
 use Rattle.rank_search.specs.Plain.{FormMoves, IsIntForm}
-use Rattle.rule_links.specs.Positions.{AreEnds, is_at, is_place, same, slot_at}
+use Rattle.rank_forms.specs.rule_links.Positions.{AreEnds, is_at, is_place, same, slot_at}
 use Rattle.rank_forms.specs.Reasons.{TellsForm, TellsIntAt, TellsInts, both_of, both_reasons, close_from, followed_by, followed_of}
 use Rattle.rank_forms.specs.Reasons.{int_made, int_reasons_by, side}
-use Rattle.rule_links.specs.Ties.{IsMoved, Known, ties_from}
+use Rattle.rank_forms.specs.rule_links.Ties.{IsMoved, Known, ties_from}
 use Rattle.rank_forms.proofs.Along.{variable_low}
-use Rattle.rule_links.proofs.Changed.{stands_is}
+use Rattle.rank_forms.proofs.Changed.{stands_is}
 use Rattle.rank_forms.proofs.Finished.{one_finished}
 use Rattle.rank_forms.proofs.Formed.{AreAllEnds, AreParts}
 use Rattle.rank_forms.proofs.IntReasons.{close_found, int_reasoned}

@@ -11,11 +11,11 @@ use Rattle.descent.specs.declared.rules.PathRule.{PathRule}
 use Rattle.descent.specs.declared.rules.Place.{Place}
 use Rattle.rank_search.specs.declared.candidates.Candidate.{Candidate}
 use Rattle.rank_search.specs.Plain.{FormMoves, LowersBy, LowersInts, RanksSize}
-use Rattle.rule_links.specs.Changes.{MovesBy}
-use Rattle.rule_links.specs.Falls.{IsTableOf, TellAll, TellsSize, TellsSteps}
+use Rattle.rank_forms.specs.rule_links.Changes.{MovesBy}
+use Rattle.rank_forms.specs.rule_links.Falls.{IsTableOf, TellAll, TellsSize, TellsSteps}
 use Rattle.rank_search.specs.inner.Candidates.{falling_form, IsOneFound, IsSumFound, falls, form_value, is_fall, is_weak, never_rises}
 use Rattle.rank_search.specs.inner.Candidates.{value_of, IsTold}
-use Rattle.rule_links.specs.Ties.{IsMoved, IsTable, TellsChange}
+use Rattle.rank_forms.specs.rule_links.Ties.{IsMoved, IsTable, TellsChange}
 use Rattle.rank_search.specs.declared.searching.PlainForm.{PlainForm}
 use Rattle.rank_search.specs.declared.searching.PlainForm.TheVariants.{Ints, Size}
 use Rattle.rank_search.specs.Found.{IsFound}

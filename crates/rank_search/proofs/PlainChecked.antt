@@ -11,14 +11,14 @@ use Rattle.rank_forms.specs.declared.following.BoundRow.{BoundRow}
 use Rattle.rank_forms.specs.Graphs.{ArePathRules, ArePlainRules, AreSizeTerms, HasClose, IsCloseInt, IsOneKind, IsPlainRule}
 use Rattle.rank_forms.specs.Graphs.{IsShort, IsSizeSlot}
 use Rattle.rank_search.specs.inner.Heads.{AreShort, has_size, is_size}
-use Rattle.rule_links.specs.Links.{HasBound}
+use Rattle.rank_forms.specs.rule_links.Links.{HasBound}
 use Rattle.rank_forms.specs.Reasons.{close_from}
-use Rattle.rule_links.specs.Falls.{has_zero}
-use Rattle.rule_links.specs.Ties.{is_inequality, variable_of}
-use Rattle.rule_links.proofs.Changed.{variable_is}
-use Rattle.rule_links.proofs.Rests.{rest_all}
+use Rattle.rank_forms.specs.rule_links.Falls.{has_zero}
+use Rattle.rank_forms.specs.rule_links.Ties.{is_inequality, variable_of}
+use Rattle.rank_forms.proofs.Changed.{variable_is}
+use Rattle.rank_forms.proofs.Rests.{rest_all}
 use Rattle.rank_forms.proofs.IntReasons.{close_is}
-use Rattle.rule_links.proofs.Sized.{zero_is}
+use Rattle.rank_forms.proofs.Sized.{zero_is}
 
 -- a row that is found bounds the variable
 pub close_has : (rows : List WRow) (variable : ℕ) (times : ℤ) (found : Option BoundRow) → close_from variable times 0 rows ≡ found

@@ -13,19 +13,19 @@ use Rattle.descent.specs.declared.rules.Place.{Place}
 use Rattle.rank_forms.specs.declared.following.Bound.{Bound}
 use Rattle.rank_forms.specs.declared.following.Followed.{Followed}
 use Rattle.rank_forms.specs.declared.reasons.Reasons.{Reasons}
-use Rattle.rule_links.specs.Counting.{multipliers_of}
+use Rattle.rank_forms.specs.rule_links.Counting.{multipliers_of}
 use Rattle.rank_forms.specs.Following.{made}
 use Rattle.rank_forms.specs.Forms.{AreCuts, forms_over, list_from, needed, or_zero}
 use Rattle.rank_forms.specs.Graphs.{ArePlainRules, IsPathRule, IsPlainRule}
 use Rattle.rank_search.specs.Plain.{FormMoves, LowersBy, NoPlainForm}
 use Rattle.rank_forms.specs.RankSteps.{IsRankStep}
 use Rattle.rank_forms.specs.Reasons.{TellsEach, TellsInts, followed_by, followed_of}
-use Rattle.rule_links.specs.Ties.{IsMoved}
+use Rattle.rank_forms.specs.rule_links.Ties.{IsMoved}
 use Rattle.rank_forms.proofs.Formed.{rule_lines}
 use Rattle.rank_search.proofs.IntForms.{IsIntsTold, form_parts, ints_told}
 use Rattle.rank_forms.proofs.Lined.{ranking_with}
 use Rattle.rank_forms.proofs.Shown.{IsShown, follow_there, int_step}
-use Rattle.rule_links.proofs.Told.{AreTold, told_all}
+use Rattle.rank_forms.proofs.Told.{AreTold, told_all}
 
 -- ---- following all rules
 abbrev pub nothing : Followed

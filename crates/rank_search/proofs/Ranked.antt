@@ -11,10 +11,10 @@ use Rattle.descent.specs.declared.rules.PathRule.{PathRule}
 use Rattle.descent.specs.declared.rules.Place.{Place}
 use Rattle.rank_search.specs.declared.candidates.Candidate.{Candidate}
 use Rattle.rank_search.specs.Plain.{FormChanges, IsMultiple, RanksInts, RanksSize}
-use Rattle.rule_links.specs.Falls.{ArePlacesOf, IsFall, IsTableOf, TellAll, TellsSize, TellsSteps}
+use Rattle.rank_forms.specs.rule_links.Falls.{ArePlacesOf, IsFall, IsTableOf, TellAll, TellsSize, TellsSteps}
 use Rattle.rank_search.specs.inner.Candidates.{NoFall, falling_form, NoOne, NoSum, falls, form_value, is_fall, is_weak, multiple_of}
 use Rattle.rank_search.specs.inner.Candidates.{never_rises, value_of, NoInts, NoSize, NoSteps}
-use Rattle.rule_links.specs.Ties.{IsTable, TellsChange}
+use Rattle.rank_forms.specs.rule_links.Ties.{IsTable, TellsChange}
 use Rattle.rank_search.specs.Stepwise.{NoStepwiseForm}
 
 abbrev Lists : Type 0

@@ -17,25 +17,25 @@ use Rattle.descent.specs.declared.rules.PathRule.{PathRule}
 use Rattle.descent.specs.declared.rules.Place.{Place}
 use Rattle.rank_forms.specs.declared.following.Bound.{Bound}
 use Rattle.rank_forms.specs.declared.following.Followed.{Followed}
-use Rattle.rule_links.specs.declared.links.Come.{Come}
-use Rattle.rule_links.specs.declared.links.Link.{Link}
-use Rattle.rule_links.specs.declared.links.Tie.{Tie}
-use Rattle.rule_links.specs.Counting.{multipliers_of}
+use Rattle.rank_forms.specs.declared.rule_links.links.Come.{Come}
+use Rattle.rank_forms.specs.declared.rule_links.links.Link.{Link}
+use Rattle.rank_forms.specs.declared.rule_links.links.Tie.{Tie}
+use Rattle.rank_forms.specs.rule_links.Counting.{multipliers_of}
 use Rattle.rank_forms.specs.Following.{IsFollowed}
 use Rattle.rank_forms.specs.Forms.{AreCuts, forms_over, list_from, needed, or_zero}
 use Rattle.rank_forms.specs.Graphs.{ArePlainRules, IsPathRule, IsPlainRule, IsSizeSlot}
-use Rattle.rule_links.specs.Links.{IsWay, total}
-use Rattle.rule_links.specs.SizeLinks.{IsSizeLink, SizeFalls}
+use Rattle.rank_forms.specs.rule_links.Links.{IsWay, total}
+use Rattle.rank_forms.specs.rule_links.SizeLinks.{IsSizeLink, SizeFalls}
 use Rattle.rank_search.specs.Plain.{NoPlainForm, RanksSize}
-use Rattle.rule_links.specs.Positions.{AreEnds}
+use Rattle.rank_forms.specs.rule_links.Positions.{AreEnds}
 use Rattle.rank_forms.specs.RankSteps.{IsRankStep}
 use Rattle.rank_forms.specs.Reasons.{TellsEach, followed_by, followed_of}
-use Rattle.rule_links.specs.Falls.{IsAtLeast, zero_from}
-use Rattle.rule_links.specs.Ties.{InTies}
+use Rattle.rank_forms.specs.rule_links.Falls.{IsAtLeast, zero_from}
+use Rattle.rank_forms.specs.rule_links.Ties.{InTies}
 use Rattle.rank_forms.specs.SizeReasons.{TellsSizeAt, size_made, size_reasons_by}
 use Rattle.rank_forms.specs.Weighing.{AreOnes}
 use Rattle.rank_forms.proofs.Along.{variable_low}
-use Rattle.rule_links.proofs.Changed.{stands_is}
+use Rattle.rank_forms.proofs.Changed.{stands_is}
 use Rattle.rank_forms.proofs.Formed.{rule_lines}
 use Rattle.rank_search.proofs.IntForms.{is_size, slot_has}
 use Rattle.rank_forms.proofs.Lined.{ranking_with}

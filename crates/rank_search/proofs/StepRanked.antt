@@ -14,16 +14,16 @@ use Rattle.rank_forms.specs.declared.following.Followed.{Followed}
 use Rattle.rank_forms.specs.Following.{IsAlong, IsFew, TellsFollowed, made}
 use Rattle.rank_forms.specs.Forms.{AreCuts, AreFollowed, TellsAll, forms_over, list_from, needed, or_zero}
 use Rattle.rank_forms.specs.Graphs.{ArePathRules}
-use Rattle.rule_links.specs.Links.{IsWay}
+use Rattle.rank_forms.specs.rule_links.Links.{IsWay}
 use Rattle.rank_forms.specs.RankSteps.{IsRankStep}
-use Rattle.rule_links.specs.Falls.{has_bound}
-use Rattle.rule_links.specs.FallLinks.{IsFallLink, StepsDown, sign}
+use Rattle.rank_forms.specs.rule_links.Falls.{has_bound}
+use Rattle.rank_forms.specs.rule_links.FallLinks.{IsFallLink, StepsDown, sign}
 use Rattle.rank_search.specs.Stepwise.{NoStepwiseForm, StepwiseRanks}
-use Rattle.rule_links.proofs.Changed.{stands_is}
-use Rattle.rule_links.proofs.Falling.{bound_found}
+use Rattle.rank_forms.proofs.Changed.{stands_is}
+use Rattle.rank_forms.proofs.Falling.{bound_found}
 use Rattle.rank_forms.proofs.Formed.{rule_lines}
 use Rattle.rank_forms.proofs.Shown.{follow_there, int_step}
-use Rattle.rule_links.proofs.Told.{AreTold, told_all}
+use Rattle.rank_forms.proofs.Told.{AreTold, told_all}
 
 -- ---- following all rules
 pub few_at : (rules : List PathRule) → ArePathRules rules → (k : ℕ) (d : PathRule) → k < length rules → IsFew (get_or rules k d)

@@ -3,8 +3,8 @@
 use Rattle.std.specs.Prelude.{ℕ, ℤ, pos, negsuc, ◌≡◌, ◌<◌, ◌≤◌, ◌+ℤ◌, ◌*ℤ◌, ◌≤ℤ◌, List, [], ◌∷◌, Some, slice_get, unsigned_abs}
 use Rattle.descent.specs.declared.rules.PathRule.{PathRule}
 use Rattle.descent.specs.declared.rules.Place.{Place}
-use Rattle.rule_links.specs.SizeLinks.{SizeFalls}
-use Rattle.rule_links.specs.Changes.{ChangesBy, MovesBy}
+use Rattle.rank_forms.specs.rule_links.SizeLinks.{SizeFalls}
+use Rattle.rank_forms.specs.rule_links.Changes.{ChangesBy, MovesBy}
 
 -- a multiple of a form: a number from -4 to 4 other than 0
 abbrev pub IsMultiple : ℤ → Type 0

@@ -2,7 +2,7 @@
 use Rattle.std.specs.Prelude.{ℕ, ℤ, pos, ◌≡◌, ◌≤ℤ◌, Bool, List, Some, slice_get}
 use Rattle.descent.specs.declared.rules.PathRule.{PathRule}
 use Rattle.descent.specs.declared.rules.Place.{Place}
-use Rattle.rule_links.specs.FallLinks.{StepsDown, IsBounded}
+use Rattle.rank_forms.specs.rule_links.FallLinks.{StepsDown, IsBounded}
 
 -- the form never rises on the rules, and falls on a rule where its start is bounded
 pub record StepwiseRanks (rules : List PathRule) (negative : Bool) (place : Place) : Type 0 where

@@ -11,8 +11,8 @@ use crate::searching::{stepwise_form, told_form};
 use crate::several::several;
 use crate::stepping::step_rank;
 use descent::{PathRule, RankStep};
+use rank_forms::rule_links::Part;
 use rank_forms::{build, is_rank_step};
-use rule_links::Part;
 use std::alloc::{AllocError, Global};
 
 /// The step of these parts, if it is one that a closed proof takes.

@@ -8,8 +8,8 @@ ghost use Rattle.rank_search.specs.inner.Heads.{AreShort, HasHeads, has_size, is
 
 use descent::{PathRule, Place, SlotForm};
 use lin_core::WRow;
+use rank_forms::rule_links::{has_zero, is_bound, is_inequality, is_place, same, variable_of};
 use rank_forms::{close_row, slots_for};
-use rule_links::{has_zero, is_bound, is_inequality, is_place, same, variable_of};
 
 /// Whether the ids of a kind rise.
 fn ids_rise(slots: &[SlotForm], size: bool) -> bool

@@ -6,7 +6,7 @@ ghost use Rattle.rank_search.specs.Plain.{LowersBy, NoPlainForm, RanksSize};
 ghost use Rattle.rank_forms.specs.RankSteps.{IsRankStep};
 ghost use Rattle.rank_search.specs.inner.Candidates.{IsTold};
 ghost use Rattle.rank_forms.specs.Reasons.{TellsEach, TellsInts};
-ghost use Rattle.rule_links.specs.Ties.{IsMoved};
+ghost use Rattle.rank_forms.specs.rule_links.Ties.{IsMoved};
 ghost use Rattle.rank_forms.specs.SizeReasons.{TellsSizeAt};
 
 use crate::searching::PlainForm;

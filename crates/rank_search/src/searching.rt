@@ -5,14 +5,14 @@ ghost use Rattle.descent.specs.declared.rules.Place.{Place};
 ghost use Rattle.rank_search.specs.Plain.{LowersBy, NoPlainForm, RanksSize};
 ghost use Rattle.rank_search.specs.Stepwise.{NoStepwiseForm, StepwiseRanks};
 ghost use Rattle.rank_search.specs.Found.{IsFound};
-ghost use Rattle.rule_links.specs.Ties.{IsMoved, IsTable};
+ghost use Rattle.rank_forms.specs.rule_links.Ties.{IsMoved, IsTable};
 ghost use Rattle.rank_search.specs.inner.Candidates.{IsOneFound, IsSumFound, NoOne, IsTold, NoInts, NoSize, NoSteps};
-ghost use Rattle.rule_links.specs.Falls.{ArePlacesOf, IsTableOf, TellsSize, TellsSteps};
+ghost use Rattle.rank_forms.specs.rule_links.Falls.{ArePlacesOf, IsTableOf, TellsSize, TellsSteps};
 
 use crate::candidates::{Candidate, first_falling, one_int, sum_of_two};
 use descent::{PathRule, Place};
 use list_views::Seq;
-use rule_links::{bounded_table, change_table, first_places, size_table, step_table};
+use rank_forms::rule_links::{bounded_table, change_table, first_places, size_table, step_table};
 use std::alloc::{AllocError, Global};
 
 /// A plain form: it is the same at every cut of the rules.

@@ -4,10 +4,12 @@ ghost use Rattle.descent.specs.Conditions.{AreRules};
 ghost use Rattle.rank_forms.specs.RankSteps.{IsRankStep};
 
 use crate::asking::shown;
+use cut_search::simplex::{Fraction, Tableau, common_of};
 use descent::{PathRule, Place, RankStep};
 use list_views::Seq;
-use rule_links::{Course, Part, change_table, first_places, negated, size_table, step_table};
-use simplex::{Fraction, Tableau, common_of};
+use rank_forms::rule_links::{
+    Course, Part, change_table, first_places, negated, size_table, step_table,
+};
 use std::alloc::{AllocError, Global};
 
 /// The most exchanges that are made.

@@ -4,7 +4,7 @@ ghost use Rattle.rank_forms.specs.Forms.{AreFollowed, TellsAll};
 ghost use Rattle.rank_forms.specs.Graphs.{ArePathRules};
 ghost use Rattle.rank_forms.specs.RankSteps.{IsRankStep};
 ghost use Rattle.rank_search.specs.Stepwise.{NoStepwiseForm, StepwiseRanks};
-ghost use Rattle.rule_links.specs.FallLinks.{sign};
+ghost use Rattle.rank_forms.specs.rule_links.FallLinks.{sign};
 
 use crate::searching::StepwiseForm;
 use descent::{PathRule, Place, RankStep};

@@ -7,8 +7,8 @@ mod printing;
 mod texts;
 
 use anyhow::Result;
-use entry_cases::answer_in_program;
 use std::alloc::Global;
+use table_cases::entry_cases::answer_in_program;
 use table_cases::{Answers, Case};
 
 /// The cases of these tables.

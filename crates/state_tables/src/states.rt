@@ -10,8 +10,8 @@ mod reaching;
 mod widenings;
 
 use anyhow::Result;
-use state_cases::answer_by_both;
 use std::alloc::Global;
+use table_cases::state_cases::answer_by_both;
 use table_cases::{Answers, Case};
 
 /// The cases of these tables.

@@ -10,8 +10,8 @@ use Rattle.input_text.specs.Descriptions.{description_of}
 use Rattle.input_text.specs.declared.texts.DescText.{DescText}
 use Rattle.input_steps.specs.Classes.{AllSpell, IsWorldOf}
 use Rattle.desc_steps.specs.Headline.{AllEnd}
-use Rattle.describe.specs.Calls.{DescribesEntry}
-use Rattle.survey_notes.specs.declared.touching.Touched.{Touched}
+use Rattle.class_calls.specs.describe.Calls.{DescribesEntry}
+use Rattle.survey.specs.declared.survey_notes.touching.Touched.{Touched}
 use Rattle.survey.specs.Lines.{yes_line, is_plain, text_of}
 
 -- What is surveyed: the bytes of the class files, and those of the descriptions that were handed in.

@@ -2,7 +2,7 @@
 use Rattle.std.specs.Prelude.{ℕ, ◌==◌, ◌||◌, ◌&&◌, not, Bool, List, [], ◌∷◌, ◌++◌, nat_lt, codes, if◌then◌else◌}
 use Rattle.std.specs.List.{list_all, flat_map}
 use Rattle.list_views.specs.FaultWords.{joined}
-use Rattle.survey_notes.specs.declared.touching.Touched.{Touched}
+use Rattle.survey.specs.declared.survey_notes.touching.Touched.{Touched}
 
 -- ---- where every run ends
 

@@ -9,23 +9,23 @@ ghost use Rattle.class_world.specs.Worlds.{classes_of};
 ghost use Rattle.class_program.specs.Views.{program_of};
 ghost use Rattle.input_text.specs.Answers.{SaysOf};
 ghost use Rattle.input_text.specs.Descriptions.{description_of};
-ghost use Rattle.describe.specs.Templates.{IsTemplate};
+ghost use Rattle.class_calls.specs.describe.Templates.{IsTemplate};
 ghost use Rattle.prove_call.specs.Headline.{IsProved as SaysYes};
 ghost use Rattle.survey.specs.Claims.{Surveyed, NamesMethod, IsGivenText, IsOpenText, IsProved};
 ghost use Rattle.survey.specs.inner.Wording.{surveyed, IsMethodProgram, IsJudged};
 
 use crate::lines::{Head, MethodWords, method_text};
+use crate::survey_notes::{Sources, Touched, premises_of};
+use crate::survey_why::{NARROWINGS, narrowed, put_advice, reason_text};
+use class_calls::describe::{DescribeFault, template};
 use class_program::Program;
 use class_read::ClassView;
 use class_world::{LinkFault, MethodRef, World};
-use describe::{DescribeFault, template};
 use input_steps::{Fault, Place, Refused, close, link, read_classes};
 use input_text::{DescFault, DescText};
 use list_views::Seq;
 use prove_call::{Answer, prove_line};
 use std::alloc::{AllocError, Global};
-use survey_notes::{Sources, Touched, premises_of};
-use survey_why::{NARROWINGS, narrowed, put_advice, reason_text};
 
 /// The most nodes of a graph, as many as `prove` has without a number.
 pub(crate) const NODES: u32 = 4_000;

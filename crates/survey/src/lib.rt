@@ -6,11 +6,14 @@
 #![tactic(auto)]
 
 mod failure;
+pub mod java_lines;
 mod judging;
 mod leaving;
 mod lines;
 mod putting;
 mod reading;
+pub mod survey_notes;
+pub mod survey_why;
 mod surveying;
 mod top;
 mod walking;

@@ -4,10 +4,10 @@ ghost use Rattle.survey.specs.Lines.{given_text, errors_text, exceptions_text, c
 ghost use Rattle.survey.specs.Lines.{is_name_byte, is_plain, printed, yes_line};
 ghost use Rattle.survey.specs.inner.Wording.{head_text, other_line};
 
+use crate::survey_notes::Touched;
 use list_views::Seq;
 use list_views::fault_words::joined;
 use std::alloc::{AllocError, Global};
-use survey_notes::Touched;
 
 /// What a line begins with that claims nothing.
 #[derive(Clone, Copy, PartialEq, Eq)]

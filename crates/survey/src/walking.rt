@@ -11,12 +11,12 @@ use crate::failure::Stop;
 use crate::judging::{Judged, Scope, behind_method, judge};
 use crate::lines::{Head, MethodWords, is_plain, method_text, yes_line};
 use crate::putting::{add_line, add_other, put_text};
+use crate::survey_notes::{Touched, put_fault_place, put_refusal, refusal_advice};
 use class_read::{ClassView, MethodView};
 use input_steps::{Fault, Place, Refused};
 use io_ports::Sink;
 use list_views::Seq;
 use std::alloc::{AllocError, Global};
-use survey_notes::{Touched, put_fault_place, put_refusal, refusal_advice};
 
 /// The sort of a method's line.
 #[derive(Clone, Copy, PartialEq, Eq)]

@@ -1,6 +1,11 @@
 //! Cases of tables: a line is the name of a table, a tab and the input fields of a case, divided by tabs.
 #![tactic(auto)]
 
+pub mod entry_cases;
+pub mod json_cases;
+pub mod line_cases;
+pub mod rule_cases;
+pub mod state_cases;
 mod words;
 
 use anyhow::{Context, Result};

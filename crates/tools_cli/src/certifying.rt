@@ -7,7 +7,8 @@ ghost use Rattle.std.specs.Prelude.{◌+◌, ◌≤◌, ◌^◌, length, IfOk};
 ghost use Rattle.class_base.specs.Limits.{most_classes};
 
 use crate::failures::{Failure, told};
-use bound_search::{Found, bound_for};
+use cert_calls::bound_search::{Found, bound_for};
+use cert_calls::loop_search::loop_line;
 use cert_form::MOST_CERTIFICATE_BYTES;
 use check_call::{Outcome, check_line, fill_line};
 use class_base::{MOST_CLASSES, MOST_FILE_BYTES};
@@ -15,7 +16,6 @@ use input_steps::{Refused, refusal_text};
 use io_ports::{FileFault, Files, Sink};
 use list_views::Seq;
 use list_views::fault_words::joined;
-use loop_search::loop_line;
 use std::alloc::{AllocError, Global};
 
 /// The line for a file that wasn't read.

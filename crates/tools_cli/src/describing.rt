@@ -7,7 +7,7 @@ ghost use Rattle.class_base.specs.Limits.{most_classes};
 
 use crate::failures::{Failure, told};
 use class_base::{MOST_CLASSES, MOST_FILE_BYTES};
-use describe::{DescribeFault, methods_of, template_of};
+use class_calls::describe::{DescribeFault, methods_of, template_of};
 use io_ports::{FileFault, Files, Sink};
 use list_views::Seq;
 use list_views::fault_words::joined;

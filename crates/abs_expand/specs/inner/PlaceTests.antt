@@ -10,7 +10,7 @@ use Rattle.abs_cells.specs.declared.cells.Cell.{Cell}
 use Rattle.abs_cells.specs.Cells.{is_int, is_of_sort, cell_in}
 use Rattle.abs_cells.specs.AbstractStates.{AbstractFrame, AbstractState}
 use Rattle.abs_reach.specs.Instances.{is_no_int}
-use Rattle.abs_sound.specs.Zips.{all_zip}
+use Rattle.abs_reach.specs.abs_sound.Zips.{all_zip}
 use Rattle.jvm_values.specs.States.{PlaceTypes}
 use Rattle.class_program.specs.declared.program.Method.{Method}
 use Rattle.class_program.specs.declared.program.StaticField.{StaticField}

@@ -6,9 +6,9 @@ ghost use Rattle.class_world.specs.Resolve.{has_body};
 use anyhow::{Context, Result};
 use class_program::Program;
 use class_world::{MethodRef, World};
-use entry_cases::{class_files, linked, put_bytes};
 use input_desc::{Desc, DescFault, DescText, StateText, entry, state_entry, state_of};
 use std::alloc::{AllocError, Global};
+use table_cases::entry_cases::{class_files, linked, put_bytes};
 use table_cases::{Case, said};
 
 /// What is said of a state.

@@ -1,10 +1,10 @@
 //! The entry method and the listings of a case.
 use anyhow::{Context, Result};
 use class_asm::assemble;
-use entry_cases::Entry;
 use list_views::Seq;
 use std::alloc::{AllocError, Global};
 use table_cases::Case;
+use table_cases::entry_cases::Entry;
 
 /// The entry method in three input fields from the second one on, and a listing in each field behind these.
 pub fn entry<'a>(alloc: Global, case: &Case<'a>) -> Result<Entry<'a>> {

@@ -2,8 +2,8 @@
 //! on an object of the class. `link`, which is for measuring alone: the entry method and class files; how many methods are reached.
 use anyhow::{Context, Result};
 use class_program::{Program, Selected};
-use entry_cases::ProgramAnswers;
 use std::alloc::Global;
+use table_cases::entry_cases::ProgramAnswers;
 use table_cases::{Case, natural, numbered, put_count, said, short};
 
 /// The cases of `select`.

@@ -4,9 +4,9 @@
 //! running frame is the last one. An unset local is `-`.
 use class_program::Program;
 use class_world::World;
-use entry_cases::put_class;
 use jvm_values::{Base, Frame, Kind, Mode, Object, State, Ty, Value};
 use std::alloc::AllocError;
+use table_cases::entry_cases::put_class;
 use table_cases::{put_number, put_numbered};
 
 /// Adds the text of a state.

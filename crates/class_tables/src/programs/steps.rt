@@ -4,11 +4,11 @@ use crate::programs::listings::entry;
 use crate::programs::states::{put_state, put_told};
 use anyhow::{Result, bail};
 use class_program::{Program, StaticField};
-use entry_cases::{ProgramAnswers, answer_from_entry};
 use jvm_step::{Outcome, start, step};
 use jvm_values::{Heap, Slot, State, Value};
 use list_views::Seq;
 use std::alloc::{AllocError, Global};
+use table_cases::entry_cases::{ProgramAnswers, answer_from_entry};
 use table_cases::{Case, natural};
 
 /// The answer to a case.

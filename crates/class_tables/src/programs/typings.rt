@@ -4,9 +4,9 @@ use anyhow::{Context, Result, bail};
 use class_program::{Method, Program};
 use class_world::World;
 use code_verify::{Typing, VerifyFault, verify};
-use entry_cases::{ProgramAnswers, put_descriptor, put_method};
 use jvm_values::{FrameType, PlaceType};
 use std::alloc::{AllocError, Global};
+use table_cases::entry_cases::{ProgramAnswers, put_descriptor, put_method};
 use table_cases::{Case, put_comma, put_numbered};
 
 /// The cases of typings.

@@ -5,11 +5,11 @@ use Rattle.io_ports.specs.declared.files.FileFault.{FileFault}
 use Rattle.io_ports.specs.declared.files.FileFault.TheVariants.{Failed, TooLong, Missing, Memory}
 use Rattle.jterm.specs.declared.inputs.Failure.{Failure}
 use Rattle.jterm.specs.declared.inputs.Failure.TheVariants.{Unread, Broken, NoMemory}
-use Rattle.command_rows.specs.declared.table.Request.{Request}
+use Rattle.class_calls.specs.declared.command_rows.table.Request.{Request}
 use Rattle.input_steps.specs.declared.refused.Refused.TheVariants.{At}
 use Rattle.jterm.specs.declared.verdict.Verdict.{Verdict}
 use Rattle.jterm.specs.Decision.{IsAnswer, HoldsClaim}
-use Rattle.command_rows.specs.Words.{IsCommand}
+use Rattle.class_calls.specs.command_rows.Words.{IsCommand}
 use Rattle.input_steps.specs.Lines.{refusal_line}
 use Rattle.jterm.specs.Lines.{read_line, memory_line}
 use Rattle.jterm.specs.Outside.{AreContents, IsUnread}

@@ -4,14 +4,14 @@ use Rattle.std.specs.Prelude.{None, if◌then◌else◌, unsigned_abs}
 use Rattle.std.specs.List.{All}
 use Rattle.lin_core.specs.declared.rows.WRow.{WRow}
 use Rattle.lin_core.specs.Rows.{coefficient_of}
-use Rattle.rule_links.specs.declared.links.Link.{Link}
-use Rattle.rule_links.specs.declared.links.Tie.{Tie}
+use Rattle.rank_forms.specs.declared.rule_links.links.Link.{Link}
+use Rattle.rank_forms.specs.declared.rule_links.links.Tie.{Tie}
 use Rattle.rank_forms.specs.declared.following.Bound.{Bound}
 use Rattle.rank_forms.specs.declared.following.BoundRow.{BoundRow}
 use Rattle.rank_forms.specs.declared.following.Followed.{Followed}
-use Rattle.rule_links.specs.Links.{IsWay}
-use Rattle.rule_links.specs.Falls.{bounds}
-use Rattle.rule_links.specs.FallLinks.{IsFallLink}
+use Rattle.rank_forms.specs.rule_links.Links.{IsWay}
+use Rattle.rank_forms.specs.rule_links.Falls.{bounds}
+use Rattle.rank_forms.specs.rule_links.FallLinks.{IsFallLink}
 use Rattle.rank_forms.specs.Following.{step_times, AreSteps}
 
 abbrev pub step_entries : List Tie → List (ℕ × ℤ)

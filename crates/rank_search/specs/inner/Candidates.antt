@@ -8,7 +8,7 @@ use Rattle.rank_search.specs.declared.searching.PlainForm.{PlainForm}
 use Rattle.rank_search.specs.declared.searching.PlainForm.TheVariants.{Ints, Size}
 use Rattle.rank_search.specs.Plain.{IsMultiple, LowersBy, RanksInts, RanksSize}
 use Rattle.rank_search.specs.Stepwise.{StepwiseRanks}
-use Rattle.rule_links.specs.Ties.{IsMoved}
+use Rattle.rank_forms.specs.rule_links.Ties.{IsMoved}
 
 -- a form of the ints at two places, by their numbers in the list of places
 abbrev pub value_of : Option ℤ → Option ℤ → ℤ → ℤ → Option ℤ

@@ -5,7 +5,7 @@ use Rattle.lin_core.specs.declared.rows.WRow.{WRow}
 use Rattle.descent.specs.declared.rules.PathRule.{PathRule}
 use Rattle.rank_forms.specs.Forms.{slots_for}
 use Rattle.rank_forms.specs.Graphs.{heads}
-use Rattle.rule_links.specs.Ties.{is_bound}
+use Rattle.rank_forms.specs.rule_links.Ties.{is_bound}
 
 abbrev pub HasHeads : List PathRule → PathRule → Type 0
 HasHeads rules rule = (heads rule.first ≡ heads (slots_for rules rule.from)) × (heads rule.last ≡ heads (slots_for rules rule.to))

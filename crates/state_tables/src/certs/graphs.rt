@@ -2,10 +2,10 @@
 use abs_cells::ListPairs;
 use anyhow::{Result, bail};
 use class_world::World;
-use json_cases::{count, field, id_pairs, item, natural, naturals, word};
 use json_view::View;
-use state_cases::state;
 use std::alloc::Global;
+use table_cases::json_cases::{count, field, id_pairs, item, natural, naturals, word};
+use table_cases::state_cases::state;
 use term_graph::{By, Graph, MOST_NODES, Node};
 
 /// The graph of a list of nodes.

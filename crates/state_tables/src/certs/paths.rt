@@ -14,12 +14,12 @@ use cert_check::{Cause, Refusal, good_links, rules_between};
 use class_program::Program;
 use code_verify::{Typing, verify};
 use descent::PathRule;
-use entry_cases::ProgramAnswers;
-use json_cases::{field, naturals_of};
 use json_view::View;
 use list_views::Seq;
 use std::alloc::Global;
 use table_cases::Case;
+use table_cases::entry_cases::ProgramAnswers;
+use table_cases::json_cases::{field, naturals_of};
 use term_graph::{Graph, MOST_NODES, copied_state};
 
 /// The cases of paths.

@@ -5,14 +5,14 @@ ghost use Rattle.std.specs.Prelude.{◌<◌, length};
 use crate::certs::names::Names;
 use abs_cells::{ListPairs, PackedPairs, Pairs};
 use anyhow::{Context, Result, bail};
+use cert_form::cert_write::{encode, encode_parts};
 use cert_form::{CertFault, CertText};
-use cert_write::{encode, encode_parts};
-use entry_cases::put_bytes;
 use json_view::parse;
 use list_views::Seq;
 use serde_json::Value;
 use std::alloc::{AllocError, Global};
 use table_cases::Case;
+use table_cases::entry_cases::put_bytes;
 use term_graph::{Graph, MOST_NODES, Node, PartSource};
 
 /// The answer to a case.

@@ -11,12 +11,12 @@ use descent::{
     DescentFault, LinFault, PathRule, Proof, ProofStep, RankStep, StepFault, check_proof,
     components,
 };
-use json_cases::value;
 use json_view::View;
 use list_views::Seq;
-use rule_cases::{are_rules, ends, rules};
 use serde_json::Value;
 use std::alloc::{AllocError, Global};
+use table_cases::json_cases::value;
+use table_cases::rule_cases::{are_rules, ends, rules};
 use table_cases::{Case, put_number, put_numbered, said};
 
 /// The answer to a case.

@@ -8,11 +8,11 @@ use crate::rules::limits::{are_few, are_forms};
 use crate::rules::proofs::forms;
 use anyhow::{Result, bail};
 use descent::{CutForm, DescentFault, LinearOrder, Order, PathRule, Scratch, SizeOrder};
-use json_cases::item;
 use json_view::View;
-use rule_cases::{is_rule, pairs, rules};
 use serde_json::Value;
 use std::alloc::Global;
+use table_cases::json_cases::item;
+use table_cases::rule_cases::{is_rule, pairs, rules};
 use table_cases::said;
 
 /// What `weak`, `strict` and `bounded` of both orders answer, on the first of the rules, which has number 7. The second value has the

@@ -1,11 +1,11 @@
 //! Proofs as they stand in a case.
 use anyhow::{Result, bail};
 use descent::{CutForm, Proof, ProofStep, RankRule, RankStep};
-use json_cases::{count, integer, item, natural, naturals, word};
 use json_view::View;
 use list_views::Seq;
-use rule_cases::{multiples, pairs};
 use std::alloc::Global;
+use table_cases::json_cases::{count, integer, item, natural, naturals, word};
+use table_cases::rule_cases::{multiples, pairs};
 
 /// A proof: a list of steps.
 pub fn proof(alloc: Global, list: &View<'_, '_>) -> Result<Proof> {

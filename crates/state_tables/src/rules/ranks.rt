@@ -7,13 +7,13 @@ ghost use Rattle.descent.specs.Conditions.{AreRules};
 
 use anyhow::{Context, Result, bail};
 use descent::{PathRule, Place};
-use json_cases::value;
 use json_view::View;
 use rank_search::{
     PlainForm, StepwiseForm, are_plain_rules, linear, plain, plain_form, stepwise_form,
 };
-use rule_cases::{are_rules, rules};
 use std::alloc::{AllocError, Global};
+use table_cases::json_cases::value;
+use table_cases::rule_cases::{are_rules, rules};
 use table_cases::{Case, put_numbered, said};
 
 /// The answer to a case.

@@ -6,10 +6,10 @@ use anyhow::{Context, Result, bail};
 use class_program::Program;
 use class_world::World;
 use code_verify::{Typing, verify};
-use entry_cases::{ProgramAnswers, answer_in_program};
 use list_views::Seq;
-use state_cases::{agreed, children, state_in};
 use std::alloc::{AllocError, Global};
+use table_cases::entry_cases::{ProgramAnswers, answer_in_program};
+use table_cases::state_cases::{agreed, children, state_in};
 use table_cases::{Case, numbered, put_count, said};
 use term_graph::Child;
 

@@ -12,8 +12,8 @@ use abs_heap::{
 use anyhow::{Context, Result, bail};
 use class_world::World;
 use jvm_values::Types;
-use state_cases::{StateAnswers, children, state_in, ty};
 use std::alloc::Global;
+use table_cases::state_cases::{StateAnswers, children, state_in, ty};
 use table_cases::{Case, natural};
 
 /// The cases of the calls.

@@ -11,8 +11,8 @@ use abs_reach::cell_of;
 use anyhow::{Result, bail};
 use class_world::World;
 use jvm_values::{Base, Slot, Ty};
-use state_cases::{put_child, ty};
 use std::alloc::{AllocError, Global};
+use table_cases::state_cases::{put_child, ty};
 use table_cases::{numbered, said, short};
 use term_graph::Child;
 

@@ -10,10 +10,10 @@ use abs_match::{MatchFault, dropped_states_reach_all, find_map, instance};
 use abs_reach::{Marks, drop_unreached};
 use anyhow::{Result, bail};
 use class_world::World;
-use json_cases::{id_pairs, value};
 use json_view::View;
-use state_cases::{StateAnswers, state_in};
 use std::alloc::{AllocError, Global};
+use table_cases::json_cases::{id_pairs, value};
+use table_cases::state_cases::{StateAnswers, state_in};
 use table_cases::{Case, numbered, put_comma, put_numbered, said};
 
 /// The cases of instances and of maps that are found.

@@ -8,8 +8,8 @@ use abs_cells::{AbsState, Id, Pairs, well_formed};
 use abs_reach::{Marks, cell_of};
 use anyhow::{Result, bail};
 use class_world::World;
-use state_cases::{StateAnswers, state_in};
 use std::alloc::{AllocError, Global};
+use table_cases::state_cases::{StateAnswers, state_in};
 use table_cases::{Case, put_comma, put_number, put_numbered, said};
 use term_enc::{PatternTerm, encode};
 

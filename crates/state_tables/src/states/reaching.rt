@@ -8,8 +8,8 @@ use abs_cells::{AbsState, Id, Pairs, well_formed};
 use abs_reach::{Marks, is_finite, is_tree, known_from, may_be_in, may_meet};
 use anyhow::{Result, bail};
 use class_world::World;
-use state_cases::{StateAnswers, state_in};
 use std::alloc::{AllocError, Global};
+use table_cases::state_cases::{StateAnswers, state_in};
 use table_cases::{Case, put_number, said};
 
 /// The cases of the five tests.

@@ -5,12 +5,12 @@ ghost use Rattle.class_world.specs.WorldTypes.{types_of};
 
 use abs_cells::{AbsState, Pairs};
 use abs_reach::Marks;
-use abs_sound::is_sound;
+use abs_reach::abs_sound::is_sound;
 use abs_widen::{WidenFault, stand_alike, widen};
 use anyhow::{Result, bail};
 use class_world::World;
-use state_cases::{StateAnswers, put_state, state_in};
 use std::alloc::{AllocError, Global};
+use table_cases::state_cases::{StateAnswers, put_state, state_in};
 use table_cases::{Case, said};
 
 /// The cases of widenings.

@@ -1,5 +1,5 @@
 use Rattle.std.proofs.Common.{◌≡◌, drop}
-use Rattle.abs_sound.specs.Zips.{all_zip}
+use Rattle.abs_reach.specs.abs_sound.Zips.{all_zip}
 use Rattle.abs_expand.specs.inner.PlaceTests.{is_of_place}
 use Rattle.abs_expand.proofs.places.are_of_places.Given as goal
 

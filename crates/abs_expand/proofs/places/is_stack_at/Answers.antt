@@ -1,6 +1,6 @@
 use Rattle.std.proofs.Common.{◌∙◌, ap, reverse, drop, refl}
 use Rattle.std.proofs.lemmas.List.{reverse-reverse}
-use Rattle.abs_sound.specs.Zips.{all_zip}
+use Rattle.abs_reach.specs.abs_sound.Zips.{all_zip}
 use Rattle.jvm_values.specs.States.{types_of}
 use Rattle.abs_expand.specs.inner.PlaceTests.{is_entry_of}
 use Rattle.abs_expand.proofs.Placed.{stack_at}

@@ -1,12 +1,12 @@
 use Rattle.std.proofs.Common.{◌≡◌, ℕ, List, true, sym, ap, subst, ◌∙◌}
 use Rattle.std.specs.List.{AllByRecursion}
-use Rattle.asm_pool.specs.Entries.{has_text}
-use Rattle.asm_pool.specs.Needs.{listing_needs}
-use Rattle.asm_pool.specs.Pools.{Numbered}
+use Rattle.class_asm.specs.asm_pool.Entries.{has_text}
+use Rattle.class_asm.specs.asm_pool.Needs.{listing_needs}
+use Rattle.class_asm.specs.asm_pool.Pools.{Numbered}
 use Rattle.class_asm.specs.Classes.{class_of, class_text}
 use Rattle.class_asm.proofs.Assembled.{faulty, faultless, has_class_text}
 use Rattle.asm_lines.proofs.Outcomes.{is_fault}
-use Rattle.asm_pool.proofs.PoolBounds.{pool_texts}
+use Rattle.class_asm.proofs.PoolBounds.{pool_texts}
 use Rattle.class_asm.proofs.assembly.class_of.Goals as goal
 
 pub returns-in-Some-clause-same : goal.returns-in-Some-clause-same

@@ -2,9 +2,9 @@ use Rattle.std.proofs.Common.{◌≡◌, List, map, Option, ap, ◌∙◌}
 use Rattle.std.specs.List.{flat_map}
 use Rattle.asm_lines.specs.Firsts.{with_faults}
 use Rattle.asm_lines.specs.declared.listing.MethodLines.{MethodLines}
-use Rattle.asm_pool.specs.Needs.{listing_needs}
+use Rattle.class_asm.specs.asm_pool.Needs.{listing_needs}
 use Rattle.asm_lines.specs.declared.fault.AsmFault.{AsmFault}
-use Rattle.asm_pool.specs.Pools.{Need, Numbered, pool_in, pool_faults}
+use Rattle.class_asm.specs.asm_pool.Pools.{Need, Numbered, pool_in, pool_faults}
 use Rattle.class_asm.specs.Rules.{rule_faults}
 use Rattle.class_asm.specs.Classes.{method_text, code_faults}
 use Rattle.class_asm.proofs.Assembled.{in_turns}

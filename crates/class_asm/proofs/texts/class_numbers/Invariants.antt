@@ -1,6 +1,6 @@
 use Rattle.std.proofs.Common.{◌≡◌, take, map}
-use Rattle.asm_pool.specs.Entries.{Class}
-use Rattle.asm_pool.specs.Pools.{number_of}
+use Rattle.class_asm.specs.asm_pool.Entries.{Class}
+use Rattle.class_asm.specs.asm_pool.Pools.{number_of}
 use Rattle.class_asm.proofs.texts.class_numbers.Given as goal
 
 abbrev pub invariant-loop-name : goal.invariant-loop-name

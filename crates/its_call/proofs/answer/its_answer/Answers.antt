@@ -1,6 +1,6 @@
 use Rattle.std.proofs.Common.{List, subst}
 use Rattle.descent.specs.declared.rules.PathRule.{PathRule}
-use Rattle.its_search.specs.Found.{Finds}
+use Rattle.its_call.specs.its_search.Found.{Finds}
 use Rattle.its_call.proofs.Ending.{ends}
 use Rattle.its_call.proofs.answer.its_answer.Goals as goal
 

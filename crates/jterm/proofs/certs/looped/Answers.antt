@@ -1,5 +1,5 @@
 use Rattle.std.proofs.Common.{map}
-use Rattle.command_rows.specs.declared.table.Request.TheVariants.{Loop}
+use Rattle.class_calls.specs.declared.command_rows.table.Request.TheVariants.{Loop}
 use Rattle.jterm.proofs.CertCommands.{least_taken, inputs_are_three, loop_answer, loop_claim}
 use Rattle.jterm.proofs.certs.looped.Goals as goal
 

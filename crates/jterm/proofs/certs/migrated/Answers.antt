@@ -1,5 +1,5 @@
 use Rattle.std.proofs.Common.{map}
-use Rattle.command_rows.specs.declared.table.Request.TheVariants.{Migrate}
+use Rattle.class_calls.specs.declared.command_rows.table.Request.TheVariants.{Migrate}
 use Rattle.jterm.proofs.CertCommands.{least_taken, migrate_answer, migrate_claim}
 use Rattle.jterm.proofs.Deciding.{inputs_are_two}
 use Rattle.jterm.proofs.certs.migrated.Goals as goal

@@ -1,5 +1,5 @@
 use Rattle.std.proofs.Common.{map}
-use Rattle.command_rows.specs.declared.table.Request.TheVariants.{Throws}
+use Rattle.class_calls.specs.declared.command_rows.table.Request.TheVariants.{Throws}
 use Rattle.jterm.proofs.CertCommands.{least_taken, throws_answer, throws_claim}
 use Rattle.jterm.proofs.Deciding.{inputs_are_two}
 use Rattle.jterm.proofs.certs.reported.Goals as goal

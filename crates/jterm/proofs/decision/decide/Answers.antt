@@ -2,7 +2,7 @@ use Rattle.std.proofs.Common.{map, sym, ap}
 use Rattle.jterm.proofs.Proving.{verdict_of_prove}
 use Rattle.jterm.proofs.Deciding.{least_inputs, no_inputs, one_input, inputs_are, inputs_are_two, prove_answer, prove_claim}
 use Rattle.jterm.proofs.Deciding.{check_answer, check_claim, run_answer, run_claim, asm_claim, its_answer, its_claim}
-use Rattle.command_rows.specs.declared.table.Request.TheVariants.{Migrate, Bound, Loop, Throws}
+use Rattle.class_calls.specs.declared.command_rows.table.Request.TheVariants.{Migrate, Bound, Loop, Throws}
 use Rattle.jterm.proofs.CertCommands.{asked_takes, asked_answer, asked_claim}
 use Rattle.jterm.proofs.Making.{made_answer, made_claim}
 use Rattle.jterm.proofs.decision.decide.Goals as goal

@@ -4,7 +4,7 @@ use Rattle.check_call.specs.Lines.{accepted_line}
 use Rattle.its_call.specs.Lines as its
 use Rattle.jterm.specs.GenerateLines.{yes_begin}
 use Rattle.jterm.proofs.Endings.{unclaimed, unbegun, not_low, headline, headline_of_check, headline_of_generate, headline_of_its}
-use Rattle.loop_call.specs.Lines.{no_line}
+use Rattle.cert_calls.specs.loop_call.Lines.{no_line}
 use Rattle.jterm.proofs.Headlines.{headline_of_throws, headline_of_bound, headline_of_loop, headline_of_migrate}
 use Rattle.jterm.proofs.WaysOut.{no_command, with_verdict, stopped}
 use Rattle.jterm.proofs.top.jterm.Goals as goal

@@ -2,7 +2,7 @@ use Rattle.std.proofs.Common.{ℕ, List, Ok, sym, subst, arith}
 use Rattle.class_program.specs.Views.{program_of}
 use Rattle.code_verify.specs.Typings.{typing_at}
 use Rattle.cert_form.specs.Certificates.{cert_of, SaysOf}
-use Rattle.cert_write.specs.Data.{content_of}
+use Rattle.cert_form.specs.cert_write.Data.{content_of}
 use Rattle.cert_verdict.specs.declared.verdict.CertVerdict.{CertVerdict}
 use Rattle.cert_verdict.specs.Verdicts.{Judges}
 use Rattle.prove_core.specs.Answers.{SaysValid}

@@ -4,7 +4,7 @@ use Rattle.lin_core.specs.declared.rows.WRow.{WRow}
 use Rattle.descent.specs.declared.rules.SlotForm.{SlotForm}
 use Rattle.rank_forms.specs.inner.Following.{SmallConstants, TellsBetween}
 use Rattle.rank_forms.specs.Following.{TellsFollowed}
-use Rattle.rule_links.specs.Ties.{variable_at}
+use Rattle.rank_forms.specs.rule_links.Ties.{variable_at}
 use Rattle.rank_forms.proofs.Along.{along_is, finish_low, small_constants}
 use Rattle.rank_forms.proofs.following.follow_steps.Goals as goal
 

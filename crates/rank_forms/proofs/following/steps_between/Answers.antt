@@ -1,10 +1,10 @@
 use Rattle.std.proofs.Common.{◌≡◌, ℕ, List, ℤ, ap, sym, subst, ◌∙◌, None, length, get_or, FitsSigned, to_z, of_z, to_z-of_z, w64}
-use Rattle.rule_links.specs.declared.links.Tie.{Tie}
-use Rattle.rule_links.specs.Counting.{multipliers_of}
+use Rattle.rank_forms.specs.declared.rule_links.links.Tie.{Tie}
+use Rattle.rank_forms.specs.rule_links.Counting.{multipliers_of}
 use Rattle.rank_forms.specs.Following.{AreSteps, made}
 use Rattle.rank_forms.specs.inner.Following.{bounded_by, step_entries}
-use Rattle.rule_links.specs.Falls.{IsLongest}
-use Rattle.rule_links.specs.Ties.{Known, trail_from}
+use Rattle.rank_forms.specs.rule_links.Falls.{IsLongest}
+use Rattle.rank_forms.specs.rule_links.Ties.{Known, trail_from}
 use Rattle.rank_forms.proofs.Stepped.{no_steps, none_told, steps_made}
 use Rattle.rank_forms.proofs.following.steps_between.Goals as goal
 

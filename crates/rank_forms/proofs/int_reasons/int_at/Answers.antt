@@ -3,7 +3,7 @@ use Rattle.descent.proofs.Classes.{if_ok_then}
 use Rattle.lin_core.specs.declared.rows.WRow.{WRow}
 use Rattle.descent.specs.declared.rules.SlotForm.{SlotForm}
 use Rattle.rank_forms.specs.Reasons.{TellsInt, TellsIntAt}
-use Rattle.rule_links.specs.Ties.{variable_at}
+use Rattle.rank_forms.specs.rule_links.Ties.{variable_at}
 use Rattle.rank_forms.proofs.Ended.{int_ends}
 use Rattle.rank_forms.proofs.int_reasons.int_at.Goals as goal
 

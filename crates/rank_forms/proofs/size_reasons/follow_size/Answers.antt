@@ -4,7 +4,7 @@ use Rattle.lin_core.specs.declared.rows.WRow.{WRow}
 use Rattle.descent.specs.declared.rules.SlotForm.{SlotForm}
 use Rattle.rank_forms.specs.Reasons.{followed_of}
 use Rattle.rank_forms.specs.SizeReasons.{TellsSizeAt, TellsSizeReasons}
-use Rattle.rule_links.specs.Ties.{variable_at}
+use Rattle.rank_forms.specs.rule_links.Ties.{variable_at}
 use Rattle.rank_forms.proofs.Ended.{size_ends}
 use Rattle.rank_forms.proofs.size_reasons.follow_size.Goals as goal
 

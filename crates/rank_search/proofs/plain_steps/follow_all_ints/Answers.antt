@@ -2,7 +2,7 @@ use Rattle.std.proofs.Common.{Some}
 use Rattle.rank_forms.specs.Reasons.{TellsInts}
 use Rattle.rank_search.proofs.PlainSteps.{each_followed, none_followed, nothing, some_followed}
 use Rattle.rank_search.proofs.StepRanked.{item_at}
-use Rattle.rule_links.proofs.Told.{told_first, told_more}
+use Rattle.rank_forms.proofs.Told.{told_first, told_more}
 use Rattle.rank_search.proofs.plain_steps.follow_all_ints.Goals as goal
 
 pub loop-rule-init : goal.loop-rule-init

@@ -1,7 +1,7 @@
 use Rattle.std.proofs.Common.{Some}
 use Rattle.rank_forms.specs.SizeReasons.{TellsSizeAt}
 use Rattle.rank_search.proofs.PlainSteps.{nothing}
-use Rattle.rule_links.proofs.Told.{AreTold}
+use Rattle.rank_forms.proofs.Told.{AreTold}
 use Rattle.rank_search.proofs.plain_steps.follow_all_sizes.Given as goal
 
 abbrev pub invariant-loop-rule : goal.invariant-loop-rule

@@ -1,7 +1,7 @@
 use Rattle.std.proofs.Common.{List, false, subst, sym}
 use Rattle.descent.specs.declared.rules.Place.{Place}
-use Rattle.rule_links.specs.Falls.{ArePlacesOf}
-use Rattle.rule_links.specs.Ties.{TellsChange}
+use Rattle.rank_forms.specs.rule_links.Falls.{ArePlacesOf}
+use Rattle.rank_forms.specs.rule_links.Ties.{TellsChange}
 use Rattle.rank_search.proofs.Lowered.{table_at}
 use Rattle.rank_search.proofs.searching.int_form.Goals as goal
 

@@ -1,6 +1,6 @@
 use Rattle.std.proofs.Common.{List, true, subst, sym}
 use Rattle.descent.specs.declared.rules.Place.{Place}
-use Rattle.rule_links.specs.Falls.{ArePlacesOf, TellsSize}
+use Rattle.rank_forms.specs.rule_links.Falls.{ArePlacesOf, TellsSize}
 use Rattle.rank_search.proofs.Lowered.{table_at}
 use Rattle.rank_search.proofs.searching.size_form.Goals as goal
 

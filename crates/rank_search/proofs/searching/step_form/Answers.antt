@@ -1,6 +1,6 @@
 use Rattle.std.proofs.Common.{List, false, true, subst, sym}
 use Rattle.descent.specs.declared.rules.Place.{Place}
-use Rattle.rule_links.specs.Falls.{ArePlacesOf, TellsSteps}
+use Rattle.rank_forms.specs.rule_links.Falls.{ArePlacesOf, TellsSteps}
 use Rattle.rank_search.proofs.Lowered.{table_at}
 use Rattle.rank_search.proofs.searching.step_form.Goals as goal
 

@@ -1,7 +1,7 @@
 use Rattle.std.proofs.Common.{None, [], pos, subst, sym}
 use Rattle.descent.specs.Conditions.{IsRule}
 use Rattle.rank_forms.specs.Following.{IsAlong, IsFew, made}
-use Rattle.rule_links.proofs.Told.{told_first, told_more}
+use Rattle.rank_forms.proofs.Told.{told_first, told_more}
 use Rattle.rank_search.proofs.StepRanked.{few_at, follows_all, follows_none, follows_some, item_at}
 use Rattle.rank_search.proofs.stepping.follow_all.Goals as goal
 

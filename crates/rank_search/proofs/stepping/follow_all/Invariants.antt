@@ -1,6 +1,6 @@
 use Rattle.std.proofs.Common.{None, [], pos}
 use Rattle.rank_forms.specs.Following.{IsAlong, made}
-use Rattle.rule_links.proofs.Told.{AreTold}
+use Rattle.rank_forms.proofs.Told.{AreTold}
 use Rattle.rank_search.proofs.stepping.follow_all.Given as goal
 
 abbrev pub invariant-loop-rule : goal.invariant-loop-rule

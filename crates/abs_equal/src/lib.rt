@@ -1,8 +1,0 @@
-//! Whether two abstract states are the same.
-#![tactic(auto)]
-
-mod cells;
-mod frames;
-mod states;
-
-pub use states::is_same_state;

@@ -1,3 +1,0 @@
-pub mod Cells
-pub mod Thrown
-pub mod Zipped

@@ -1,8 +1,0 @@
-use Rattle.std.proofs.Common.{◌≡◌, drop, map}
-use Rattle.asm_codes.specs.LineFaults.{knows}
-use Rattle.asm_codes.specs.Places.{place_in}
-use Rattle.asm_codes.proofs.line_fault.knows_cases.Given as goal
-
-abbrev pub invariant-loop-case : goal.invariant-loop-case
-invariant-loop-case l = knows (place_in l.labels) (map (λ c. c.1) (drop l.case-index l.cases)) ≡ knows (place_in l.labels)
-    (map (λ c. c.1) l.cases)

@@ -1,7 +1,0 @@
-use Rattle.std.proofs.Common.{◌≡◌, ◌++◌, take}
-use Rattle.std.specs.List.{flat_map}
-use Rattle.asm_pool.specs.Needs.{line_needs, insn_entries}
-use Rattle.asm_pool.proofs.needs.Needs.insns.Given as goal
-
-abbrev pub invariant-loop-code : goal.invariant-loop-code
-invariant-loop-code l = l.self ≡ l.fn.self ++ flat_map (line_needs insn_entries) (take l.code-index l.lines)

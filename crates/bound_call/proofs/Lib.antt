@@ -1,3 +1,0 @@
-pub mod OneAnswer
-pub mod OneBound
-pub mod Saying

@@ -1,5 +1,0 @@
-use Rattle.bound_call.proofs.OneAnswer.{answers_one}
-use Rattle.bound_call.proofs.laws.answers_are_one.Goals as goal
-
-pub returns : goal.returns
-returns c = answers_one

@@ -1,0 +1,114 @@
+//! What is said of a certificate, where its program and its description are good.
+ghost use Rattle.std.specs.Prelude.{◌≤◌, ◌^◌, ◌-◌, length};
+ghost use Rattle.class_world.specs.Worlds.{classes_of};
+ghost use Rattle.class_program.specs.Views.{program_of};
+ghost use Rattle.code_verify.specs.Typings.{IsTypingOf, typing_at};
+ghost use Rattle.descent.specs.Conditions.{AreSteps};
+ghost use Rattle.input_desc.specs.Descs.{IsOwnDesc};
+ghost use Rattle.desc_steps.specs.Answers.{AnswersAs};
+ghost use Rattle.cert_form.specs.Certificates.{LackingAreNamed};
+ghost use Rattle.cert_check.specs.Parts.{case_of};
+ghost use Rattle.term_graph.specs.Limits.{most_nodes};
+ghost use Rattle.check_call.specs.Answers.{OfCase, OfContent, OfCert};
+ghost use Rattle.cert_calls.specs.throws_call.Answers.{reported, SaysReport};
+ghost use Rattle.cert_calls.specs.throws_call.inner.Words.{EndAsReported, EndAsDescribed};
+
+use abs_cells::{AbsState, PackedPairs, Pairs};
+use cert_check::Refusal;
+use cert_form::CertText;
+use check_call::{Outcome, refuse_item, refuse_text};
+use class_program::Program;
+use class_world::World;
+use code_verify::Typing;
+use desc_steps::class_names;
+use descent::Proof;
+use graph_fill::filled;
+use input_desc::{Desc, initial};
+use input_steps::Refused;
+use std::alloc::Global;
+use term_graph::NodeSource;
+use throw_report::{Report, checked_report, report_text};
+
+/// A report in words.
+fn reported(alloc: Global, world: &World<'_>, report: &Report) -> Result<Outcome, Refused>
+    ensures { AnswersAs (reported (classes_of world.now) report.now) result }
+{
+    let out = report_text(alloc, world, report)?;
+    Ok(Outcome { status: 0, out })
+}
+
+/// What is said of nodes with cuts and a proof.
+#[tactic(auto, using(crate::proofs::ThrowsSaying::reports, crate::proofs::ThrowsSaying::reports_end, crate::proofs::ThrowsSaying::refused_ends, check_call::proofs::Reading::case_refused))]
+fn of_nodes<P: Pairs, S: NodeSource<P>>(
+    alloc: Global,
+    program: &Program<'_>,
+    typing: &Typing,
+    root: &AbsState<P>,
+    nodes: &mut S,
+    cuts: &[u32],
+    proof: &Proof,
+) -> Result<Outcome, Refused>
+    requires typing { IsTypingOf (program_of program.now) (typing_at typing.now) }
+    requires few { length (S.graph nodes.old) ≤ 2 ^ 32 - 16 }
+    requires steps { AreSteps proof.now.steps }
+    ensures case { OfCase SaysReport (case_of (program_of program.now) (typing_at typing.now) root.now (S.graph nodes.old) cuts.now
+        proof.now.steps) result }
+    ensures ends { EndAsReported (program_of program.now) root.now result }
+{
+    match checked_report(alloc, program, typing, nodes, root, cuts, proof) {
+        Ok(report) => reported(alloc, &program.world, &report),
+        Err(Refusal::Item { item, cause }) => refuse_item(alloc, item, cause),
+        Err(Refusal::Memory) => Err(Refused::Memory),
+    }
+}
+
+/// What is said of what a certificate says.
+#[tactic(auto, using(graph_fill::proofs::Lacking::few_filled, check_call::proofs::Reading::content_goes))]
+fn of_text(
+    alloc: Global,
+    program: &Program<'_>,
+    typing: &Typing,
+    root: &AbsState<PackedPairs>,
+    text: &CertText<'_>,
+) -> Result<Outcome, Refused>
+    requires typing { IsTypingOf (program_of program.now) (typing_at typing.now) }
+    requires named { LackingAreNamed text.now.parts }
+    requires few { length text.now.parts ≤ most_nodes }
+    requires steps { AreSteps text.now.proof }
+    ensures content { OfContent SaysReport (program_of program.now) (typing_at typing.now) root.now text.now result }
+    ensures ends { EndAsReported (program_of program.now) root.now result }
+{
+    let mut nodes = filled::<PackedPairs, _>(alloc, program, typing, text)?;
+    nodes.begin(true);
+    of_nodes(
+        alloc,
+        program,
+        typing,
+        root,
+        &mut nodes,
+        text.cuts(),
+        text.proof(),
+    )
+}
+
+/// What is said of the bytes of a certificate for a program whose inputs are described.
+#[tactic(auto, using(crate::proofs::ThrowsSaying::described, crate::proofs::ThrowsSaying::text_ends, check_call::proofs::Reading::cert_goes, check_call::proofs::Reading::cert_refused))]
+pub(crate) fn report_bytes(
+    alloc: Global,
+    program: &Program<'_>,
+    typing: &Typing,
+    desc: &Desc,
+    cert: &[u8],
+) -> Result<Outcome, Refused>
+    requires typing { IsTypingOf (program_of program.now) (typing_at typing.now) }
+    requires own { IsOwnDesc (program_of program.now) desc.now }
+    ensures cert { OfCert SaysReport cert.now (program_of program.now) (typing_at typing.now) desc.now result }
+    ensures ends { EndAsDescribed (program_of program.now) desc.now result }
+{
+    let names = class_names(alloc, &program.world)?;
+    let root: AbsState<PackedPairs> = initial(alloc, desc, program)?;
+    match CertText::read(alloc, cert, &names) {
+        Ok(text) => of_text(alloc, program, typing, &root, &text),
+        Err(fault) => refuse_text(alloc, fault),
+    }
+}

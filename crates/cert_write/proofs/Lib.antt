@@ -1,9 +1,0 @@
-pub mod Backs
-pub mod CertBacks
-pub mod ClassTexts
-pub mod NodeBacks
-pub mod Plain
-pub mod StateBacks
-pub mod StepBacks
-pub mod WordBacks
-pub mod WritingNodes

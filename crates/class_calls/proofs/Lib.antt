@@ -1,0 +1,14 @@
+pub mod Numbers
+pub mod Lists
+pub mod Rows
+pub mod Commands
+pub mod OneCommand
+pub mod AsmOneAnswer
+pub mod Answering
+pub mod Endings
+pub mod Inputs
+pub mod RunOneAnswer
+pub mod Answered
+pub mod Lines
+pub mod Pairs
+pub mod Wholes

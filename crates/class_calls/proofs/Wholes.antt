@@ -1,0 +1,237 @@
+-- Descriptions that leave no input out: each state with which the method can begin fits them.
+use Rattle.std.proofs.Common.{◌≡◌, ◌≢◌, ℕ, ◌<◌, ℤ, ◌≤ℤ◌, Bool, true, false, List, [], ◌∷◌, ◌++◌, map, Some, None, Ok, ◌⊎◌, inl, inr}
+use Rattle.std.proofs.Common.{sym, refl, ap, subst, ◌∙◌, arith}
+use Rattle.std.specs.Prelude.{slice_get, int_le, ◌||◌}
+use Rattle.std.specs.List.{AllZip, list_all}
+use Rattle.std.specs.Option.{option_map_or}
+use Rattle.std.proofs.lemmas.Bool.{false≢true, and_parts, cases_order}
+use Rattle.std.proofs.lemmas.Int.{ints}
+use Rattle.std.proofs.lemmas.List.{length-map}
+use Rattle.std.proofs.lemmas.Slice.Zip.{AllZip-long}
+use Rattle.list_views.proofs.Truths.{or_either}
+use Rattle.list_views.proofs.Zipped.{zip_joined}
+use Rattle.jvm_values.specs.declared.types.Ty.{Ty}
+use Rattle.jvm_values.specs.declared.types.Slot.{Slot}
+use Rattle.jvm_values.specs.declared.types.Slot.TheVariants as slots
+use Rattle.jvm_values.specs.declared.heap.Value.{Value}
+use Rattle.jvm_values.specs.declared.heap.Value.TheVariants as values
+use Rattle.jvm_values.specs.declared.heap.Object.{Object}
+use Rattle.jvm_values.specs.declared.heap.Heap.{Heap}
+use Rattle.jvm_values.specs.declared.shape.Shape.{Shape}
+use Rattle.jvm_values.specs.declared.shape.Shape.TheVariants as shapes
+use Rattle.jvm_values.specs.Kinds.{least_of, greatest_of}
+use Rattle.jvm_values.specs.States.{MachineState}
+use Rattle.jvm_values.specs.Heaps.{target, HasShape}
+use Rattle.jvm_values.specs.TypedHeaps.{WorldTypes, type_of, Holds}
+use Rattle.class_world.specs.World.{World}
+use Rattle.class_world.specs.WorldTypes.{types_of}
+use Rattle.class_world.specs.lemmas.WorldLaws.{world_laws}
+use Rattle.class_world.specs.Types.{is_sub, erase}
+use Rattle.class_program.specs.Programs.{Program, IsClosed}
+use Rattle.input_text.specs.Answers.{SaysOf}
+use Rattle.input_text.specs.Descriptions.{description_of}
+use Rattle.input_text.specs.declared.texts.DescText.{DescText}
+use Rattle.input_desc.specs.declared.desc.Input.{Input}
+use Rattle.input_desc.specs.declared.desc.Input.TheVariants.{Int, Ref}
+use Rattle.input_desc.specs.declared.desc.Desc.{Desc}
+use Rattle.input_desc.specs.Entries.{entry_of}
+use Rattle.input_desc.specs.Given.{params_of, statics_of, argument_slot, slots_of}
+use Rattle.input_desc.specs.Descs.{has_receiver, desc_fault, IsDescribed}
+use Rattle.input_desc.specs.Fitting.{FitsInput, IsListed, FitsDescription}
+use Rattle.input_desc.proofs.Unfit.{all_fitting}
+use Rattle.input_desc.proofs.Wider.{Laws, has_wider, erased_twice}
+use Rattle.input_desc.proofs.Zipped.{zip_before}
+use Rattle.class_calls.specs.declared.describe.inputs.Listed.TheVariants.{Same, Share}
+use Rattle.class_calls.specs.describe.Starts.{HasReceiver, IsStartState}
+use Rattle.class_calls.specs.describe.Whole.{is_any, is_open, is_nullable, behind, are_comparable, ListsAll, IsWhole}
+use Rattle.class_calls.specs.describe.Templates.{IsTemplate}
+use Rattle.class_calls.proofs.Pairs.{swapped, listed_behind}
+
+-- ---- one input
+
+within : (least greatest lo hi n : ℤ) → int_le lo least ≡ true → int_le greatest hi ≡ true → least ≤ℤ n → n ≤ℤ greatest
+    → (lo ≤ℤ n) × (n ≤ℤ hi)
+within least greatest lo hi n low high l h = (omega (arith, ints), omega (arith, ints))
+
+any_shape : (shape : Shape) (heap : Heap) (value : Value) → is_any shape ≡ true → HasShape shape heap value
+any_shape shapes.Tree heap value e = absurd (false≢true e)
+any_shape shapes.Dag heap value e = absurd (false≢true e)
+any_shape shapes.Any heap value e = tt
+
+fits_open : (world : World) (heap : Heap) (slot : Slot) (input : Input) (value : Value) → Laws world
+    → is_open world slot input ≡ true → (value ≡ values.Null → is_nullable input ≡ true) → Holds (types_of world) heap slot value
+    → FitsInput (types_of world) heap input value
+fits_open world heap (slots.Num kind) (Int interval) (values.Int n) laws o null h =
+    let both = and_parts (int_le interval.lo (least_of kind)) (int_le (greatest_of kind) interval.hi) o in
+    (n, (refl, within (least_of kind) (greatest_of kind) interval.lo interval.hi n both.0 both.1 h.0 h.1))
+fits_open world heap (slots.Num kind) (Int interval) values.Null laws o null h = absurd h
+fits_open world heap (slots.Num kind) (Int interval) (values.Ref r) laws o null h = absurd h
+fits_open world heap (slots.Num kind) (Ref s has shape) value laws o null h = absurd (false≢true o)
+fits_open world heap (slots.Ref t) (Int interval) value laws o null h = absurd (false≢true o)
+fits_open world heap (slots.Ref t) (Ref s has shape) value laws o null h =
+    let both = and_parts (is_sub world (erase world t) s) (is_any shape) o in
+    (null, (has_wider world heap value (erase world t) s laws h both.0, any_shape shape heap value both.1))
+
+-- ---- all inputs
+
+abbrev IsOpenAt : World → Slot → Input → Type 0
+IsOpenAt world slot input = is_open world slot input ≡ true
+
+fit_nullable : (world : World) (heap : Heap) (wanted : List Slot) (inputs : List Input) (given : List Value) → Laws world
+    → AllZip (IsOpenAt world) wanted inputs → list_all is_nullable inputs ≡ true → AllZip (Holds (types_of world) heap) wanted given
+    → AllZip (FitsInput (types_of world) heap) inputs given
+fit_nullable world heap [] [] [] laws o n h = tt
+fit_nullable world heap [] [] (value ∷ given) laws o n h = absurd h
+fit_nullable world heap [] (input ∷ inputs) given laws o n h = absurd o
+fit_nullable world heap (slot ∷ wanted) [] given laws o n h = absurd o
+fit_nullable world heap (slot ∷ wanted) (input ∷ inputs) [] laws o n h = absurd h
+fit_nullable world heap (slot ∷ wanted) (input ∷ inputs) (value ∷ given) laws o n h =
+    let both = and_parts (is_nullable input) (list_all is_nullable inputs) n in
+    (fits_open world heap slot input value laws o.0 (λ e. both.0) h.0, fit_nullable world heap wanted inputs given laws o.1 both.1 h.1)
+
+fit_all : (world : World) (heap : Heap) (receiver : Bool) (wanted : List Slot) (inputs : List Input) (given : List Value)
+    → Laws world → AllZip (IsOpenAt world) wanted inputs → list_all is_nullable (behind receiver inputs) ≡ true
+    → (receiver ≡ true → HasReceiver given) → AllZip (Holds (types_of world) heap) wanted given
+    → AllZip (FitsInput (types_of world) heap) inputs given
+fit_all world heap receiver [] [] [] laws o n r h = tt
+fit_all world heap receiver [] [] (value ∷ given) laws o n r h = absurd h
+fit_all world heap receiver [] (input ∷ inputs) given laws o n r h = absurd o
+fit_all world heap receiver (slot ∷ wanted) [] given laws o n r h = absurd o
+fit_all world heap receiver (slot ∷ wanted) (input ∷ inputs) [] laws o n r h = absurd h
+fit_all world heap true (slot ∷ wanted) (input ∷ inputs) (value ∷ given) laws o n r h = (
+  fits_open world heap slot input value laws o.0 (λ e. absurd (r refl e)) h.0,
+  fit_nullable world heap wanted inputs given laws
+      o.1 n h.1,
+)
+fit_all world heap false (slot ∷ wanted) (input ∷ inputs) (value ∷ given) laws o n r h = fit_nullable world heap (slot ∷ wanted)
+    (input ∷ inputs) (value ∷ given) laws o n h
+
+received_more : (args more : List Value) → HasReceiver args → HasReceiver (args ++ more)
+received_more [] more h = absurd h
+received_more (value ∷ args) more h = h
+
+-- ---- pairs
+
+-- what holds a value that names an object
+record IsOf (types : WorldTypes) (heap : Heap) (slot : Slot) (o : ℕ) : Type 0 where
+  own : Ty
+  is : slot ≡ slots.Ref own
+  object : Object
+  there : slice_get heap.objects o ≡ Some object
+  below : types.sub (type_of object) (types.erase own) ≡ true
+
+is_of : (types : WorldTypes) (heap : Heap) (slot : Slot) (value : Value) (o : ℕ) → Holds types heap slot value
+    → target value ≡ Some o → IsOf types heap slot o
+is_of types heap (slots.Num kind) (values.Int n) o h e = absurd (let none : None ≡ Some o = e in cc)
+is_of types heap (slots.Num kind) values.Null o h e = absurd h
+is_of types heap (slots.Num kind) (values.Ref r) o h e = absurd h
+is_of types heap (slots.Ref t) (values.Int n) o h e = absurd h
+is_of types heap (slots.Ref t) values.Null o h e = absurd (let none : target values.Null ≡ Some o = e in cc)
+is_of types heap (slots.Ref t) (values.Ref r) o h e =
+    let same : r ≡ o = let k : Some r ≡ Some o = e in cc in
+    record { own = t; is = refl; object = h.0; there = ap (slice_get heap.objects) (sym same) ∙ h.1.0; below = h.1.1 }
+
+-- references to one object are comparable
+comparable : (world : World) (heap : Heap) (a b : Slot) (o : ℕ) → Laws world → (one : IsOf (types_of world) heap a o)
+    → (other : IsOf (types_of world) heap b o) → are_comparable world one.own other.own ≡ true
+comparable world heap a b o laws one other =
+    let same_object : one.object ≡ other.object = let k : Some one.object ≡ Some other.object = sym one.there ∙ other.there in cc in
+    let below : is_sub world (type_of one.object) (erase world other.own) ≡ true = ap
+    (λ x. is_sub world (type_of x) (erase world other.own)) same_object ∙ other.below in
+    or_either (is_sub world (erase world one.own) (erase world other.own)) (is_sub world (erase world other.own) (erase world one.own))
+    (laws.chain (type_of one.object) (erase world one.own) (erase world other.own) one.below below (erased_twice world one.own)
+    (erased_twice world other.own))
+
+-- two inputs that are one object are listed, the lower one first
+same_up : (world : World) (heap : Heap) (wanted : List Slot) (given : List Value) (pairs : List (ℕ × ℕ)) (i j o : ℕ) (v w : Value)
+    → Laws world → AllZip (Holds (types_of world) heap) wanted given → ListsAll world Same wanted pairs → i < j
+    → slice_get given i ≡ Some v → slice_get given j ≡ Some w → target v ≡ Some o → target w ≡ Some o → IsListed i j pairs
+same_up world heap wanted given pairs i j o v w laws held lists l at_v at_w e f =
+    let types = types_of world in
+    let a = zip_before (Holds types heap) wanted given i v held at_v in
+    let b = zip_before (Holds types heap) wanted given j w held at_w in
+    let one = is_of types heap a.0 v o a.1.1 e in
+    let other = is_of types heap b.0 w o b.1.1 f in
+    lists i j (slots.Ref one.own) (slots.Ref other.own) l (a.1.0 ∙ ap Some one.is) (b.1.0 ∙ ap Some other.is)
+    (comparable world heap a.0 b.0 o laws one other)
+
+-- two inputs that name objects are listed as ones that share
+share_up : (world : World) (heap : Heap) (wanted : List Slot) (given : List Value) (pairs : List (ℕ × ℕ)) (i j o q : ℕ)
+    (v w : Value) → AllZip (Holds (types_of world) heap) wanted given → ListsAll world Share wanted pairs → i < j
+    → slice_get given i ≡ Some v → slice_get given j ≡ Some w → target v ≡ Some o → target w ≡ Some q → IsListed i j pairs
+share_up world heap wanted given pairs i j o q v w held lists l at_v at_w e f =
+    let types = types_of world in
+    let a = zip_before (Holds types heap) wanted given i v held at_v in
+    let b = zip_before (Holds types heap) wanted given j w held at_w in
+    let one = is_of types heap a.0 v o a.1.1 e in
+    let other = is_of types heap b.0 w q b.1.1 f in
+    lists i j (slots.Ref one.own) (slots.Ref other.own) l (a.1.0 ∙ ap Some one.is) (b.1.0 ∙ ap Some other.is) refl
+
+same_listed : (world : World) (heap : Heap) (wanted : List Slot) (given : List Value) (pairs : List (ℕ × ℕ)) (i j o : ℕ)
+    (v w : Value) → Laws world → AllZip (Holds (types_of world) heap) wanted given → ListsAll world Same wanted pairs → i ≢ j
+    → slice_get given i ≡ Some v → slice_get given j ≡ Some w → target v ≡ Some o → target w ≡ Some o → IsListed i j pairs
+same_listed world heap wanted given pairs i j o v w laws held lists apart at_v at_w e f = go (cases_order i j)
+  where
+    go : (i ≡ j) ⊎ ((i < j) ⊎ (j < i)) → IsListed i j pairs
+    go (inl k) = absurd (apart k)
+    go (inr (inl l)) = same_up world heap wanted given pairs i j o v w laws held lists l at_v at_w e f
+    go (inr (inr l)) = swapped j i pairs (same_up world heap wanted given pairs j i o w v laws held lists l at_w at_v f e)
+
+share_listed : (world : World) (heap : Heap) (wanted : List Slot) (given : List Value) (pairs : List (ℕ × ℕ)) (i j o q : ℕ)
+    (v w : Value) → AllZip (Holds (types_of world) heap) wanted given → ListsAll world Share wanted pairs → i ≢ j
+    → slice_get given i ≡ Some v → slice_get given j ≡ Some w → target v ≡ Some o → target w ≡ Some q → IsListed i j pairs
+share_listed world heap wanted given pairs i j o q v w held lists apart at_v at_w e f = go (cases_order i j)
+  where
+    go : (i ≡ j) ⊎ ((i < j) ⊎ (j < i)) → IsListed i j pairs
+    go (inl k) = absurd (apart k)
+    go (inr (inl l)) = share_up world heap wanted given pairs i j o q v w held lists l at_v at_w e f
+    go (inr (inr l)) = swapped j i pairs (share_up world heap wanted given pairs j i q o w v held lists l at_w at_v f e)
+
+-- ---- the whole
+
+whole_fits : (p : Program) (desc : Desc) (state : MachineState) → Laws p.world → IsWhole p.world (has_receiver p) (slots_of p) desc
+    → IsStartState p state → FitsDescription p desc state
+whole_fits p desc state laws whole start =
+    let types = types_of p.world in
+    let heap = state.heap in
+    let given = start.args ++ state.statics in
+    let params : params_of p ≡ start.method.params = ap (λ o. option_map_or (λ m. m.params) o []) start.entry in
+    let arguments : AllZip (Holds types heap) (map argument_slot (params_of p)) start.args = subst
+    (λ ps. AllZip (Holds types heap) (map argument_slot ps) start.args) (sym params) start.arguments in
+    let held : AllZip (Holds types heap) (slots_of p) given = zip_joined (Holds types heap) (map argument_slot (params_of p))
+    (statics_of p) start.args state.statics arguments start.statics in
+    let opened = all_fitting (is_open p.world) (IsOpenAt p.world) (λ slot input e. e) 0 (slots_of p) desc.inputs whole.count
+    whole.opened in
+    record {
+      method = start.method;
+      entry = start.entry;
+      args = start.args;
+      frame = start.frame;
+      one = start.one;
+      start = start.start;
+      normal = start.normal;
+      count = AllZip-long (Holds types heap) (map argument_slot start.method.params) start.args start.arguments
+          ∙ length-map start.method.params argument_slot;
+      statics = start.statics;
+      typed = start.typed;
+      inputs = fit_all p.world heap (has_receiver p) (slots_of p) desc.inputs given laws opened whole.nullable
+          (λ e. received_more start.args state.statics (start.receiver e)) held;
+      same = λ i j o v w apart at_v at_w e f. same_listed p.world heap (slots_of p) given desc.same i j o v w laws held whole.same
+          apart at_v at_w e f;
+      share = λ i j o v w apart at_v at_w r s. listed_behind i j desc.same desc.share
+          (share_listed p.world heap (slots_of p) given desc.share i j r.start s.start v w held whole.share apart at_v at_w r.names
+          s.names);
+    }
+
+pub is_template : (p : Program) (bytes : List ℕ) (said : DescText) (desc : Desc) → IsClosed p
+    → SaysOf description_of bytes (Ok said) → entry_of p.world said.entry ≡ Ok p.entry
+    → (desc_fault p said ≡ None) × IsDescribed p said desc → IsWhole p.world (has_receiver p) (slots_of p) desc → IsTemplate p bytes
+is_template p bytes said desc closed says entry described whole = record {
+  text = said;
+  says = says;
+  entry = entry;
+  fits = described.0;
+  desc = desc;
+  described = described.1;
+  whole = λ state start. whole_fits p desc state (world_laws p.world closed.known.linked) whole start;
+}

@@ -1,0 +1,14 @@
+//! Descriptions to start from: what a class's methods are called, and of one of them a description that leaves no input out.
+
+mod calls;
+mod checked;
+mod fault;
+mod inputs;
+mod json;
+mod methods;
+mod whole;
+mod written;
+
+pub use calls::{methods_of, template_of};
+pub use checked::template;
+pub use fault::DescribeFault;

@@ -1,0 +1,98 @@
+//! A description's text, read back.
+ghost use Rattle.std.specs.Prelude.{◌≡◌, IfOk, OnOk, None, Ok};
+ghost use Rattle.class_world.specs.Worlds.{classes_of};
+ghost use Rattle.class_program.specs.Views.{program_of};
+ghost use Rattle.input_text.specs.Answers.{SaysOf};
+ghost use Rattle.input_text.specs.Descriptions.{description_of};
+ghost use Rattle.input_desc.specs.Entries.{entry_of};
+ghost use Rattle.input_desc.specs.Descs.{desc_fault, has_receiver, IsDescribed};
+ghost use Rattle.input_desc.specs.Given.{slots_of};
+ghost use Rattle.class_calls.specs.describe.Whole.{IsWhole};
+ghost use Rattle.class_calls.specs.describe.Templates.{IsTemplate};
+
+use crate::describe::fault::DescribeFault;
+use crate::describe::whole::is_whole;
+use crate::describe::written::text_of;
+use class_program::Program;
+use input_desc::{Desc, DescFault, DescText, entry, has_receiver, inputs};
+use std::alloc::Global;
+
+/// What a fault of the text means: only names that aren't UTF-8 can make one.
+fn unwritable(fault: DescFault) -> DescribeFault {
+    match fault {
+        DescFault::Memory => DescribeFault::Memory,
+        _ => DescribeFault::Unwritable,
+    }
+}
+
+/// The text says a description of the program's entry method.
+fn described(alloc: Global, program: &Program<'_>, text: &[u8]) -> Result<DescText, DescribeFault>
+    ensures said { IfOk result (λ said. SaysOf description_of text.now (Ok said)) }
+    ensures entry { IfOk result (λ said. entry_of (classes_of program.now.world) said.entry ≡ Ok program.now.entry) }
+{
+    let said = match DescText::read(alloc, text) {
+        Ok(said) => said,
+        Err(fault) => return Err(unwritable(fault)),
+    };
+    match entry(&said, &program.world) {
+        Ok(method) => {
+            if method.class == program.entry.class && method.index == program.entry.index {
+                Ok(said)
+            } else {
+                Err(DescribeFault::Unwritable)
+            }
+        }
+        Err(fault) => Err(unwritable(fault)),
+    }
+}
+
+/// What the text describes fits the program, and leaves no input out.
+fn fitted(alloc: Global, program: &Program<'_>, said: DescText) -> Result<Desc, DescribeFault>
+    ensures described { IfOk result (λ desc. (desc_fault (program_of program.now) said ≡ None)
+        × IsDescribed (program_of program.now) said desc) }
+    ensures whole { IfOk result (λ desc. IsWhole (classes_of program.now.world) (has_receiver (program_of program.now))
+        (slots_of (program_of program.now)) desc) }
+{
+    let slots = inputs(alloc, program)?;
+    let desc = match Desc::fit(alloc, said, program) {
+        Ok(desc) => desc,
+        Err(fault) => return Err(unwritable(fault)),
+    };
+    if is_whole(
+        &program.world,
+        has_receiver(program),
+        slots.as_slice(),
+        &desc,
+    ) {
+        Ok(desc)
+    } else {
+        Err(DescribeFault::Unwritable)
+    }
+}
+
+/// The text describes the program's entry method, fits the program, and leaves no input out.
+#[tactic(auto, using(crate::proofs::Wholes::is_template))]
+fn read_back(alloc: Global, program: &Program<'_>, text: &[u8]) -> Result<(), DescribeFault>
+    ensures { OnOk result (IsTemplate (program_of program.now) text.now) }
+{
+    program.is_good();
+    let said = described(alloc, program, text)?;
+    match fitted(alloc, program, said) {
+        Ok(_) => Ok(()),
+        Err(fault) => Err(fault),
+    }
+}
+
+/// A description of the program's entry method that leaves no input out: every int, every object of the declared types, with or
+/// without null, in any shape, and every two references that can be one object or lead to one. Only a receiver is never null.
+///
+/// # Errors
+///
+/// `Unwritable` where a name isn't UTF-8. Want of memory.
+pub fn template(alloc: Global, program: &Program<'_>) -> Result<Vec<u8>, DescribeFault>
+    ensures { IfOk result (λ text. IsTemplate (program_of program.now) text.items) }
+{
+    let text = text_of(alloc, program)?;
+    read_back(alloc, program, text.as_slice())?;
+    Ok(text)
+}

@@ -1,4 +1,0 @@
-pub mod Answered
-pub mod Lines
-pub mod Pairs
-pub mod Wholes

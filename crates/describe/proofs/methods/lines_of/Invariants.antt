@@ -1,8 +1,0 @@
-use Rattle.std.proofs.Common.{◌≡◌, ◌++◌, map, drop}
-use Rattle.class_read.specs.View.{method_content}
-use Rattle.describe.specs.Methods.{method_lines}
-use Rattle.describe.proofs.methods.lines_of.Given as goal
-
-abbrev pub invariant-loop-method : goal.invariant-loop-method
-invariant-loop-method l = l.lines.items ++ method_lines (map method_content (drop l.method-index l.methods)) ≡ method_lines
-    (map method_content l.methods)

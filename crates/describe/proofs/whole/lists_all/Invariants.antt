@@ -1,6 +1,0 @@
-use Rattle.class_world.specs.Worlds.{classes_of}
-use Rattle.describe.specs.inner.Rows.{AreListedBelow}
-use Rattle.describe.proofs.whole.lists_all.Given as goal
-
-abbrev pub invariant-loop-j : goal.invariant-loop-j
-invariant-loop-j l = AreListedBelow (classes_of l.world) l.listed l.slots l.pairs l.j

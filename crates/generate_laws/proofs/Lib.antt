@@ -1,9 +1,0 @@
-pub mod Readers
-pub mod Tests
-pub mod Texts
-pub mod Reading
-pub mod Places
-pub mod Needed
-pub mod Blocks
-pub mod Assembles
-pub mod Hundred

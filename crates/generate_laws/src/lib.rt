@@ -1,8 +1,0 @@
-//! What is known of the listings that `generate_text` makes.
-//!
-//! The law stands in `specs/Laws`.
-#![tactic(auto)]
-
-mod laws;
-
-pub use laws::listings_assemble;

@@ -1,5 +1,0 @@
-pub mod Plain
-pub mod Trying
-pub mod Asked
-pub mod Reasons
-pub mod Shown

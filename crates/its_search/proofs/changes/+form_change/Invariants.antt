@@ -1,5 +1,0 @@
-use Rattle.std.proofs.Common.{length}
-use Rattle.its_search.proofs.changes.+form_change.Given as goal
-
-abbrev pub decreases-form_change : goal.decreases-form_change
-decreases-form_change l = length l.form.now

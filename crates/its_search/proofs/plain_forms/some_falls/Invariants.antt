@@ -1,7 +1,0 @@
-use Rattle.std.proofs.Common.{◌≡◌, drop}
-use Rattle.std.specs.List.{list_any}
-use Rattle.its_search.specs.Forms.{falls}
-use Rattle.its_search.proofs.plain_forms.some_falls.Given as goal
-
-abbrev pub invariant-loop-rule : goal.invariant-loop-rule
-invariant-loop-rule l = list_any (falls l.count l.form) (drop l.rule-index l.rules) ≡ list_any (falls l.count l.form) l.rules

@@ -1,6 +1,0 @@
-use Rattle.std.proofs.Common.{◌≡◌, drop}
-use Rattle.its_search.specs.inner.Following.{bound_from}
-use Rattle.its_search.proofs.ranking.bound_of.Given as goal
-
-abbrev pub invariant-loop-n : goal.invariant-loop-n
-invariant-loop-n l = bound_from l.form l.n (drop l.n l.rows) ≡ bound_from l.form 0 l.rows

@@ -1,8 +1,0 @@
-//! Lines that commands write, as tables write them; and the class files of a case.
-#![tactic(auto)]
-
-mod files;
-mod lines;
-
-pub use files::files_from;
-pub use lines::{fault_line, refused_line, without_newline};

@@ -1,6 +1,0 @@
-use Rattle.loop_call.proofs.Named.{other}
-use Rattle.loop_call.proofs.naming.name_entry.Goals as goal
-
-pub returns-else-is_same_entry-clause-refused : goal.returns-else-is_same_entry-clause-refused
-returns-else-is_same_entry-clause-refused c = other c.args.text.now c.args.given.now c.is_same_entry.result c.refuse_desc.result c.is_same_entry.ensures
-    c.if-is_same_entry.false c.refuse_desc.ensures

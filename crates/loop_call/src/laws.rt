@@ -1,7 +1,0 @@
-//! A law of the answer. It is a call that does nothing when it runs.
-ghost use Rattle.loop_call.specs.Laws.{AnswersAreOne};
-
-/// Want of memory aside, a certificate, a state, a description and class files have one answer.
-pub fn answers_are_one()
-    ensures { AnswersAreOne }
-{}

@@ -1,9 +1,0 @@
-pub mod Again
-pub mod Claiming
-pub mod FewIds
-pub mod FirstNames
-pub mod OneAnswer
-pub mod SameAsCheck
-pub mod Saying
-pub mod SelfFilled
-pub mod Taken

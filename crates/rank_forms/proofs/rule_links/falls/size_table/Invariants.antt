@@ -1,0 +1,7 @@
+use Rattle.std.proofs.Common.{[]}
+use Rattle.rank_forms.specs.rule_links.Falls.{TellAll, TellsSize}
+use Rattle.rank_forms.proofs.Told.{AreTold}
+use Rattle.rank_forms.proofs.rule_links.falls.size_table.Given as goal
+
+abbrev pub invariant-loop-rule : goal.invariant-loop-rule
+invariant-loop-rule l = AreTold (λ rule. TellAll (TellsSize rule) l.places) l.rules [] l.table l.rule-index

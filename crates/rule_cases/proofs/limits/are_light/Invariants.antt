@@ -1,6 +1,0 @@
-use Rattle.std.proofs.Common.{◌≤◌, ◌^◌, drop}
-use Rattle.lin_core.specs.Weights.{total_size}
-use Rattle.rule_cases.proofs.limits.are_light.Given as goal
-
-abbrev pub invariant-loop-multiple : goal.invariant-loop-multiple
-invariant-loop-multiple l = total_size (drop l.multiple-index l.terms) ≤ l.room → total_size l.terms ≤ 2 ^ 40

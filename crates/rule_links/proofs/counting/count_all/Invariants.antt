@@ -1,6 +1,0 @@
-use Rattle.std.proofs.Common.{◌≡◌, drop, replicate, pos}
-use Rattle.rule_links.specs.Counting.{counted}
-use Rattle.rule_links.proofs.counting.count_all.Given as goal
-
-abbrev pub invariant-loop-row : goal.invariant-loop-row
-invariant-loop-row l = counted (drop l.row-index l.entries) l.counts.items ≡ counted l.entries (replicate l.rows (pos 0))

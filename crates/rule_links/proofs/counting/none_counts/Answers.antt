@@ -1,6 +1,0 @@
-use Rattle.rule_links.proofs.Counted.{zeros_more}
-use Rattle.rule_links.proofs.counting.none_counts.Goals as goal
-
-pub loop-n-preserved : goal.loop-n-preserved
-loop-n-preserved c = zeros_more c.loop-n.counts.items _ c.loop-n._n c.args.rows _ c.loop-n-test.true c.in_ok-push.ensures.items
-    c.loop-n.invariant

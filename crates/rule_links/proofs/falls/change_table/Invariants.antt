@@ -1,8 +1,0 @@
-use Rattle.std.proofs.Common.{[]}
-use Rattle.rule_links.specs.Falls.{TellAll}
-use Rattle.rule_links.specs.Ties.{TellsChange}
-use Rattle.rule_links.proofs.Told.{AreTold}
-use Rattle.rule_links.proofs.falls.change_table.Given as goal
-
-abbrev pub invariant-loop-rule : goal.invariant-loop-rule
-invariant-loop-rule l = AreTold (λ rule. TellAll (TellsChange rule) l.places) l.rules [] l.table l.rule-index

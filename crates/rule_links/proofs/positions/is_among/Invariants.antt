@@ -1,9 +1,0 @@
-use Rattle.std.proofs.Common.{◌≡◌, drop}
-use Rattle.std.specs.List.{list_any}
-use Rattle.descent.specs.declared.rules.Place.{Place}
-use Rattle.rule_links.specs.Positions.{is_place}
-use Rattle.rule_links.proofs.positions.is_among.Given as goal
-
-abbrev pub invariant-loop-other : goal.invariant-loop-other
-invariant-loop-other l = list_any (λ (other : Place). is_place other l.place) (drop l.other-index l.places) ≡ list_any
-    (λ (other : Place). is_place other l.place) l.places

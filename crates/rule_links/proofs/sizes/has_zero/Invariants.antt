@@ -1,6 +1,0 @@
-use Rattle.std.proofs.Common.{◌≡◌, drop}
-use Rattle.rule_links.specs.Falls.{has_zero}
-use Rattle.rule_links.proofs.sizes.has_zero.Given as goal
-
-abbrev pub invariant-loop-row : goal.invariant-loop-row
-invariant-loop-row l = has_zero l.variable (drop l.row-index l.rows) ≡ has_zero l.variable l.rows

@@ -1,6 +1,0 @@
-use Rattle.std.proofs.Common.{◌≡◌, drop}
-use Rattle.rule_links.specs.Falls.{has_bound}
-use Rattle.rule_links.proofs.steps_down.has_bound.Given as goal
-
-abbrev pub invariant-loop-row : goal.invariant-loop-row
-invariant-loop-row l = has_bound l.negative l.start (drop l.row-index l.rows) ≡ has_bound l.negative l.start l.rows

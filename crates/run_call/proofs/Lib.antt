@@ -1,4 +1,0 @@
-pub mod Answering
-pub mod Endings
-pub mod Inputs
-pub mod OneAnswer

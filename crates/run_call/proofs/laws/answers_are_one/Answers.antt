@@ -1,5 +1,0 @@
-use Rattle.run_call.proofs.OneAnswer.{answers_one}
-use Rattle.run_call.proofs.laws.answers_are_one.Goals as goal
-
-pub returns : goal.returns
-returns c = answers_one

@@ -1,8 +1,0 @@
-//! The simplex method by exact fractions.
-#![tactic(auto)]
-
-mod fractions;
-mod tableau;
-
-pub use fractions::{Fraction, common_of};
-pub use tableau::Tableau;

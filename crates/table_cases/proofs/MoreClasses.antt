@@ -1,0 +1,17 @@
+-- One more class that was read.
+use Rattle.std.proofs.Common.{◌≡◌, ◌<◌, ◌≤◌, ◌+◌, ◌++◌, List, [], ◌∷◌, length, subst, sym, arith, length-append}
+use Rattle.std.specs.List.{AllByRecursion}
+use Rattle.class_read.specs.Content.{ClassContent}
+use Rattle.class_world.specs.Linking.{CanBeRead}
+use Rattle.table_cases.specs.entry_cases.ReadClasses.{AreRead}
+
+each_more : (classes : List ClassContent) (class : ClassContent) → AllByRecursion CanBeRead classes → CanBeRead class
+    → AllByRecursion CanBeRead (classes ++ class ∷ [])
+each_more [] class all one = (one, tt)
+each_more (c ∷ classes) class all one = (all.0, each_more classes class all.1 one)
+
+pub read_more : (classes pushed : List ClassContent) (class : ClassContent) → AreRead classes → CanBeRead class
+    → length classes < 999 → pushed ≡ classes ++ class ∷ [] → AreRead pushed
+read_more classes pushed class all one few push =
+    subst (λ (cs : List ClassContent). AreRead cs) (sym push)
+    (record { count = omega (arith, few, length-append classes (class ∷ [])); each = each_more classes class all.each one })

@@ -1,8 +1,0 @@
-//! Lines, words and whole numbers of texts.
-#![tactic(auto)]
-
-mod lines_and_words;
-mod numbers;
-
-pub use lines_and_words::{lines, words};
-pub use numbers::{Number, read_number};
