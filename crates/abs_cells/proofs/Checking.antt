@@ -6,7 +6,7 @@ use Rattle.std.specs.List.{list_any, list_all, flat_map}
 use Rattle.std.proofs.lemmas.Bool.{false≢true, ne_eqb, and_parts, and_from, cases_eq, or_right, or_left, cases_Bool}
 use Rattle.std.proofs.lemmas.List.{append_assoc, reverse-append}
 use Rattle.std.proofs.lemmas.List.Folds.{list_all-append}
-use Rattle.list_views.proofs.Truths.{or_false, and_true, and_swapped}
+use Rattle.jvm_values.proofs.list_views.Truths.{or_false, and_true, and_swapped}
 use Rattle.abs_cells.specs.declared.cells.Cell.{Cell}
 use Rattle.abs_cells.specs.AbstractStates.{AbstractFrame, AbstractState}
 use Rattle.abs_cells.specs.PairLists.{pair_of, is_same, IsRising, has_pair, has, AreAmong}

@@ -3,7 +3,7 @@ use Rattle.std.proofs.Common.{◌≡◌, ◌≢◌, ℕ, ◌+◌, ◌<◌, ◌�
 use Rattle.std.proofs.Common.{◌⊎◌, inl, inr, refl, sym, ap, subst, ◌∙◌, arith}
 use Rattle.std.specs.Prelude.{filter, min, max}
 use Rattle.std.proofs.lemmas.Bool.{false≢true, cases_lt, and_parts, and_from, cases_Bool, not-true}
-use Rattle.list_views.proofs.Truths.{same_truth}
+use Rattle.jvm_values.proofs.list_views.Truths.{same_truth}
 use Rattle.abs_cells.specs.PairLists.{pair_of, is_same, is_before, IsFirst, IsRising, has_pair, removed}
 use Rattle.abs_cells.specs.IdSets.{has_id, kept}
 use Rattle.abs_cells.specs.PackedBits.{slot_of, pairs_in}

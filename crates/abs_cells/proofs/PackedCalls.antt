@@ -8,7 +8,7 @@ use Rattle.jvm_values.proofs.Options.{some_is}
 use Rattle.abs_cells.specs.PairLists.{pair_of, is_same, with_pair, without_pair, added, removed}
 use Rattle.std.specs.Int.{bit_at}
 use Rattle.std.proofs.lemmas.Option.{none-some}
-use Rattle.list_views.proofs.Truths.{and_false}
+use Rattle.jvm_values.proofs.list_views.Truths.{and_false}
 use Rattle.abs_cells.specs.IdSets.{has_bit}
 use Rattle.abs_cells.specs.PackedBits.{pairs_in, slot_of, slots_in, row_start, place_of, hit, hit_slots, ArePacked}
 use Rattle.abs_cells.specs.inner.PackedRows.{IsGrown}

@@ -3,7 +3,7 @@ use Rattle.std.proofs.Common.{◌≡◌, ℕ, zero, suc, ◌+◌, ◌*◌, ◌/�
 use Rattle.std.proofs.Common.{[], ◌∷◌, ◌++◌, length, Option, Some, None, ◌⊎◌, inl, inr, refl, sym, ap, subst, ◌∙◌, arith, eq-eqb}
 use Rattle.std.proofs.lemmas.Bool.{false≢true, ne_eqb, cases_lt, cases_eq, false_from_ne_true, cond-true, cond-false, cases_Bool, or_left}
 use Rattle.std.proofs.lemmas.Option.{none-some}
-use Rattle.list_views.proofs.Truths.{or_false, or_assoc, and_false as and_off, or_twice, or_over}
+use Rattle.jvm_values.proofs.list_views.Truths.{or_false, or_assoc, and_false as and_off, or_twice, or_over}
 use Rattle.jvm_values.proofs.Options.{some_is}
 use Rattle.abs_cells.specs.PairLists.{pair_of, is_same, is_before, IsFirst, IsRising, has_pair, with_pair, without_pair, has}
 use Rattle.abs_cells.specs.IdSets.{has_bit}

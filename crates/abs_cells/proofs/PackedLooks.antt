@@ -8,7 +8,7 @@ use Rattle.std.specs.List.{list_any}
 use Rattle.std.proofs.lemmas.Bool.{false≢true, eqb-true, cases_lt, cases_Bool}
 use Rattle.std.proofs.lemmas.Nat.Bits.{bit_at-trailing_zeros, bit_at_and, bit_at-zero, bit_at-lt}
 use Rattle.std.proofs.lemmas.Option.{none-some}
-use Rattle.list_views.proofs.Items.{get_before}
+use Rattle.jvm_values.proofs.list_views.Items.{get_before}
 use Rattle.jvm_values.proofs.Options.{some_is}
 use Rattle.abs_cells.specs.PairLists.{pair_of, is_same, has_pair, has}
 use Rattle.abs_cells.specs.IdSets.{has_bit, has_id, joins, are_touched}

@@ -17,3 +17,6 @@ pub mod PackedBits
 pub mod Replays
 -- the words of private calls
 pub mod inner
+-- libraries below, given again for the crates above
+pub use Rattle.jvm_values.specs as jvm_values
+pub use Rattle.lin_core.specs as lin_core

@@ -4,7 +4,7 @@ ghost use Rattle.std.specs.Prelude.{◌≡◌, IfOk};
 use crate::cells::Cell;
 use crate::ids::{Id, Ids};
 use crate::states::AbsFrame;
-use list_views::Seq;
+use jvm_values::list_views::Seq;
 use std::alloc::{AllocError, AllocFailed, Global};
 
 /// The same cell once more.

@@ -6,7 +6,7 @@ use crate::cells::Cell;
 use crate::ids::Id;
 use crate::pairs::Pairs;
 use crate::sets::IdSet;
-use list_views::Seq;
+use jvm_values::list_views::Seq;
 use std::marker::Model;
 
 /// A frame whose places hold ids. Two are equal where their methods, places and lists of ids are.

@@ -17,7 +17,7 @@ use Rattle.class_program.specs.declared.op.Op.TheVariants as ops
 use Rattle.class_program.specs.declared.program.Method.{Method}
 use Rattle.class_program.specs.Programs.{Program, op_at}
 use Rattle.frame_types.specs.Tables.{CodeTypes}
-use Rattle.code_verify.specs.TypedStates.{argument_count}
+use Rattle.abs_turns.specs.code_verify.TypedStates.{argument_count}
 
 -- ---- places
 

@@ -8,10 +8,10 @@ use Rattle.class_world.specs.WorldTypes.{types_of}
 use Rattle.class_program.specs.Programs.{Program, IsClosed}
 use Rattle.class_program.specs.Good.{IsGood}
 use Rattle.frame_types.specs.Tables.{CodeTypes}
-use Rattle.code_verify.specs.Typings.{IsTypingOf}
-use Rattle.code_verify.specs.TypedStates.{IsTypedState}
-use Rattle.jvm_step.specs.Running.{step, IsEnd}
-use Rattle.jvm_step.specs.Running.Step.{Going}
+use Rattle.abs_turns.specs.code_verify.Typings.{IsTypingOf}
+use Rattle.abs_turns.specs.code_verify.TypedStates.{IsTypedState}
+use Rattle.abs_turns.specs.jvm_step.Running.{step, IsEnd}
+use Rattle.abs_turns.specs.jvm_step.Running.Step.{Going}
 use Rattle.term_graph.specs.Graphs.{GraphChild}
 use Rattle.term_graph.specs.Edges.{Edge}
 use Rattle.abs_turns.specs.Plans.{ends}

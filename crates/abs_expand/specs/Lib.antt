@@ -13,3 +13,6 @@ pub use Rattle.abs_turns.specs.ShortRows
 pub use Rattle.abs_turns.specs.OperandsSeen
 pub use Rattle.abs_turns.specs.PlansSeen
 pub mod inner
+-- libraries below, given again for the crates above
+pub use Rattle.abs_plans.specs as abs_plans
+pub use Rattle.abs_turns.specs as abs_turns

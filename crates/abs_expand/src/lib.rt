@@ -9,6 +9,7 @@ mod making;
 mod places;
 mod splitting;
 
+pub use abs_plans;
 pub use clauses::bad_clause;
 pub use expanding::expand;
 pub use fault::ExpandFault;

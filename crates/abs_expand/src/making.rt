@@ -22,7 +22,7 @@ use abs_cells::{
     AbsFrame, AbsState, Cell, Id, IdSet, Ids, Pairs, copied_cell, copied_cells, copied_frames,
 };
 use abs_heap::{HeapFault, load_ref, new_array, new_object, put_field, store_ref};
-use abs_rows::{bottom_with, with_id};
+use abs_plans::abs_rows::{bottom_with, with_id};
 use abs_turns::{Act, Goal, Write, with_local};
 use jvm_values::{Slot, Types};
 use list_views::Seq;

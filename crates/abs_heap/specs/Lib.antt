@@ -10,3 +10,5 @@ pub mod Names
 pub mod Laws
 -- the words of private calls
 pub mod inner
+-- libraries below, given again for the crates above
+pub use Rattle.term_graph.specs as term_graph

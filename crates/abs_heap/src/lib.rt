@@ -22,6 +22,7 @@ mod rewriting;
 mod shapes;
 mod writes;
 
+pub use abs_reach;
 pub use cases::refine_class;
 pub use equals::refine_equal;
 pub use fault::{HeapFault, SplitFault};

@@ -26,7 +26,7 @@ use Rattle.abs_cells.specs.AbstractStates.{AbstractFrame, AbstractState}
 use Rattle.abs_cells.specs.Cells.{is_int, is_of_sort, ids_in, cell_in, cell_at, HasCell}
 use Rattle.abs_cells.specs.PairLists.{has}
 use Rattle.abs_cells.specs.Sound.{IsWellFormed, IsSound}
-use Rattle.abs_heap.specs.Writing.{is_array_of_references}
+use Rattle.abs_turns.specs.abs_heap.Writing.{is_array_of_references}
 use Rattle.abs_ints.specs.IntIntervals.{just, meet_of}
 use Rattle.abs_ints.specs.Comparing.{related}
 use Rattle.abs_ints.specs.declared.cases.IntCase.{IntCase}
@@ -48,7 +48,7 @@ use Rattle.op_forms.specs.Forms.Form.{IfIcmp, IfAcmpeq, IfAcmpne, Ifnull, Ifnonn
 use Rattle.op_forms.specs.Forms.Form.{Areturn, Return, Getstatic, Putstatic, Getfield, Putfield, Invokevirtual, Invokespecial}
 use Rattle.op_forms.specs.Forms.Form.{Invokestatic, Invokeinterface, New, Newarray, Anewarray, Arraylength, NumberLoad, Aaload}
 use Rattle.op_forms.specs.Forms.Form.{NumberStore, Aastore, Athrow, Checkcast, Instanceof}
-use Rattle.term_graph.specs.declared.links.LinkRow.{LinkRow}
+use Rattle.abs_turns.specs.term_graph.declared.links.LinkRow.{LinkRow}
 use Rattle.abs_turns.specs.Plans.{on_stack, in_local, in_bottom, in_field, Turn, Plan, steps, by_equal, no_rows}
 use Rattle.abs_turns.specs.Needs.{Passing, passes, fails, splits, passing, operands_of}
 use Rattle.abs_turns.specs.Needs.{is_unknown}

@@ -20,7 +20,7 @@ use Rattle.abs_ints.specs.IntIntervals.{meet_of}
 use Rattle.abs_ints.specs.Comparing.{compared}
 use Rattle.abs_ints.specs.Operating.{operated}
 use Rattle.abs_ints.specs.declared.cases.IntCase.{IntCase}
-use Rattle.term_graph.specs.declared.links.LinkRow.{LinkRow}
+use Rattle.abs_turns.specs.term_graph.declared.links.LinkRow.{LinkRow}
 use Rattle.abs_turns.specs.Plans.{Goal, Turn, makes, no_rows}
 use Rattle.abs_turns.specs.Turns.{Here, Operand, known, id, frames_at, with_stack, moves, goes_on, pushes, throws_after}
 use Rattle.abs_turns.specs.Turns.{interval_at, interval_of_id, are_one, narrowings, rows_over, turn_of_result, turn_of_case}

@@ -20,7 +20,7 @@ use Rattle.abs_cells.specs.AbstractStates.{AbstractState}
 use Rattle.abs_cells.specs.Cells.{is_known, is_of_sort, cell_at}
 use Rattle.abs_cells.specs.PairLists.{has}
 use Rattle.abs_cells.specs.Sound.{given_ids}
-use Rattle.abs_heap.specs.Answers.{IsNullable, IsObjectBelow}
+use Rattle.abs_turns.specs.abs_heap.Answers.{IsNullable, IsObjectBelow}
 use Rattle.op_forms.specs.Forms.{Form}
 use Rattle.op_forms.specs.Forms.Form.{New}
 use Rattle.abs_turns.specs.Plans.{Plan, by_null, no_child}

@@ -10,7 +10,7 @@ use Rattle.abs_cells.specs.AbstractStates.{AbstractFrame, AbstractState}
 use Rattle.abs_cells.specs.Cells.{is_reference, is_known, is_of_sort, ids_in, cell_in, cell_at, HasCell, Share}
 use Rattle.abs_cells.specs.Sound.{AreIdsRising, given_ids, ids_of_frame, ids_used, IsWellFormed}
 use Rattle.abs_cells.proofs.CellLaws.{place_of_cell, low_of_cell, first_cell_is, past_first_cell}
-use Rattle.abs_heap.specs.Given.{IsGiven, first_cell, with_cells}
+use Rattle.abs_turns.specs.abs_heap.Given.{IsGiven, first_cell, with_cells}
 
 -- an id has a cell by a map of cells
 pub record IsIn (cell : ℕ → Option Cell) (id : ℕ) : Type 0 where

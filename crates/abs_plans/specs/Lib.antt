@@ -1,2 +1,6 @@
 pub mod Planning
 pub mod inner
+-- libraries below, given again for the crates above
+pub use Rattle.abs_turns.specs as abs_turns
+pub use Rattle.abs_turns.specs.code_verify
+pub use Rattle.abs_turns.specs.jvm_step

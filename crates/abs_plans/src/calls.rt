@@ -8,7 +8,7 @@ ghost use Rattle.abs_turns.specs.Turns.{moves, with_stack};
 ghost use Rattle.abs_turns.specs.Table.{one_step, called_frame, invokes, runs_or_lacks, static_plan, special_plan, answered};
 ghost use Rattle.abs_turns.specs.Table.{selecting_plan, class_of_cell, cell_here, returned_to, value_plan, athrow_plan};
 ghost use Rattle.class_program.specs.Programs.{insn_at};
-ghost use Rattle.jvm_step.specs.Effects.{answer_of};
+ghost use Rattle.abs_turns.specs.jvm_step.Effects.{answer_of};
 ghost use Rattle.abs_turns.specs.PlansSeen.{plan_seen};
 
 use abs_cells::{AbsFrame, Cell, Id, Pairs, copied_frames};

@@ -7,4 +7,6 @@ mod planning;
 mod testing;
 mod throwing;
 
+pub use abs_rows;
+pub use abs_turns;
 pub use planning::plan;

@@ -6,7 +6,7 @@ ghost use Rattle.class_world.specs.WorldTypes.{types_of};
 ghost use Rattle.class_program.specs.declared.program.Method.{Method as MethodSeen};
 ghost use Rattle.class_program.specs.Views.{program_of};
 ghost use Rattle.frame_types.specs.Tables.{CodeTypes};
-ghost use Rattle.code_verify.specs.Typings.{typing_at};
+ghost use Rattle.abs_turns.specs.code_verify.Typings.{typing_at};
 ghost use Rattle.op_forms.specs.Forms.{form_of, form_seen};
 ghost use Rattle.abs_turns.specs.Table.{row_of, plan_of_form};
 ghost use Rattle.abs_plans.specs.Planning.{plan_here, plan_in, plan_of};
@@ -26,9 +26,9 @@ use abs_rows::{
     new_array, new_object, no_child, push_null, read_field, read_static, reorder, store,
     store_item, store_number, table_switch, write_field, write_static,
 };
+use abs_turns::code_verify::Typing;
 use abs_turns::{Plan, Spot};
 use class_program::{CatchRange, Op, Program};
-use code_verify::Typing;
 use jvm_values::{FrameType, Slot};
 use list_views::{Seq, Stack};
 use op_forms::{Form, form_of};

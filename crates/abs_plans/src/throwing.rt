@@ -1,7 +1,7 @@
 //! A state whose running frame looks for a handler.
 ghost use Rattle.std.specs.Prelude.{◌≡◌, ◌<◌, ◌∷◌, List, length, filter, reverse, slice_index_or, IfOk, Some, None};
 ghost use Rattle.class_program.specs.declared.program.CatchRange.{CatchRange};
-ghost use Rattle.code_verify.specs.Flows.{covers};
+ghost use Rattle.abs_turns.specs.code_verify.Flows.{covers};
 ghost use Rattle.abs_turns.specs.Table.{types_here};
 ghost use Rattle.abs_turns.specs.Throwing.{takes_type, takes, is_below_bound, may_take, handled, caught_plan, throwing_plan};
 ghost use Rattle.abs_turns.specs.Stops.{taker_of, may_of};

@@ -1,6 +1,6 @@
 -- A reference that is stored: where it is null, nothing is thrown.
 use Rattle.std.proofs.Common.{◌≡◌, ◌∙◌, ℕ, Bool, true, false, not, if◌then◌else◌, List, [], ◌∷◌, refl, sym, ap}
-use Rattle.class_world.specs.BuiltIns.{array_store_exception}
+use Rattle.abs_turns.specs.class_world.BuiltIns.{array_store_exception}
 use Rattle.abs_rows.specs.declared.arrays.Access.TheVariants.{ItemStore}
 use Rattle.abs_rows.specs.inner.Accesses.{access_turn, good_of, length_of}
 use Rattle.abs_turns.specs.Plans.{Plan}

@@ -18,11 +18,13 @@ use crate::rows::{goes_to, no_child, step_if};
 use crate::stops::access_stop;
 use abs_cells::{Cell, Id, Pairs};
 use abs_ints::{IntCase, Way, compare};
+use abs_turns::class_world::built_ins::{
+    ARRAY_INDEX_OUT_OF_BOUNDS_EXCEPTION, ARRAY_STORE_EXCEPTION,
+};
 use abs_turns::{
     Act, Goal, Operand, Plan, Rows, RowsOver, Spot, Turn, Write, all_ints, is_taken, narrowings,
     put, throws_after,
 };
-use class_world::built_ins::{ARRAY_INDEX_OUT_OF_BOUNDS_EXCEPTION, ARRAY_STORE_EXCEPTION};
 use jvm_values::{Cond, Kind};
 use lin_core::Interval;
 use list_views::{Seq, Stack};

@@ -3,7 +3,7 @@ ghost use Rattle.std.specs.Prelude.{◌≡◌, ◌∷◌, ◌++◌, [], map, IfO
 ghost use Rattle.std.specs.Option.{option_map, option_to_list};
 ghost use Rattle.abs_cells.specs.declared.cells.Cell.TheVariants as cells;
 ghost use Rattle.abs_ints.specs.IntIntervals.{meet_of};
-ghost use Rattle.class_world.specs.BuiltIns.{negative_array_size_exception};
+ghost use Rattle.abs_turns.specs.class_world.BuiltIns.{negative_array_size_exception};
 ghost use Rattle.abs_turns.specs.Plans.{no_rows};
 ghost use Rattle.abs_turns.specs.Turns.{interval_of_id, throws_after};
 ghost use Rattle.abs_turns.specs.Table.{natural, negative, array_turn, array_plan, new_plan};
@@ -11,8 +11,8 @@ ghost use Rattle.abs_turns.specs.PlansSeen.{turn_seen, plan_seen};
 
 use crate::rows::{no_child, one_step};
 use abs_cells::{Id, Pairs};
+use abs_turns::class_world::built_ins::NEGATIVE_ARRAY_SIZE_EXCEPTION;
 use abs_turns::{Act, Goal, Plan, Rows, Spot, Turn, moves, one_narrowed, put, throws_after};
-use class_world::built_ins::NEGATIVE_ARRAY_SIZE_EXCEPTION;
 use jvm_values::{Base, Slot, Ty};
 use lin_core::Interval;
 use list_views::{Seq, Stack};

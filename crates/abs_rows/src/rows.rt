@@ -2,7 +2,7 @@
 ghost use Rattle.std.specs.Prelude.{◌≡◌, [], true, false, pos, IfOk};
 ghost use Rattle.std.specs.Option.{option_map};
 ghost use Rattle.abs_cells.specs.declared.cells.Cell.TheVariants as cells;
-ghost use Rattle.op_forms.specs.Forms.{shuffled};
+ghost use Rattle.abs_turns.specs.op_forms.Forms.{shuffled};
 ghost use Rattle.abs_turns.specs.Plans.{steps, on_stack};
 ghost use Rattle.abs_turns.specs.Turns.{known, id, goes_on, pushes, with_stack, turns_of, branches};
 ghost use Rattle.abs_turns.specs.Switches.{table_keys, lookup_keys};
@@ -11,6 +11,7 @@ ghost use Rattle.abs_turns.specs.Table.{negation_plan, narrow_plan, switch_plan,
 ghost use Rattle.abs_turns.specs.PlansSeen.{turn_seen, plan_seen};
 
 use abs_cells::{Cell, Id, Pairs};
+use abs_turns::op_forms::Shuffle;
 use abs_turns::{
     Goal, Operand, Plan, Spot, Turn, branches, goes_on, just, lookup_turns, moves, pushes, put,
     shuffle, table_turns, turns_narrowing, turns_of,
@@ -18,7 +19,6 @@ use abs_turns::{
 use code_forms::Case;
 use jvm_values::{Cond, IntOp, Kind};
 use list_views::{Seq, Stack};
-use op_forms::Shuffle;
 use std::alloc::{AllocError, Global};
 
 /// One step.

@@ -8,8 +8,8 @@ ghost use Rattle.abs_turns.specs.PlansSeen.{plan_seen};
 
 use crate::rows::{no_child, one_step};
 use abs_cells::{Id, Pairs};
+use abs_turns::class_world::built_ins::NULL_POINTER_EXCEPTION;
 use abs_turns::{Plan, Spot, throws};
-use class_world::built_ins::NULL_POINTER_EXCEPTION;
 use jvm_values::PlaceType;
 use std::alloc::{AllocError, Global};
 

@@ -10,8 +10,8 @@ use Rattle.abs_cells.specs.declared.cells.Cell.{Cell}
 use Rattle.abs_cells.specs.AbstractStates.{AbstractState}
 use Rattle.abs_cells.specs.Cells.{cell_in}
 use Rattle.abs_cells.specs.Sound.{IsSoundCell, IsSound}
-use Rattle.class_world.specs.BuiltIns.{built_in_count}
-use Rattle.class_world.specs.World.{World, built_ins, built_in_names}
+use Rattle.jvm_step.specs.class_world.BuiltIns.{built_in_count}
+use Rattle.jvm_step.specs.class_world.World.{World, built_ins, built_in_names}
 
 module _ (types : WorldTypes) (state : AbstractState) where
   listed_sound : (list : List (ℕ × Cell)) (id : ℕ) (c : Cell) → AllByRecursion (λ (x : ℕ × Cell). IsSoundCell types state x.1) list

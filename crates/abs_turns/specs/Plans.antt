@@ -5,7 +5,7 @@ use Rattle.jvm_values.specs.declared.types.Slot.{Slot}
 use Rattle.jvm_values.specs.TypedHeaps.{WorldTypes}
 use Rattle.abs_cells.specs.declared.cells.Cell.{Cell}
 use Rattle.abs_cells.specs.AbstractStates.{AbstractFrame}
-use Rattle.term_graph.specs.declared.links.LinkRow.{LinkRow}
+use Rattle.abs_heap.specs.term_graph.declared.links.LinkRow.{LinkRow}
 use Rattle.abs_heap.specs.Writing.{Write}
 
 -- what a step does to the ids of an abstract state and to its pairs: nothing; a fresh id has a cell; a reference is written; a fresh id

@@ -1,6 +1,6 @@
 -- Plans of the code, seen as the definitions' plans.
 use Rattle.std.specs.Prelude.{ℕ, List, map, reverse}
-use Rattle.term_graph.specs.declared.links.LinkRow.{LinkRow}
+use Rattle.abs_heap.specs.term_graph.declared.links.LinkRow.{LinkRow}
 use Rattle.abs_heap.specs.Writing.{Write}
 use Rattle.abs_turns.specs.declared.plans.Write.{Write as WriteSeen}
 use Rattle.abs_turns.specs.declared.plans.Act.{Act as ActSeen}

@@ -10,11 +10,11 @@ use Rattle.abs_cells.specs.AbstractStates.{AbstractState}
 use Rattle.abs_cells.specs.Cells.{cell_at}
 use Rattle.abs_cells.specs.PairLists.{has}
 use Rattle.abs_ints.specs.Narrowings.{are_of_kind}
-use Rattle.class_world.specs.BuiltIns.{null_pointer_exception}
-use Rattle.class_program.specs.declared.op.Op.{Op}
-use Rattle.class_program.specs.declared.op.Op.TheVariants as ops
-use Rattle.class_program.specs.declared.op.Call.{Call}
-use Rattle.class_program.specs.declared.program.CatchRange.{CatchRange}
+use Rattle.jvm_step.specs.class_world.BuiltIns.{null_pointer_exception}
+use Rattle.jvm_step.specs.class_program.declared.op.Op.{Op}
+use Rattle.jvm_step.specs.class_program.declared.op.Op.TheVariants as ops
+use Rattle.jvm_step.specs.class_program.declared.op.Call.{Call}
+use Rattle.jvm_step.specs.class_program.declared.program.CatchRange.{CatchRange}
 use Rattle.abs_turns.specs.Plans.{Plan, steps, no_child, by_null, by_equal}
 use Rattle.abs_turns.specs.Needs.{Passing, passes, fails, splits, passing_id, may_be_null, is_unknown, split_below}
 use Rattle.abs_turns.specs.Turns.{Here, throws}

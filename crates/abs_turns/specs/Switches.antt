@@ -1,7 +1,7 @@
 -- The numbers of a switch's operand: keys rising, with the gaps before, between and after them, which lead to the default.
 use Rattle.std.specs.Prelude.{ℕ, ℤ, pos, ◌+ℤ◌, ◌-ℤ◌, List, [], ◌∷◌, map, Option, Some}
 use Rattle.lin_core.specs.Intervals.{Bounds, interval_of}
-use Rattle.code_forms.specs.declared.insn.Case.{Case}
+use Rattle.jvm_step.specs.code_forms.declared.insn.Case.{Case}
 use Rattle.abs_ints.specs.IntIntervals.{all_ints, just}
 
 -- the keys of a tableswitch, which follow one another from the lowest on, each with its target (JVM specification 6.5.tableswitch)

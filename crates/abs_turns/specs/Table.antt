@@ -26,28 +26,28 @@ use Rattle.abs_ints.specs.Comparing.{related}
 use Rattle.abs_ints.specs.declared.cases.IntCase.{IntCase}
 use Rattle.abs_ints.specs.declared.cases.Way.TheVariants.{Taken}
 use Rattle.abs_ints.specs.declared.relations.Relation.TheVariants.{Below, AtLeast}
-use Rattle.class_world.specs.BuiltIns.{null_pointer_exception, array_index_out_of_bounds_exception, negative_array_size_exception}
-use Rattle.class_world.specs.BuiltIns.{class_cast_exception, array_store_exception, incompatible_class_change_error}
-use Rattle.class_world.specs.BuiltIns.{abstract_method_error}
-use Rattle.class_world.specs.WorldTypes.{types_of}
-use Rattle.class_program.specs.declared.op.Op.{Op}
-use Rattle.class_program.specs.declared.op.Op.TheVariants as ops
-use Rattle.class_program.specs.declared.op.Call.{Call}
-use Rattle.class_program.specs.declared.op.FieldUse.{FieldUse}
-use Rattle.class_program.specs.declared.program.Method.{Method}
-use Rattle.class_program.specs.declared.selected.Selected.{Selected}
-use Rattle.class_program.specs.declared.selected.Selected.TheVariants as answers
-use Rattle.class_program.specs.Programs.{Program, insn_at}
+use Rattle.jvm_step.specs.class_world.BuiltIns.{null_pointer_exception, array_index_out_of_bounds_exception, negative_array_size_exception}
+use Rattle.jvm_step.specs.class_world.BuiltIns.{class_cast_exception, array_store_exception, incompatible_class_change_error}
+use Rattle.jvm_step.specs.class_world.BuiltIns.{abstract_method_error}
+use Rattle.jvm_step.specs.class_world.WorldTypes.{types_of}
+use Rattle.jvm_step.specs.class_program.declared.op.Op.{Op}
+use Rattle.jvm_step.specs.class_program.declared.op.Op.TheVariants as ops
+use Rattle.jvm_step.specs.class_program.declared.op.Call.{Call}
+use Rattle.jvm_step.specs.class_program.declared.op.FieldUse.{FieldUse}
+use Rattle.jvm_step.specs.class_program.declared.program.Method.{Method}
+use Rattle.jvm_step.specs.class_program.declared.selected.Selected.{Selected}
+use Rattle.jvm_step.specs.class_program.declared.selected.Selected.TheVariants as answers
+use Rattle.jvm_step.specs.class_program.Programs.{Program, insn_at}
 use Rattle.jvm_step.specs.Effects.{answer_of}
-use Rattle.op_forms.specs.declared.form.Shuffle.{Shuffle as StackShuffle}
-use Rattle.op_forms.specs.declared.form.Shuffle.TheVariants.{Pop, Pop2, Dup, DupX1, DupX2, Dup2, Dup2X1, Dup2X2, Swap}
-use Rattle.op_forms.specs.Forms.{Form, shuffled}
-use Rattle.op_forms.specs.Forms.Form.{Nop, AconstNull, Iconst, Iload, Aload, Istore, Astore, Iinc, Shuffle, Arith, Ineg, Narrow, If}
-use Rattle.op_forms.specs.Forms.Form.{IfIcmp, IfAcmpeq, IfAcmpne, Ifnull, Ifnonnull, Goto, Tableswitch, Lookupswitch, Ireturn}
-use Rattle.op_forms.specs.Forms.Form.{Areturn, Return, Getstatic, Putstatic, Getfield, Putfield, Invokevirtual, Invokespecial}
-use Rattle.op_forms.specs.Forms.Form.{Invokestatic, Invokeinterface, New, Newarray, Anewarray, Arraylength, NumberLoad, Aaload}
-use Rattle.op_forms.specs.Forms.Form.{NumberStore, Aastore, Athrow, Checkcast, Instanceof}
-use Rattle.term_graph.specs.declared.links.LinkRow.{LinkRow}
+use Rattle.jvm_step.specs.op_forms.declared.form.Shuffle.{Shuffle as StackShuffle}
+use Rattle.jvm_step.specs.op_forms.declared.form.Shuffle.TheVariants.{Pop, Pop2, Dup, DupX1, DupX2, Dup2, Dup2X1, Dup2X2, Swap}
+use Rattle.jvm_step.specs.op_forms.Forms.{Form, shuffled}
+use Rattle.jvm_step.specs.op_forms.Forms.Form.{Nop, AconstNull, Iconst, Iload, Aload, Istore, Astore, Iinc, Shuffle, Arith, Ineg, Narrow, If}
+use Rattle.jvm_step.specs.op_forms.Forms.Form.{IfIcmp, IfAcmpeq, IfAcmpne, Ifnull, Ifnonnull, Goto, Tableswitch, Lookupswitch, Ireturn}
+use Rattle.jvm_step.specs.op_forms.Forms.Form.{Areturn, Return, Getstatic, Putstatic, Getfield, Putfield, Invokevirtual, Invokespecial}
+use Rattle.jvm_step.specs.op_forms.Forms.Form.{Invokestatic, Invokeinterface, New, Newarray, Anewarray, Arraylength, NumberLoad, Aaload}
+use Rattle.jvm_step.specs.op_forms.Forms.Form.{NumberStore, Aastore, Athrow, Checkcast, Instanceof}
+use Rattle.abs_heap.specs.term_graph.declared.links.LinkRow.{LinkRow}
 use Rattle.abs_turns.specs.Plans.{Turn, Plan, nothing, makes, writes, item, object, array, nowhere, on_stack, in_local, in_bottom}
 use Rattle.abs_turns.specs.Plans.{in_field, ends, steps, by_equal, no_child, no_rows}
 use Rattle.abs_turns.specs.Needs.{tested, operands_of, need_null, need_object}

@@ -8,8 +8,8 @@ use Rattle.jvm_values.specs.Subtyping.{class_type}
 use Rattle.jvm_values.specs.TypedHeaps.{WorldTypes}
 use Rattle.abs_cells.specs.AbstractStates.{AbstractFrame, AbstractState}
 use Rattle.abs_cells.specs.Cells.{type_of_cell, cell_at}
-use Rattle.class_world.specs.BuiltIns.{throwable}
-use Rattle.class_program.specs.declared.program.CatchRange.{CatchRange}
+use Rattle.jvm_step.specs.class_world.BuiltIns.{throwable}
+use Rattle.jvm_step.specs.class_program.declared.program.CatchRange.{CatchRange}
 use Rattle.code_verify.specs.Flows.{covers}
 use Rattle.abs_turns.specs.Plans.{Plan, ends, steps, no_child}
 use Rattle.abs_turns.specs.Needs.{Passing, passes, fails, splits, passing_id, is_unknown, split_below}

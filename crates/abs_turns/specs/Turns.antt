@@ -20,11 +20,11 @@ use Rattle.abs_ints.specs.declared.cases.IntCase.{IntCase}
 use Rattle.abs_ints.specs.declared.cases.ShortRow.{ShortRow}
 use Rattle.abs_ints.specs.declared.cases.Way.{Way}
 use Rattle.abs_ints.specs.declared.cases.Way.TheVariants as ways
-use Rattle.class_program.specs.Programs.{Program}
-use Rattle.class_world.specs.BuiltIns.{arithmetic_exception}
-use Rattle.term_graph.specs.declared.links.Side.{Side}
-use Rattle.term_graph.specs.declared.links.Side.TheVariants.{Before, After}
-use Rattle.term_graph.specs.declared.links.LinkRow.{LinkRow}
+use Rattle.jvm_step.specs.class_program.Programs.{Program}
+use Rattle.jvm_step.specs.class_world.BuiltIns.{arithmetic_exception}
+use Rattle.abs_heap.specs.term_graph.declared.links.Side.{Side}
+use Rattle.abs_heap.specs.term_graph.declared.links.Side.TheVariants.{Before, After}
+use Rattle.abs_heap.specs.term_graph.declared.links.LinkRow.{LinkRow}
 use Rattle.abs_turns.specs.Plans.{Goal, Turn, nothing, makes, nowhere, on_stack, is_thrown, no_rows}
 
 -- where an abstract state stands: the program, the state, its running frame and the frames below, the types that the typing gives the

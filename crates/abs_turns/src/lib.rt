@@ -9,6 +9,9 @@ mod spot;
 mod switches;
 mod turns;
 
+pub use code_verify;
+pub use jvm_step;
+pub use jvm_step::{class_program, class_world, op_forms};
 pub use operands::Operand;
 pub use plans::{Act, Goal, Plan, Rows, Turn, Write};
 pub use short_rows::RowsOver;

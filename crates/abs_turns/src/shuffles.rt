@@ -1,11 +1,11 @@
 //! Reorderings of a stack of ids.
 ghost use Rattle.std.specs.Prelude.{◌≡◌, ◌<◌, ◌≤◌, ◌∷◌, Some, None, length, drop, IfOk, MatchBool};
-ghost use Rattle.op_forms.specs.declared.form.Shuffle.TheVariants as shuffles;
-ghost use Rattle.op_forms.specs.Forms.{shuffled};
+ghost use Rattle.jvm_step.specs.op_forms.declared.form.Shuffle.TheVariants as shuffles;
+ghost use Rattle.jvm_step.specs.op_forms.Forms.{shuffled};
 
 use abs_cells::Id;
+use jvm_step::op_forms::Shuffle;
 use list_views::Stack;
-use op_forms::Shuffle;
 use std::alloc::AllocError;
 
 /// Takes so many ids from the top.

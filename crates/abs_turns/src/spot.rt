@@ -6,16 +6,16 @@ ghost use Rattle.jvm_values.specs.States.{types_of};
 ghost use Rattle.abs_cells.specs.Cells.{is_known, is_of_sort, cell_in, cell_at};
 ghost use Rattle.abs_cells.specs.PairLists.{has};
 ghost use Rattle.abs_cells.specs.Sound.{AreIdsRising, IsSound, IsSoundCell};
-ghost use Rattle.class_world.specs.WorldTypes.{types_of as world_types_of};
+ghost use Rattle.jvm_step.specs.class_world.WorldTypes.{types_of as world_types_of};
 ghost use Rattle.abs_ints.specs.IntIntervals.{all_ints};
-ghost use Rattle.class_program.specs.Views.{program_of};
+ghost use Rattle.jvm_step.specs.class_program.Views.{program_of};
 ghost use Rattle.abs_turns.specs.Turns.{frames_at, with_stack, interval_in, interval_of_id};
 ghost use Rattle.abs_turns.specs.Needs.{may_be_null, is_unknown, known_partner};
 ghost use Rattle.abs_turns.specs.Table.{local_here, is_null_here, place_under, bottom_of, locals_of_method, static_local};
 
 use abs_cells::{AbsFrame, AbsState, Cell, Id, Pairs, copied_frames, is_pair};
-use abs_reach::cell_of;
-use class_program::Program;
+use abs_heap::abs_reach::cell_of;
+use jvm_step::class_program::Program;
 use jvm_values::{FrameType, PlaceType};
 use lin_core::Interval;
 use list_views::{Seq, Stack};
@@ -38,8 +38,8 @@ impl<'a, 'p, P: Pairs> Model for Spot<'a, 'p, P> {
     ghost use Rattle.std.specs.Prelude.{reverse};
     ghost use Rattle.jvm_values.specs.States.{types_of};
     ghost use Rattle.abs_cells.specs.Sound.{IsSound};
-    ghost use Rattle.class_world.specs.WorldTypes.{types_of as world_types_of};
-    ghost use Rattle.class_program.specs.Views.{program_of};
+    ghost use Rattle.jvm_step.specs.class_world.WorldTypes.{types_of as world_types_of};
+    ghost use Rattle.jvm_step.specs.class_program.Views.{program_of};
     ghost use Rattle.abs_turns.specs.Turns.{Here};
 
     ghost Value = { Here };

@@ -14,7 +14,7 @@ use crate::plans::{Rows, Turn};
 use crate::spot::Spot;
 use crate::turns::{narrows, one_narrowed, put};
 use abs_cells::{Id, Pairs};
-use code_forms::Case;
+use jvm_step::code_forms::Case;
 use lin_core::Interval;
 use list_views::{Seq, Stack};
 use std::alloc::{AllocError, Global};

@@ -19,7 +19,7 @@ use crate::short_rows::RowsOver;
 use crate::spot::{Spot, stacked};
 use abs_cells::{AbsFrame, Cell, Id, Ids, Pairs};
 use abs_ints::{Few, IntCase, ShortRow, Way, compare, operate};
-use class_world::built_ins::ARITHMETIC_EXCEPTION;
+use jvm_step::class_world::built_ins::ARITHMETIC_EXCEPTION;
 use jvm_values::{Cond, IntOp, Kind};
 use lin_core::Interval;
 use list_views::{Seq, Stack};

@@ -28,11 +28,11 @@ use Rattle.path_rules.specs.Conditions.{AreBounded, AreGood, IsReady}
 use Rattle.path_rules.specs.Paths.{is_cut}
 use Rattle.path_rules.specs.RuleLimits.{RulesFit}
 use Rattle.path_rules.specs.Walks.{Spot, WalksMeetRules}
-use Rattle.plan_links.specs.Laws.{LinksFit}
-use Rattle.abs_expand.proofs.ZipLists.{beside}
-use Rattle.graph_check.specs.Good.{IsGoodNode}
-use Rattle.graph_check.specs.Laws.{GraphsHoldRuns}
-use Rattle.graph_check.proofs.Excluding.{good_by}
+use Rattle.cert_check.specs.plan_links.Laws.{LinksFit}
+use Rattle.cert_check.proofs.abs_expand.ZipLists.{beside}
+use Rattle.cert_check.specs.graph_check.Good.{IsGoodNode}
+use Rattle.cert_check.specs.graph_check.Laws.{GraphsHoldRuns}
+use Rattle.cert_check.proofs.graph_check.Excluding.{good_by}
 use Rattle.cert_check.specs.Certified.{IsCertified}
 use Rattle.cert_check.specs.Valid.{Case, IsValid}
 use Rattle.cert_check.specs.Walks.{Station, IsAt}

@@ -27,11 +27,11 @@ use Rattle.path_rules.specs.Paths.{Path, edges, is_cut, inner_edges, only_last, 
 use Rattle.path_rules.specs.Stops.{Stop, Leg, child, instance, AreSizes, LinkedGraph, leg_by, stop_at, leg_at, ride_at, rides_from}
 use Rattle.path_rules.specs.Rules.{IsRuleOf, slots_of}
 use Rattle.path_rules.specs.Walks.{Spot, FitsStop, Crosses, IsWalk, last_of, SlotsAre, WalksMeetRules}
-use Rattle.step_laws.proofs.Meeting.{closed_state}
-use Rattle.abs_expand.specs.Laws.{IsAfter}
-use Rattle.abs_expand.proofs.ZipLists.{beside}
-use Rattle.graph_check.specs.Good.{IsGoodNode}
-use Rattle.graph_check.specs.Laws.{GoesBy, GraphsHoldRuns}
+use Rattle.cert_check.proofs.step_laws.Meeting.{closed_state}
+use Rattle.cert_check.specs.abs_expand.Laws.{IsAfter}
+use Rattle.cert_check.proofs.abs_expand.ZipLists.{beside}
+use Rattle.cert_check.specs.graph_check.Good.{IsGoodNode}
+use Rattle.cert_check.specs.graph_check.Laws.{GoesBy, GraphsHoldRuns}
 use Rattle.cert_check.specs.Certified.{IsCertified}
 use Rattle.cert_check.specs.Walks.{Station, IsAt, GoesTo, WalksEnd}
 use Rattle.cert_check.proofs.Ending.{agree_at, slot_at, next_of}

@@ -17,7 +17,7 @@ use Rattle.descent.specs.Conditions.{AreSteps}
 use Rattle.term_graph.specs.declared.links.Link.{Link}
 use Rattle.term_graph.specs.declared.links.Links.{Links}
 use Rattle.term_graph.specs.Graphs.{GraphNode}
-use Rattle.graph_check.specs.Good.{GraphOk}
+use Rattle.cert_check.specs.graph_check.Good.{GraphOk}
 use Rattle.cert_check.specs.declared.refusal.Refusal.{Refusal}
 use Rattle.cert_check.specs.Valid.{Case, IsValid, AreCuts, HasGoodGraph}
 use Rattle.cert_check.specs.Parts.{case_of}

@@ -9,3 +9,5 @@ pub mod loop_call;
 pub mod loop_search;
 pub mod migrate_call;
 pub mod throws_call;
+
+pub use check_call;

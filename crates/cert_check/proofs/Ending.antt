@@ -31,7 +31,7 @@ use Rattle.frame_types.specs.Tables.{CodeTypes}
 use Rattle.code_verify.specs.Typings.{IsTypingOf}
 use Rattle.code_verify.specs.TypedStates.{IsTypedState}
 use Rattle.jvm_step.specs.Running.{Ends}
-use Rattle.jvm_run.specs.Laws.{GoesTyped, StepsAreTyped, RunsAreNeverStuck}
+use Rattle.plan_links.specs.jvm_run.Laws.{GoesTyped, StepsAreTyped, RunsAreNeverStuck}
 use Rattle.input_desc.specs.Initial.{initial_of}
 use Rattle.input_root.specs.Roots.{input_values, FittingStatesAreTyped, FittingStatesAreDescribed}
 use Rattle.descent.specs.declared.rules.PathRule.{PathRule}
@@ -46,13 +46,13 @@ use Rattle.term_graph.specs.Edges.{number_of}
 use Rattle.path_rules.specs.Paths.{Path, edges, is_cut, inner_edges, only_last, end_of}
 use Rattle.path_rules.specs.Stops.{Stop, Leg, child, instance, AreSizes, LinkedGraph, leg_by, stop_at, leg_at, ride_at, rides_from}
 use Rattle.path_rules.specs.Rules.{IsRuleOf}
-use Rattle.step_laws.proofs.Meeting.{closed_state}
+use Rattle.graph_check.proofs.step_laws.Meeting.{closed_state}
 use Rattle.term_enc.specs.Sizes.{weight_of}
 use Rattle.path_rules.specs.Walks.{Spot, FitsStop, Crosses, IsWalk, last_of, SlotIs, SlotsAre, WalksMeetRules}
-use Rattle.abs_expand.specs.Laws.{IsAfter, IsMet}
+use Rattle.graph_check.specs.abs_expand.Laws.{IsAfter, IsMet}
 use Rattle.graph_check.specs.Good.{IsGoodNode}
 use Rattle.graph_check.specs.Laws.{GoesBy, EndsHere, GraphsHoldRuns}
-use Rattle.abs_expand.proofs.ZipLists.{beside}
+use Rattle.graph_check.proofs.abs_expand.ZipLists.{beside}
 use Rattle.graph_check.proofs.Excluding.{good_by}
 use Rattle.cert_check.specs.Certified.{IsCertified}
 use Rattle.cert_check.specs.Walks.{Station, IsAt, GoesTo, WalksEnd, IsLast}

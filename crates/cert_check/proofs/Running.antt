@@ -4,7 +4,7 @@ use Rattle.jvm_values.specs.States.{MachineState}
 use Rattle.class_program.specs.Programs.{Program}
 use Rattle.jvm_step.specs.Running.{step, step_on, run, IsEnd, Ends}
 use Rattle.jvm_step.specs.Running.Step.{Going}
-use Rattle.abs_expand.specs.Laws.{IsAfter}
+use Rattle.graph_check.specs.abs_expand.Laws.{IsAfter}
 
 -- the run of one step more begins with that step
 pub step_first : (p : Program) (machine after : MachineState) → step p machine ≡ Going after → (count : ℕ)

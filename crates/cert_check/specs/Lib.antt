@@ -5,3 +5,8 @@ pub mod Ready
 pub mod Laws
 pub mod Parts
 pub mod inner
+-- libraries below, given again for the crates above
+pub use Rattle.graph_check.specs as graph_check
+pub use Rattle.graph_check.specs.abs_expand
+pub use Rattle.plan_links.specs as plan_links
+pub use Rattle.plan_links.specs.abs_plans

@@ -5,8 +5,8 @@ ghost use Rattle.cert_check.specs.Ready.{ValidIsCertified};
 use descent::closed_proofs_end;
 use graph_check::graphs_hold_runs;
 use input_root::{fitting_states_are_described, fitting_states_are_typed};
-use jvm_run::{runs_are_never_stuck, steps_are_typed};
 use path_rules::{rules_fit, walks_meet_rules};
+use plan_links::jvm_run::{runs_are_never_stuck, steps_are_typed};
 use plan_links::links_fit;
 
 /// Every walk of typed states that fit is finite, if it begins at node 0 and a certificate shows it: a good graph, cuts on all its

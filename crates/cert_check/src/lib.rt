@@ -8,7 +8,10 @@ mod part_faults;
 mod refusal;
 
 pub use checking::{check_cert, good_links, rules_between};
+pub use graph_check;
+pub use graph_check::{abs_expand, step_laws};
 pub use laws::{
     certified_runs_end, certified_walks_end, valid_certificates_end, valid_is_certified,
 };
+pub use plan_links;
 pub use refusal::{Cause, Refusal};

@@ -19,6 +19,7 @@ pub use flags::{
 pub use handler::Handler;
 pub use key_set::KeySet;
 pub use limits::{MOST_CLASSES, MOST_FILE_BYTES};
+pub use list_views;
 pub use member_kind::{MemberKind, is_descriptor};
 pub use methods::{MethodType, method_type, method_words};
 pub use name_set::NameSet;

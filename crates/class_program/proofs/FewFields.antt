@@ -6,7 +6,7 @@ use Rattle.std.specs.Option.{option_map_or}
 use Rattle.std.proofs.lemmas.Bool.{and_parts, ltb-true}
 use Rattle.std.proofs.lemmas.Option.{slice_get_past}
 use Rattle.class_world.proofs.Indexes.{few_fields}
-use Rattle.class_read.specs.Content.{ClassContent}
+use Rattle.class_world.specs.class_read.Content.{ClassContent}
 use Rattle.class_world.specs.World.{World}
 use Rattle.class_world.specs.Linking.{has_few_members}
 use Rattle.class_program.specs.Statics.{field_count}

@@ -5,7 +5,7 @@ use Rattle.std.specs.Prelude.{option_and_then, slice_get, take}
 use Rattle.std.specs.List.{list_any}
 use Rattle.std.specs.Option.{option_map, option_map_or}
 use Rattle.std.proofs.lemmas.Bool.{false≢true, eqb-true}
-use Rattle.class_read.specs.Content.{ClassContent, FieldContent}
+use Rattle.class_world.specs.class_read.Content.{ClassContent, FieldContent}
 use Rattle.jvm_values.specs.declared.types.Slot.{Slot}
 use Rattle.class_world.specs.declared.fault.LinkFault.{LinkFault}
 use Rattle.class_world.specs.declared.fault.LinkFault.TheVariants.{BadSuper}

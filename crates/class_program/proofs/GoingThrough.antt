@@ -10,8 +10,8 @@ use Rattle.std.proofs.lemmas.Bool.{and_parts, and_from, cases_lt}
 use Rattle.std.proofs.lemmas.List.Elements.{filter_map-append}
 use Rattle.list_views.proofs.Items.{get_past}
 use Rattle.list_views.proofs.Quantified.{holds_at}
-use Rattle.class_pool.specs.declared.entry.PoolEntry.{PoolEntry}
-use Rattle.class_read.specs.Content.{ClassContent, MethodContent}
+use Rattle.class_world.specs.class_pool.declared.entry.PoolEntry.{PoolEntry}
+use Rattle.class_world.specs.class_read.Content.{ClassContent, MethodContent}
 use Rattle.class_program.specs.Ops.{pool_of}
 use Rattle.class_world.specs.declared.fault.LinkFault.{LinkFault}
 use Rattle.class_program.specs.declared.program.Method.{Method}

@@ -7,7 +7,7 @@ use Rattle.std.specs.Option.{option_map, option_map_or, option_to_list}
 use Rattle.std.specs.Str.{bytes_eq}
 use Rattle.std.proofs.lemmas.Bool.{false≢true, and_parts, ltb-true, not-true}
 use Rattle.std.proofs.lemmas.Slice.Eq.{bytes_eq-Decides}
-use Rattle.class_read.specs.Content.{MethodContent}
+use Rattle.class_world.specs.class_read.Content.{MethodContent}
 use Rattle.jvm_values.specs.declared.types.Slot.{Slot}
 use Rattle.class_world.specs.declared.world.MethodRef.{MethodRef}
 use Rattle.class_world.specs.World.{World, line_of, super_of, is_static, is_private, is_abstract, is_interface_class}

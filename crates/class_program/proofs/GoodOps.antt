@@ -4,7 +4,7 @@ use Rattle.std.specs.Prelude.{slice_get, is_none, IfSome}
 use Rattle.std.specs.List.{list_all, AllByRecursion}
 use Rattle.std.specs.Option.{is_some}
 use Rattle.std.proofs.lemmas.Option.{slice_get_within}
-use Rattle.code_forms.specs.declared.insn.Insn.{Insn}
+use Rattle.class_world.specs.code_forms.declared.insn.Insn.{Insn}
 use Rattle.code_decode.specs.Codes.{targets}
 use Rattle.jvm_values.specs.declared.types.Slot.{Slot}
 use Rattle.jvm_values.specs.declared.types.Ty.{Ty}

@@ -6,16 +6,16 @@ use Rattle.std.specs.List.{list_all, list_any, AllByRecursion}
 use Rattle.std.specs.Option.{option_map_or, is_some}
 use Rattle.std.proofs.lemmas.Bool.{and_parts, ltb-true, eqb-true, or_cases}
 use Rattle.list_views.proofs.Quantified.{all_weaker}
-use Rattle.class_pool.specs.declared.entry.PoolEntry.{PoolEntry}
-use Rattle.class_base.specs.declared.handler.Handler.{Handler}
-use Rattle.class_read.specs.Content.{CodeContent}
-use Rattle.class_read.specs.Rules.{name_of}
-use Rattle.code_forms.specs.declared.fault.CodeFault.{CodeFault}
-use Rattle.code_forms.specs.declared.insn.Insn.{Insn}
-use Rattle.code_forms.specs.Marks.{starts, stands}
+use Rattle.class_world.specs.class_pool.declared.entry.PoolEntry.{PoolEntry}
+use Rattle.class_world.specs.class_base.declared.handler.Handler.{Handler}
+use Rattle.class_world.specs.class_read.Content.{CodeContent}
+use Rattle.class_world.specs.class_read.Rules.{name_of}
+use Rattle.class_world.specs.code_forms.declared.fault.CodeFault.{CodeFault}
+use Rattle.class_world.specs.code_forms.declared.insn.Insn.{Insn}
+use Rattle.class_world.specs.code_forms.Marks.{starts, stands}
 use Rattle.code_decode.specs.Codes.{targets, first_stray, insns_from, decode_of}
 use Rattle.code_decode.specs.Reading.{◌>>=◌, insn_at}
-use Rattle.code_forms.specs.Tables.{may_end, bad_boundary, earlier, first_bad_boundary, boundary_fault}
+use Rattle.class_world.specs.code_forms.Tables.{may_end, bad_boundary, earlier, first_bad_boundary, boundary_fault}
 use Rattle.class_world.specs.declared.fault.MethodName.{MethodName}
 use Rattle.class_world.specs.declared.fault.LinkFault.TheVariants.{MissingClass}
 use Rattle.class_world.specs.declared.world.MethodRef.{MethodRef}

@@ -6,11 +6,11 @@ use Rattle.std.specs.List.{list_all, filter_map, cons_option, flat_map, AllByRec
 use Rattle.std.specs.Option.{option_map, option_map_or}
 use Rattle.std.proofs.lemmas.Bool.{and_parts}
 use Rattle.list_views.proofs.Quantified.{all_mapped, all_weaker}
-use Rattle.class_base.specs.declared.handler.Handler.{Handler}
-use Rattle.class_pool.specs.declared.entry.PoolEntry.{PoolEntry}
-use Rattle.class_read.specs.Content.{MethodContent, CodeContent}
-use Rattle.code_forms.specs.declared.insn.Insn.{Insn}
-use Rattle.code_forms.specs.Marks.{starts, stands}
+use Rattle.class_world.specs.class_base.declared.handler.Handler.{Handler}
+use Rattle.class_world.specs.class_pool.declared.entry.PoolEntry.{PoolEntry}
+use Rattle.class_world.specs.class_read.Content.{MethodContent, CodeContent}
+use Rattle.class_world.specs.code_forms.declared.insn.Insn.{Insn}
+use Rattle.class_world.specs.code_forms.Marks.{starts, stands}
 use Rattle.code_decode.specs.Codes.{targets}
 use Rattle.jvm_values.specs.declared.types.Slot.{Slot}
 use Rattle.jvm_values.specs.Subtyping.{IsSlot}

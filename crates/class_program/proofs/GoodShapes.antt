@@ -2,9 +2,9 @@
 use Rattle.std.proofs.Common.{◌≡◌, ℕ, Bool, true, false, not, cond, List, length, Option, Some, None, Ok, Err, refl}
 use Rattle.std.specs.Prelude.{ℤ, is_none}
 use Rattle.std.specs.Option.{option_map_or}
-use Rattle.class_pool.specs.declared.entry.PoolEntry.{PoolEntry}
-use Rattle.class_pool.specs.Text.{class_name_at, integer_at, tag_at}
-use Rattle.code_forms.specs.declared.insn.Insn.{Insn}
+use Rattle.class_world.specs.class_pool.declared.entry.PoolEntry.{PoolEntry}
+use Rattle.class_world.specs.class_pool.Text.{class_name_at, integer_at, tag_at}
+use Rattle.class_world.specs.code_forms.declared.insn.Insn.{Insn}
 use Rattle.jvm_values.specs.Kinds.{kind_of_code}
 use Rattle.jvm_values.specs.declared.types.Ty.{Ty}
 use Rattle.jvm_values.specs.Subtyping.{IsReference}

@@ -11,7 +11,7 @@ use Rattle.std.proofs.lemmas.List.Quantifiers.{position-Some}
 use Rattle.std.proofs.lemmas.Option.{slice_get-get_or, slice_get_within}
 use Rattle.std.proofs.lemmas.Slice.Eq.{bytes_eq-Decides}
 use Rattle.list_views.proofs.Quantified.{all_filtered, all_flat}
-use Rattle.class_read.specs.Content.{ClassContent, FieldContent}
+use Rattle.class_world.specs.class_read.Content.{ClassContent, FieldContent}
 use Rattle.jvm_values.specs.declared.types.Slot.{Slot}
 use Rattle.class_world.specs.World.{World, line_of, is_static, is_interface_class}
 use Rattle.class_world.specs.Descriptors.{slot_of}

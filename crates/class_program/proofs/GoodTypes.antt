@@ -6,11 +6,11 @@ use Rattle.std.specs.List.{cons_option, AllByRecursion}
 use Rattle.std.specs.Option.{option_map, option_map_or}
 use Rattle.std.proofs.lemmas.Bool.{eqb-true}
 use Rattle.std.proofs.lemmas.Option.{same_Some}
-use Rattle.class_base.specs.declared.types.FieldType.{FieldType}
-use Rattle.class_base.specs.declared.methods.MethodType.{MethodType}
-use Rattle.class_base.specs.ClassNames.{is_class_name}
-use Rattle.class_base.specs.Types.{type_at, field_type}
-use Rattle.class_base.specs.MethodTypes.{types_at, returned_at, method_type}
+use Rattle.class_world.specs.class_base.declared.types.FieldType.{FieldType}
+use Rattle.class_world.specs.class_base.declared.methods.MethodType.{MethodType}
+use Rattle.class_world.specs.class_base.ClassNames.{is_class_name}
+use Rattle.class_world.specs.class_base.Types.{type_at, field_type}
+use Rattle.class_world.specs.class_base.MethodTypes.{types_at, returned_at, method_type}
 use Rattle.jvm_values.specs.declared.types.Slot.{Slot}
 use Rattle.jvm_values.specs.declared.types.Slot.TheVariants.{Num, Ref}
 use Rattle.jvm_values.specs.declared.types.Base.{Base}

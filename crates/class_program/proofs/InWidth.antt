@@ -9,7 +9,7 @@ use Rattle.list_views.proofs.Quantified.{all_joined}
 use Rattle.list_views.proofs.Steps.{bind_ok}
 use Rattle.jvm_values.specs.declared.types.Ty.{Ty}
 use Rattle.jvm_values.specs.Subtyping.{IsReference}
-use Rattle.code_forms.specs.declared.insn.Insn.{Insn}
+use Rattle.class_world.specs.code_forms.declared.insn.Insn.{Insn}
 use Rattle.code_decode.specs.Texts.{Fits}
 use Rattle.class_world.specs.World.{World}
 use Rattle.class_world.specs.declared.fault.MethodName.{MethodName}

@@ -4,8 +4,8 @@ use Rattle.std.specs.Prelude.{map, slice_get}
 use Rattle.std.specs.List.{list_all, cons_option, filter_map}
 use Rattle.std.specs.Option.{option_map}
 use Rattle.std.proofs.lemmas.Bool.{and_parts}
-use Rattle.class_read.specs.Content.{MethodContent, CodeContent}
-use Rattle.code_forms.specs.declared.insn.Insn.{Insn}
+use Rattle.class_world.specs.class_read.Content.{MethodContent, CodeContent}
+use Rattle.class_world.specs.code_forms.declared.insn.Insn.{Insn}
 use Rattle.class_world.specs.declared.fault.MethodName.{MethodName}
 use Rattle.class_world.specs.declared.world.MethodRef.{MethodRef}
 use Rattle.class_world.specs.World.{World}

@@ -2,14 +2,14 @@
 use Rattle.std.proofs.Common.{◌≡◌, ◌⊎◌, ℕ, List, [], Some, Result, Ok, Err, refl, ap, sym, ◌∙◌, inl, inr, subst}
 use Rattle.std.specs.Prelude.{slice_get}
 use Rattle.std.specs.Option.{option_map_or}
-use Rattle.class_pool.specs.declared.entry.PoolEntry.{PoolEntry}
-use Rattle.class_read.specs.Content.{ClassContent}
+use Rattle.class_world.specs.class_pool.declared.entry.PoolEntry.{PoolEntry}
+use Rattle.class_world.specs.class_read.Content.{ClassContent}
 use Rattle.class_world.specs.declared.fault.LinkFault.{LinkFault}
 use Rattle.class_world.specs.declared.fault.MethodName.{MethodName}
 use Rattle.class_program.specs.declared.refusal.Refusal.{Refusal}
 use Rattle.class_program.specs.declared.refusal.Refusal.TheVariants.{MissingClass, StaticInit, UnsupportedType, Unresolved}
 use Rattle.class_program.specs.declared.refusal.Refusal.TheVariants.{PrivateVirtual, Memory}
-use Rattle.code_forms.specs.declared.insn.Insn.{Insn}
+use Rattle.class_world.specs.code_forms.declared.insn.Insn.{Insn}
 use Rattle.class_program.specs.declared.op.Op.{Op}
 use Rattle.class_world.specs.World.{World}
 use Rattle.class_program.specs.Operands.{operand_of}

@@ -2,10 +2,10 @@
 use Rattle.std.proofs.Common.{◌≡◌, ◌&&◌, ℕ, ◌+◌, true, eqb, leb, List, [], ◌∷◌, Option, Some, None, Ok, Err, refl, ap, ◌∙◌, subst}
 use Rattle.std.specs.Prelude.{Result}
 use Rattle.std.proofs.lemmas.Bool.{and_from, and_parts}
-use Rattle.code_forms.specs.declared.fault.CodeFault.{CodeFault}
-use Rattle.code_forms.specs.declared.insn.Insn.{Insn}
+use Rattle.class_world.specs.code_forms.declared.fault.CodeFault.{CodeFault}
+use Rattle.class_world.specs.code_forms.declared.insn.Insn.{Insn}
 use Rattle.code_decode.specs.Codes.{decode_of}
-use Rattle.class_read.specs.Content.{CodeContent}
+use Rattle.class_world.specs.class_read.Content.{CodeContent}
 use Rattle.class_world.specs.declared.fault.LinkFault.{LinkFault}
 use Rattle.class_world.specs.declared.fault.MethodName.{MethodName}
 use Rattle.class_program.specs.declared.op.Op.{Op}

@@ -3,9 +3,9 @@ use Rattle.std.proofs.Common.{◌≡◌, ℕ, zero, suc, ◌+◌, ◌-◌, ◌�
 use Rattle.std.proofs.Common.{subst, arith}
 use Rattle.std.specs.Prelude.{Result}
 use Rattle.std.proofs.lemmas.Bool.{and_from, and_parts, le-leb, leb-true}
-use Rattle.code_forms.specs.declared.fault.CodeFault.{CodeFault}
-use Rattle.code_forms.specs.declared.insn.Insn.{Insn}
-use Rattle.code_forms.specs.Marks.{starts, stands}
+use Rattle.class_world.specs.code_forms.declared.fault.CodeFault.{CodeFault}
+use Rattle.class_world.specs.code_forms.declared.insn.Insn.{Insn}
+use Rattle.class_world.specs.code_forms.Marks.{starts, stands}
 use Rattle.code_decode.specs.Codes.{first_stray, insns_from, with_targets, decode_of}
 use Rattle.code_decode.specs.Reading.{◌>>=◌, insn_at}
 use Rattle.class_program.specs.Instructions.{rises_from, starts_at_zero, is_placed}

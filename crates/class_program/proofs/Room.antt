@@ -6,7 +6,7 @@ use Rattle.std.specs.List.{list_all}
 use Rattle.std.specs.Option.{option_map_or}
 use Rattle.std.proofs.lemmas.Bool.{false≢true, eqb-true, eq-eqb, and_from, and_parts, or_left, or_right}
 use Rattle.std.proofs.lemmas.List.Folds.{list_any-append, list_all-append}
-use Rattle.class_read.specs.Content.{ClassContent, MethodContent}
+use Rattle.class_world.specs.class_read.Content.{ClassContent, MethodContent}
 use Rattle.class_world.specs.declared.world.MethodRef.{MethodRef}
 use Rattle.class_world.specs.World.{World, is_abstract}
 use Rattle.class_world.specs.Resolve.{method_at, has_body}

@@ -2,7 +2,7 @@
 use Rattle.std.proofs.Common.{◌≡◌, ℕ, ◌++◌, List, [], ◌∷◌, Option, Some, None, refl, ap, sym, ◌∙◌}
 use Rattle.std.specs.Option.{option_or, option_to_list}
 use Rattle.list_views.proofs.Options.{or_none}
-use Rattle.class_base.specs.declared.types.FieldType.{FieldType}
+use Rattle.class_world.specs.class_base.declared.types.FieldType.{FieldType}
 use Rattle.class_world.specs.World.{World}
 use Rattle.class_world.specs.Descriptors.{meaning_of}
 use Rattle.class_program.specs.Signatures.{first_missing_class, missing_class}

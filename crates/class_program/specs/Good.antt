@@ -6,7 +6,7 @@ use Rattle.std.specs.Str.{bytes_eq}
 use Rattle.std.specs.Option.{is_some}
 use Rattle.std.specs.List.{AllByRecursion}
 use Rattle.code_decode.specs.Codes.{targets}
-use Rattle.class_read.specs.Content.{FieldContent, MethodContent, CodeContent}
+use Rattle.class_world.specs.class_read.Content.{FieldContent, MethodContent, CodeContent}
 use Rattle.jvm_values.specs.declared.types.Slot.{Slot}
 use Rattle.jvm_values.specs.declared.types.Ty.{Ty}
 use Rattle.jvm_values.specs.Kinds.{kind_of_code}

@@ -22,3 +22,8 @@ pub mod Refusals
 -- the words of private calls, and a proof for a ghost field
 pub mod inner
 pub mod lemmas
+-- libraries below, given again for the crates above
+pub use Rattle.class_world.specs as class_world
+pub use Rattle.class_world.specs.class_read
+pub use Rattle.class_world.specs.code_forms
+pub use Rattle.code_decode.specs as code_decode

@@ -4,14 +4,14 @@
 -- classes a call initialises). Static initialisers, native and synchronized methods are not supported.
 use Rattle.std.specs.Prelude.{ℕ, ◌==◌, if◌then◌else◌, List, [], ◌∷◌, length, slice_get, Option, Some, None, option_map, Result, Ok, Err}
 use Rattle.std.specs.Option.{option_map_or}
-use Rattle.class_pool.specs.declared.entry.PoolEntry.{PoolEntry}
-use Rattle.class_read.specs.Content.{MethodContent, CodeContent, Handler}
-use Rattle.class_read.specs.Rules.{name_of}
-use Rattle.code_forms.specs.declared.fault.CodeFault.{CodeFault}
-use Rattle.code_forms.specs.declared.insn.Insn.{Insn}
-use Rattle.code_forms.specs.Marks.{starts, stands}
+use Rattle.class_world.specs.class_pool.declared.entry.PoolEntry.{PoolEntry}
+use Rattle.class_world.specs.class_read.Content.{MethodContent, CodeContent, Handler}
+use Rattle.class_world.specs.class_read.Rules.{name_of}
+use Rattle.class_world.specs.code_forms.declared.fault.CodeFault.{CodeFault}
+use Rattle.class_world.specs.code_forms.declared.insn.Insn.{Insn}
+use Rattle.class_world.specs.code_forms.Marks.{starts, stands}
 use Rattle.code_decode.specs.Codes.{decode_of}
-use Rattle.code_forms.specs.Tables.{first_bad_boundary, boundary_fault}
+use Rattle.class_world.specs.code_forms.Tables.{first_bad_boundary, boundary_fault}
 use Rattle.jvm_values.specs.declared.types.Slot.{Slot}
 use Rattle.class_world.specs.declared.fault.LinkFault.{LinkFault}
 use Rattle.class_world.specs.declared.fault.LinkFault.TheVariants.{MissingClass, StaticInit, Native, Synchronized, Code}

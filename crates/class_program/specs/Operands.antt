@@ -1,9 +1,9 @@
 -- What each instruction takes from the constant pool (JVM specification, section 6.5).
 use Rattle.std.specs.Prelude.{ℕ, List}
-use Rattle.code_forms.specs.declared.insn.Insn.{Insn}
-use Rattle.code_forms.specs.declared.insn.Insn.TheVariants.{Ldc, LdcW, Getstatic, Putstatic, Getfield, Putfield, Invokevirtual}
-use Rattle.code_forms.specs.declared.insn.Insn.TheVariants.{Invokespecial, Invokestatic, Invokeinterface, New, Newarray, Anewarray}
-use Rattle.code_forms.specs.declared.insn.Insn.TheVariants.{Checkcast, Instanceof}
+use Rattle.class_world.specs.code_forms.declared.insn.Insn.{Insn}
+use Rattle.class_world.specs.code_forms.declared.insn.Insn.TheVariants.{Ldc, LdcW, Getstatic, Putstatic, Getfield, Putfield, Invokevirtual}
+use Rattle.class_world.specs.code_forms.declared.insn.Insn.TheVariants.{Invokespecial, Invokestatic, Invokeinterface, New, Newarray, Anewarray}
+use Rattle.class_world.specs.code_forms.declared.insn.Insn.TheVariants.{Checkcast, Instanceof}
 use Rattle.class_program.specs.declared.operand.Operand.{Operand}
 use Rattle.class_program.specs.declared.operand.Operand.TheVariants.{Nothing, Numbers, Constant, Static, Field, Class, Call}
 use Rattle.class_program.specs.declared.operand.ClassForm.TheVariants as classes

@@ -8,13 +8,13 @@ use Rattle.std.specs.Prelude.{None, is_none, codes, Result, Ok, Err}
 use Rattle.std.specs.List.{list_any}
 use Rattle.std.specs.Option.{option_map, option_map_or}
 use Rattle.std.specs.Str.{bytes_eq}
-use Rattle.class_pool.specs.declared.entry.PoolEntry.{PoolEntry}
-use Rattle.class_pool.specs.Text.{class_name_at, integer_at, member_at, tag_at}
-use Rattle.class_read.specs.Content.{MethodContent}
-use Rattle.class_base.specs.declared.types.FieldType.{FieldType}
-use Rattle.class_base.specs.ClassNames.{is_class_name}
-use Rattle.class_base.specs.Types.{field_type}
-use Rattle.code_forms.specs.declared.insn.Insn.{Insn}
+use Rattle.class_world.specs.class_pool.declared.entry.PoolEntry.{PoolEntry}
+use Rattle.class_world.specs.class_pool.Text.{class_name_at, integer_at, member_at, tag_at}
+use Rattle.class_world.specs.class_read.Content.{MethodContent}
+use Rattle.class_world.specs.class_base.declared.types.FieldType.{FieldType}
+use Rattle.class_world.specs.class_base.ClassNames.{is_class_name}
+use Rattle.class_world.specs.class_base.Types.{field_type}
+use Rattle.class_world.specs.code_forms.declared.insn.Insn.{Insn}
 use Rattle.jvm_values.specs.Kinds.{kind_of_code}
 use Rattle.jvm_values.specs.declared.types.Base.{Base}
 use Rattle.jvm_values.specs.declared.types.Base.TheVariants as bases

@@ -3,7 +3,7 @@
 use Rattle.std.specs.Prelude.{ℕ, if◌then◌else◌, List, [], Option, Some, None, option_and_then}
 use Rattle.std.specs.List.{filter_map}
 use Rattle.std.specs.Option.{option_map_or, option_to_list}
-use Rattle.class_read.specs.Content.{MethodContent}
+use Rattle.class_world.specs.class_read.Content.{MethodContent}
 use Rattle.class_program.specs.declared.op.Op.{Op}
 use Rattle.class_program.specs.declared.op.Op.TheVariants.{Invokevirtual, Invokespecial, Invokestatic, Invokeinterface}
 use Rattle.class_program.specs.declared.op.Call.{Call}

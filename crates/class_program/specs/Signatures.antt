@@ -3,9 +3,9 @@ use Rattle.std.specs.Prelude.{ℕ, ◌++◌, Bool, true, false, if◌then◌else
 use Rattle.std.specs.Prelude.{Ok, Err}
 use Rattle.std.specs.List.{list_any, filter_map}
 use Rattle.std.specs.Option.{option_or, option_to_list}
-use Rattle.class_base.specs.declared.types.FieldType.{FieldType}
-use Rattle.class_base.specs.declared.methods.MethodType.{MethodType}
-use Rattle.class_base.specs.MethodTypes.{method_type}
+use Rattle.class_world.specs.class_base.declared.types.FieldType.{FieldType}
+use Rattle.class_world.specs.class_base.declared.methods.MethodType.{MethodType}
+use Rattle.class_world.specs.class_base.MethodTypes.{method_type}
 use Rattle.jvm_values.specs.declared.types.Slot.{Slot}
 use Rattle.class_program.specs.declared.refusal.Refusal.{Refusal}
 use Rattle.class_program.specs.declared.refusal.Refusal.TheVariants.{MissingClass, UnsupportedType}

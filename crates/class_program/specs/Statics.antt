@@ -3,7 +3,7 @@ use Rattle.std.specs.Prelude.{◌≡◌, ℕ, ◌==◌, ◌&&◌, nat_lt, Bool, 
 use Rattle.std.specs.Prelude.{None, option_and_then, Ok, Err}
 use Rattle.std.specs.List.{list_any, filter_map, flat_map, range_with_len, position_or_len}
 use Rattle.std.specs.Option.{option_map, option_map_or}
-use Rattle.class_read.specs.Content.{FieldContent}
+use Rattle.class_world.specs.class_read.Content.{FieldContent}
 use Rattle.class_world.specs.declared.fault.LinkFault.TheVariants.{TooManyStatics}
 use Rattle.class_world.specs.World.{World}
 use Rattle.class_world.specs.Descriptors.{slot_of}

@@ -4,7 +4,7 @@ ghost use Rattle.std.specs.Prelude.{◌≡◌, ◌<◌, ◌&&◌, ◌||◌, fals
 ghost use Rattle.std.specs.Str.{bytes_eq};
 ghost use Rattle.std.specs.List.{list_any};
 ghost use Rattle.std.specs.Option.{option_map_or};
-ghost use Rattle.class_read.specs.View.{method_content};
+ghost use Rattle.class_world.specs.class_read.View.{method_content};
 ghost use Rattle.class_world.specs.World.{line_of};
 ghost use Rattle.class_world.specs.Resolve.{method_at};
 ghost use Rattle.class_world.specs.Select.{is_selectable, receivers};
@@ -17,9 +17,9 @@ ghost use Rattle.class_program.specs.JvmDiffers.{new_differs};
 use crate::op::{Call, Op};
 use crate::receivers::is_receiver;
 use crate::selections::{Selections, selected};
-use class_base::{PRIVATE, STATIC, has_flag};
-use class_read::MethodView;
 use class_world::built_ins::THROWABLE;
+use class_world::class_base::{PRIVATE, STATIC, has_flag};
+use class_world::class_read::MethodView;
 use class_world::{MethodRef, World};
 use std::alloc::{AllocError, Global};
 

@@ -26,6 +26,8 @@ mod slots;
 mod static_operand;
 mod statics;
 
+pub use class_world;
+pub use class_world::code_forms;
 pub use insns::Instructions;
 pub use laws::closed_instructions_are_good;
 pub use op::{Call, FieldRef, FieldUse, Op, StaticUse};

@@ -5,8 +5,8 @@ ghost use Rattle.class_program.specs.inner.Reads.{member_seen};
 ghost use Rattle.class_program.specs.Refusals.{Gives};
 
 use crate::refusal::Refusal;
-use class_pool::Pool;
 use class_world::World;
+use class_world::class_pool::Pool;
 
 /// What a Fieldref, Methodref or InterfaceMethodref entry names.
 #[derive(Clone, Copy)]

@@ -2,7 +2,7 @@
 
 use crate::slots::Slots;
 use class_world::MethodRef;
-use code_forms::Insn;
+use class_world::code_forms::Insn;
 use jvm_values::{Slot, Ty};
 
 /// An instance field that an instruction names (JVM specification, section 5.4.3.2).

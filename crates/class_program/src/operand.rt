@@ -2,7 +2,7 @@
 ghost use Rattle.std.specs.Prelude.{◌≡◌};
 ghost use Rattle.class_program.specs.Operands.{operand_of};
 
-use code_forms::Insn;
+use class_world::code_forms::Insn;
 
 /// An instruction that names a class.
 #[derive(Clone, Copy, PartialEq, Eq)]

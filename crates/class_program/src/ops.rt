@@ -18,9 +18,9 @@ use crate::operand::{CallForm, ClassForm, FieldForm, Operand, StaticForm, operan
 use crate::refusal::Refusal;
 use crate::selections::Selections;
 use crate::static_operand::{static_of, static_op};
-use class_pool::Pool;
+use class_world::class_pool::Pool;
+use class_world::code_forms::Insn;
 use class_world::{LinkFault, MethodName, World};
-use code_forms::Insn;
 use jvm_values::Kind;
 use std::alloc::{AllocError, Global};
 

@@ -2,14 +2,14 @@
 ghost use Rattle.class_world.specs.Worlds.{classes_of};
 ghost use Rattle.std.specs.Prelude.{◌≡◌, IfOk};
 ghost use Rattle.std.specs.Option.{option_to_list};
-ghost use Rattle.class_read.specs.View.{method_content};
+ghost use Rattle.class_world.specs.class_read.View.{method_content};
 ghost use Rattle.class_program.specs.inner.Rows.{IsRow, AreRows};
 ghost use Rattle.class_program.specs.Runs.{with_body, selected_body, selections, call_selections, runs};
 
 use crate::op::{Call, Op};
 use crate::receivers::receivers;
 use crate::selections::{Selections, selected};
-use class_read::MethodView;
+use class_world::class_read::MethodView;
 use class_world::{MethodRef, World};
 use list_views::Seq;
 use std::alloc::{AllocError, Global};

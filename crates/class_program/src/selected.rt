@@ -2,7 +2,7 @@
 ghost use Rattle.class_world.specs.Worlds.{classes_of};
 ghost use Rattle.std.specs.Prelude.{◌≡◌, ◌<◌, Some, length, option_and_then, IsTrue};
 ghost use Rattle.std.specs.Option.{option_map, option_map_or, option_copied};
-ghost use Rattle.class_read.specs.View.{method_content};
+ghost use Rattle.class_world.specs.class_read.View.{method_content};
 ghost use Rattle.class_world.specs.Resolve.{method_at};
 ghost use Rattle.class_world.specs.Select.Selection.{Runs, Lacks};
 ghost use Rattle.class_world.specs.Select.{selected_virtual, selected_interface};
@@ -15,8 +15,8 @@ use crate::op::{Call, Op};
 use crate::program::{Method, Program};
 use crate::receivers::is_receiver;
 use crate::selections::selected;
-use class_read::MethodView;
 use class_world::MethodRef;
+use class_world::class_read::MethodView;
 
 /// What a virtual or interface call does.
 #[derive(Clone, Copy, PartialEq, Eq)]

@@ -2,7 +2,7 @@
 ghost use Rattle.std.specs.Prelude.{◌≡◌, [], Some, IfOk, OnOk, if◌then◌else◌};
 ghost use Rattle.std.specs.Map.{lookup};
 ghost use Rattle.std.specs.Option.{option_map_or};
-ghost use Rattle.class_read.specs.View.{method_content};
+ghost use Rattle.class_world.specs.class_read.View.{method_content};
 ghost use Rattle.class_world.specs.declared.world.MethodRef.{MethodRef};
 ghost use Rattle.class_world.specs.Worlds.{classes_of};
 ghost use Rattle.class_world.specs.Resolve.{method_at};
@@ -10,7 +10,7 @@ ghost use Rattle.class_world.specs.Select.{select};
 ghost use Rattle.class_program.specs.Reached.{same_method};
 ghost use Rattle.class_program.specs.inner.Rows.{IsRow, AreRows};
 
-use class_read::MethodView;
+use class_world::class_read::MethodView;
 use class_world::{MethodRef, World};
 use indexmap::IndexMap;
 use list_views::Seq;

@@ -9,7 +9,7 @@ ghost use Rattle.class_program.specs.Signatures.{slots_of, returned_slot, signat
 ghost use Rattle.class_program.specs.Signatures.{declared_signature};
 
 use crate::refusal::Refusal;
-use class_base::{FieldType, MethodType, method_type};
+use class_world::class_base::{FieldType, MethodType, method_type};
 use class_world::{Meaning, World};
 use jvm_values::Slot;
 use list_views::Seq;

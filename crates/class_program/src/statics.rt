@@ -8,7 +8,7 @@ ghost use Rattle.class_program.specs.Statics.{static_at, statics_in, statics_of,
 
 use crate::op::{FieldRef, Op, StaticUse};
 use crate::program::{Method, StaticField};
-use class_base::{STATIC, has_flag};
+use class_world::class_base::{STATIC, has_flag};
 use class_world::{LinkFault, World};
 use indexmap::IndexSet;
 use list_views::{Bytes, Seq};

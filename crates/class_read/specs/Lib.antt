@@ -7,3 +7,5 @@ pub mod FirstFault
 pub mod View
 pub mod Faults
 pub mod inner
+-- libraries below, given again for the crates above
+pub use Rattle.class_pool.specs as class_pool

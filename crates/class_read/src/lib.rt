@@ -17,6 +17,7 @@ mod well_formed;
 mod writing;
 
 pub use class_base::{MemberKind, is_class_name, is_descriptor, method_words};
+pub use class_pool;
 pub use fault::ClassFault;
 pub use reading::{one_class, read_is_spelled};
 pub use text::{AttrText, ClassText, MemberText};

@@ -25,7 +25,7 @@ use Rattle.class_world.specs.Resolve.{is_field_named, declared_field, is_initial
 use Rattle.class_world.specs.inner.Tables.{values_to}
 use Rattle.class_world.specs.inner.Index.{Key, has_places, field_key, method_key, field_content_key, method_content_key}
 use Rattle.class_world.specs.inner.Index.{HasDistinctMembers, method_keys, field_keys, kept_before, kept_counts, kept_row}
-use Rattle.class_base.proofs.Maps.{position-map}
+use Rattle.code_forms.proofs.class_base.Maps.{position-map}
 use Rattle.class_world.proofs.Tables.{class_at, values_more, length-values, get_or-values}
 
 pub map_map : {A B C : Type 0} (f : B → C) (g : A → B) (xs : List A) → map f (map g xs) ≡ map (λ x. f (g x)) xs

@@ -6,8 +6,8 @@ use Rattle.std.specs.List.{list_any, IsDistinct, AllByRecursion}
 use Rattle.std.proofs.Math.Seq.{take-suc}
 use Rattle.std.proofs.lemmas.Bool.{false≢true}
 use Rattle.std.proofs.lemmas.List.{map-append}
-use Rattle.class_base.specs.Members.{Key, same_key}
-use Rattle.class_base.proofs.Keys.{same_swapped}
+use Rattle.code_forms.specs.class_base.Members.{Key, same_key}
+use Rattle.code_forms.proofs.class_base.Keys.{same_swapped}
 
 -- no earlier one has the key of a place
 pub none_before : {X : Type 0} (key : X → Key) (xs : List X) (i : ℕ) (d : X) → IsDistinct same_key (map key xs) → i < length xs

@@ -22,7 +22,7 @@ use Rattle.class_world.specs.World.{World, class_of, built_in, is_above}
 use Rattle.class_world.specs.Linking.{Rule, Refuses, is_memory, first_broken, first_missing, missing_interface, rule_at}
 use Rattle.class_world.specs.Linking.{duplicate_class, is_array_interface}
 use Rattle.class_world.specs.inner.Tables.{names_of, values_to, above_table}
-use Rattle.class_base.proofs.Maps.{any-map}
+use Rattle.code_forms.proofs.class_base.Maps.{any-map}
 use Rattle.class_world.proofs.Tables.{class_at, get_or-values, length-values}
 
 -- one more class

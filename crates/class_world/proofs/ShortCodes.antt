@@ -5,7 +5,7 @@ use Rattle.std.specs.List.{list_all, AllByRecursion}
 use Rattle.std.specs.Option.{option_map_or}
 use Rattle.std.proofs.lemmas.Bool.{and_from, and_parts, lt-ltb, ltb-true}
 use Rattle.list_views.proofs.Quantified.{holds_at}
-use Rattle.class_pool.specs.declared.entry.PoolEntry.{PoolEntry}
+use Rattle.class_read.specs.class_pool.declared.entry.PoolEntry.{PoolEntry}
 use Rattle.class_read.specs.Content.{ClassContent, MethodContent, CodeContent}
 use Rattle.class_read.specs.Rules.{IsMethod, IsMethodAttribute, codes_in, first_of, method_of}
 use Rattle.class_read.specs.declared.text.AttrText.{AttrText}

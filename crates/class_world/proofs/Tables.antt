@@ -12,7 +12,7 @@ use Rattle.std.proofs.lemmas.List.{get_or_append_left}
 use Rattle.std.proofs.Math.Seq.{get_or-append_seam}
 use Rattle.class_world.specs.World.{World, class_of, interfaces_of}
 use Rattle.class_world.specs.inner.Tables.{values_to, names_of}
-use Rattle.class_base.proofs.Maps.{position-map}
+use Rattle.code_forms.proofs.class_base.Maps.{position-map}
 use Rattle.class_world.proofs.Maps.{filter_map_map}
 
 pub values_more : {A : Type 0} (f : ℕ → A) (n : ℕ) → values_to f (n + 1) ≡ values_to f n ++ f n ∷ []

@@ -6,10 +6,10 @@ use Rattle.jvm_values.specs.declared.types.Base.TheVariants as bases
 use Rattle.jvm_values.specs.declared.types.Slot.{Slot}
 use Rattle.jvm_values.specs.declared.types.Slot.TheVariants.{Num, Ref}
 use Rattle.jvm_values.specs.Kinds.{kind_of_letter}
-use Rattle.class_base.specs.declared.types.Element.{Element}
-use Rattle.class_base.specs.declared.types.Element.TheVariants.{Primitive, Object}
-use Rattle.class_base.specs.declared.types.FieldType.{FieldType}
-use Rattle.class_base.specs.Types.{type_at}
+use Rattle.code_forms.specs.class_base.declared.types.Element.{Element}
+use Rattle.code_forms.specs.class_base.declared.types.Element.TheVariants.{Primitive, Object}
+use Rattle.code_forms.specs.class_base.declared.types.FieldType.{FieldType}
+use Rattle.code_forms.specs.class_base.Types.{type_at}
 use Rattle.class_world.specs.declared.meaning.Meaning.{Meaning}
 use Rattle.class_world.specs.declared.meaning.Meaning.TheVariants.{Known, Unsupported, Missing}
 use Rattle.class_world.specs.World.{World, class_of}

@@ -18,3 +18,8 @@ pub mod Faults
 -- the words of private calls, and proofs for the laws of types
 pub mod inner
 pub mod lemmas
+-- libraries below, given again for the crates above
+pub use Rattle.class_read.specs as class_read
+pub use Rattle.class_read.specs.class_pool
+pub use Rattle.code_forms.specs as code_forms
+pub use Rattle.code_forms.specs.class_base

@@ -9,7 +9,7 @@ use Rattle.std.specs.List.{list_any}
 use Rattle.std.specs.Option.{option_map_or}
 use Rattle.std.specs.Str.{bytes_eq}
 use Rattle.class_read.specs.Content.{ClassContent, MethodContent}
-pub use Rattle.class_base.specs.Flags.{has_flag, is_private, is_static, is_synchronized, is_native, is_interface, is_abstract}
+pub use Rattle.code_forms.specs.class_base.Flags.{has_flag, is_private, is_static, is_synchronized, is_native, is_interface, is_abstract}
 
 -- ---- the built-in classes
 

@@ -3,7 +3,7 @@ ghost use Rattle.std.specs.Prelude.{◌≡◌, [], ◌∷◌, map, IfOk, OnOk};
 ghost use Rattle.class_read.specs.View.{method_content};
 ghost use Rattle.class_world.specs.World.{built_in, built_in_init, built_ins, world_of};
 
-use class_pool::Pool;
+use class_read::class_pool::Pool;
 use class_read::{ClassView, CodeView, MethodView};
 use list_views::Seq;
 use std::alloc::{AllocError, Global};

@@ -7,8 +7,8 @@ ghost use Rattle.class_world.specs.Worlds.{classes_of};
 
 use crate::meaning::Meaning;
 use crate::world::World;
-use class_base::FieldType;
 use class_read::ClassView;
+use code_forms::class_base::FieldType;
 use jvm_values::Slot;
 use list_views::Seq;
 use std::alloc::{AllocError, Global};

@@ -8,8 +8,8 @@ ghost use Rattle.class_world.specs.inner.Tables.{values_to};
 
 use crate::meaning::Meaning;
 use crate::roster::Roster;
-use class_base::{Element, FieldType, STATIC, has_flag, type_at};
 use class_read::FieldView;
+use code_forms::class_base::{Element, FieldType, STATIC, has_flag, type_at};
 use jvm_values::{Base, Kind, Slot, Ty};
 use list_views::Seq;
 use std::alloc::{AllocError, Global};

@@ -11,8 +11,8 @@ ghost use Rattle.class_world.specs.inner.Index.{HasDistinctMembers, method_keys,
 
 use crate::members::{field_names, method_names};
 use crate::roster::Roster;
-use class_base::KeySet;
 use class_read::{FieldView, MethodView};
+use code_forms::class_base::KeySet;
 use list_views::Seq;
 use std::alloc::{AllocError, Global};
 

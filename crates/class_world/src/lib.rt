@@ -24,6 +24,10 @@ mod select;
 mod types;
 mod world;
 
+pub use class_read;
+pub use class_read::class_pool;
+pub use code_forms;
+pub use code_forms::class_base;
 pub use fault::{LinkFault, MethodName};
 pub use laws::{
     built_ins_are_known, fields_keep_their_places, no_class_is_of_arrays,

@@ -12,8 +12,8 @@ ghost use Rattle.class_world.specs.inner.Tables.{above_table};
 use crate::fault::LinkFault;
 use crate::named::is_array_interface;
 use crate::roster::Roster;
-use class_base::{ABSTRACT, INTERFACE, STATIC, has_flag};
 use class_read::MethodView;
+use code_forms::class_base::{ABSTRACT, INTERFACE, STATIC, has_flag};
 use list_views::Seq;
 use std::alloc::Global;
 

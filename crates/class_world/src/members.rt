@@ -4,8 +4,8 @@ ghost use Rattle.std.specs.List.{IsDistinct};
 ghost use Rattle.class_read.specs.Rules.{same_key};
 ghost use Rattle.class_world.specs.inner.Index.{field_key, method_key};
 
-use class_base::KeySet;
 use class_read::{FieldView, MethodView};
+use code_forms::class_base::KeySet;
 use std::alloc::{AllocError, Global};
 
 /// The names of methods that differ.

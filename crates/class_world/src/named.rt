@@ -9,8 +9,8 @@ ghost use Rattle.class_world.specs.inner.Tables.{names_of, values_to};
 
 use crate::fault::LinkFault;
 use crate::once::once;
-use class_base::NameSet;
 use class_read::ClassView;
+use code_forms::class_base::NameSet;
 use list_views::Seq;
 use std::alloc::{AllocError, Global};
 

@@ -10,8 +10,8 @@ ghost use Rattle.class_world.specs.Select.{is_selectable, selectable_method};
 ghost use Rattle.class_world.specs.inner.Seeking.{place_in};
 
 use crate::world::{MethodRef, World};
-use class_base::{PRIVATE, STATIC, has_flag};
 use class_read::{FieldView, MethodView};
+use code_forms::class_base::{PRIVATE, STATIC, has_flag};
 use jvm_values::Slot;
 
 /// What is sought by name and descriptor.

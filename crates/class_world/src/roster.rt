@@ -9,8 +9,8 @@ ghost use Rattle.class_world.specs.inner.Tables.{names_of, values_to};
 
 use crate::fault::LinkFault;
 use crate::named::{Named, names_of};
-use class_base::{ABSTRACT, INTERFACE, NameSet, has_flag};
 use class_read::ClassView;
+use code_forms::class_base::{ABSTRACT, INTERFACE, NameSet, has_flag};
 use list_views::Seq;
 use std::alloc::{AllocError, Global};
 

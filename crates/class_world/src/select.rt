@@ -5,7 +5,7 @@ ghost use Rattle.class_world.specs.Select.{select, is_abstract_method};
 
 use crate::resolve::{Wanted, method_ref};
 use crate::world::{MethodRef, World};
-use class_base::{ABSTRACT, has_flag};
+use code_forms::class_base::{ABSTRACT, has_flag};
 
 impl<'a> World<'a> {
     /// The first declaration with that name and descriptor, neither static nor private, along the superclass chain of

@@ -7,9 +7,9 @@ use Rattle.std.proofs.lemmas.Bool.{cases_lt, ltb-false, le-ltb}
 use Rattle.std.proofs.lemmas.Int.{ints, to_z-of_z, of_z-to_z}
 use Rattle.std.proofs.lemmas.List.{take_at, drop_at, take-append-drop, length-append, length-take}
 use Rattle.std.proofs.lemmas.Nat.{be_bytes_2, be_bytes_4, from_be_bytes-to_be_bytes_2, from_be_bytes-to_be_bytes_4}
-pub use Rattle.list_views.specs.ByteLists.{IsBytes}
-pub use Rattle.list_views.proofs.ByteLists.{IsBytes-drop, IsBytes-take, IsBytes-rest}
-pub use Rattle.list_views.proofs.Steps.{bind_ok, ok_is, guard_ok, guarded}
+pub use Rattle.code_forms.specs.list_views.ByteLists.{IsBytes}
+pub use Rattle.code_forms.proofs.list_views.ByteLists.{IsBytes-drop, IsBytes-take, IsBytes-rest}
+pub use Rattle.code_forms.proofs.list_views.Steps.{bind_ok, ok_is, guard_ok, guarded}
 use Rattle.code_forms.specs.declared.fault.CodeFault.TheVariants.{Truncated}
 use Rattle.code_decode.specs.Texts.{signed, distance, Reaches}
 use Rattle.code_decode.specs.Reading.{byte_at, number_at, signed_at, target_at, place_of, place_of_sum}

@@ -4,7 +4,7 @@ use Rattle.std.proofs.Common.{subst, append_assoc, arith}
 use Rattle.std.proofs.lemmas.List.{append-nil, length-append, nil_from_length}
 use Rattle.code_forms.specs.declared.fault.CodeFault.{CodeFault}
 use Rattle.code_forms.specs.declared.insn.Insn.{Insn}
-use Rattle.list_views.proofs.Steps.{handed_on}
+use Rattle.code_forms.proofs.list_views.Steps.{handed_on}
 use Rattle.code_forms.specs.Faults.{is_memory, Fails}
 use Rattle.code_decode.specs.Reading.{◌>>=◌, insn_at}
 use Rattle.code_decode.specs.Codes.{insns_from}

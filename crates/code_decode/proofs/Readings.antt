@@ -4,7 +4,7 @@ use Rattle.std.proofs.Common.{◌∙◌, inl, inr}
 use Rattle.std.specs.Prelude.{option_map}
 use Rattle.std.specs.List.{AllByRecursion}
 use Rattle.std.proofs.lemmas.Bool.{eqb-true}
-use Rattle.list_views.proofs.Options.{cond_either}
+use Rattle.code_forms.proofs.list_views.Options.{cond_either}
 use Rattle.code_forms.specs.declared.insn.Insn.{Insn}
 use Rattle.code_forms.specs.Spellings.{spelling, Plain, Byte, Pair, Jump}
 use Rattle.code_decode.specs.Reading as reading

@@ -3,7 +3,7 @@ use Rattle.std.proofs.Common.{◌≡◌, ℕ, suc, ◌-◌, ◌+◌, ◌≤◌, 
 use Rattle.std.proofs.Common.{append_assoc, arith}
 use Rattle.std.proofs.lemmas.List.{append-nil}
 use Rattle.code_forms.specs.declared.fault.CodeFault.{CodeFault}
-use Rattle.list_views.proofs.Steps.{handed_on}
+use Rattle.code_forms.proofs.list_views.Steps.{handed_on}
 use Rattle.code_forms.specs.Faults.{is_memory, Fails}
 use Rattle.code_decode.specs.Reading.{◌>>=◌, repeat_at}
 

@@ -4,7 +4,7 @@ use Rattle.std.specs.Prelude.{option_map, Result, Ok, Err, nat_lt, ◌==◌, ◌
 use Rattle.std.specs.Int.{Width, w8, w16, w32, byte_len, from_be_bytes, cast_signed}
 use Rattle.std.specs.Int.RustNames.{int_lt, unsigned_abs}
 use Rattle.std.proofs.Common.{◌-ℤ◌}
-pub use Rattle.list_views.specs.Results.{◌>>=◌}
+pub use Rattle.code_forms.specs.list_views.Results.{◌>>=◌}
 use Rattle.code_forms.specs.declared.fault.CodeFault.{CodeFault}
 use Rattle.code_forms.specs.declared.fault.CodeFault.TheVariants.{Truncated, UnsupportedOpcode, UnknownOpcode, BadSwitch, BadOperand}
 use Rattle.code_forms.specs.declared.insn.Case.{Case}

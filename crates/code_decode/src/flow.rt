@@ -8,8 +8,8 @@ ghost use Rattle.code_decode.specs.Texts.{padding_of, zeros, table_text, lookup_
 ghost use Rattle.code_decode.specs.Texts.{FitsSpelling, Fits};
 
 use crate::spelling::{SpellingView, padding_of, spelling_of};
+use code_forms::list_views::Seq;
 use code_forms::{Case, Insn};
-use list_views::Seq;
 use std::alloc::{AllocError, Global};
 
 /// Whether the instruction behind this one may run after it.

@@ -1,6 +1,6 @@
 //! A code is read in one way. Each law is a function without a body.
 ghost use Rattle.std.specs.Prelude.{◌≡◌, ◌<◌, ◌^◌, ℕ, List, length, Ok};
-ghost use Rattle.list_views.specs.ByteLists.{IsBytes};
+ghost use Rattle.code_forms.specs.list_views.ByteLists.{IsBytes};
 ghost use Rattle.code_forms.specs.declared.insn.Insn.{Insn};
 ghost use Rattle.code_decode.specs.Codes.{decode_of, IsReading};
 

@@ -11,10 +11,10 @@ ghost use Rattle.code_decode.specs.Reading.{insn_at};
 ghost use Rattle.code_decode.specs.Texts.{padding_of};
 
 use crate::spelling::padding_of;
+use code_forms::list_views::Seq;
 use code_forms::{
     Case, CodeFault, Insn, is_rising, plain, wide_local, with_byte, with_jump, with_pair,
 };
-use list_views::Seq;
 use std::alloc::Global;
 
 fn byte_at(pc: u16, bytes: &[u8]) -> Result<(u8, &[u8]), CodeFault>

@@ -4,8 +4,8 @@ ghost use Rattle.code_forms.specs.Spellings.{spelling};
 ghost use Rattle.code_decode.specs.Texts.{padding_of};
 ghost use Rattle.code_decode.specs.SpellingViews.{shown};
 
+use code_forms::list_views::Seq;
 use code_forms::{Case, Insn};
-use list_views::Seq;
 
 /// The opcode of an instruction and its operands. The first number of each form is the opcode.
 #[derive(Clone, Copy)]

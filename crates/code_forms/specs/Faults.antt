@@ -1,8 +1,8 @@
 -- The faults of codes, in words and as answers.
 use Rattle.std.specs.Prelude.{ℕ, List, [], ◌∷◌, codes, Bool, true, false, Result}
-use Rattle.list_views.specs.FaultWords.{joined, number_field}
-use Rattle.list_views.specs.Results as results
-use Rattle.list_views.specs.Results.{IsDue}
+use Rattle.class_base.specs.list_views.FaultWords.{joined, number_field}
+use Rattle.class_base.specs.list_views.Results as results
+use Rattle.class_base.specs.list_views.Results.{IsDue}
 use Rattle.code_forms.specs.declared.fault.CodeFault.{CodeFault}
 use Rattle.code_forms.specs.declared.fault.CodeFault.TheVariants.{Truncated, UnsupportedOpcode, UnknownOpcode, BadSwitch, BadTarget}
 use Rattle.code_forms.specs.declared.fault.CodeFault.TheVariants.{BadOperand, Memory}

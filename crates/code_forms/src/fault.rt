@@ -3,8 +3,8 @@ ghost use Rattle.std.specs.Prelude.{◌≡◌, IfOk};
 ghost use Rattle.code_forms.specs.declared.fault.CodeFault.TheVariants.{Memory};
 ghost use Rattle.code_forms.specs.Faults.{fault_name, pc_field, op_fields, fault_fields, fault_text};
 
-use list_views::Seq;
-use list_views::fault_words::{joined, number_field};
+use class_base::list_views::Seq;
+use class_base::list_views::fault_words::{joined, number_field};
 use std::alloc::{AllocError, AllocFailed, Global};
 
 /// What is wrong with a code or with an exception table. `pc` is the place of an instruction, counted in bytes from the

@@ -1,5 +1,5 @@
 //! The instructions.
-use list_views::Seq;
+use class_base::list_views::Seq;
 
 /// A key of `lookupswitch` and the place that it leads to.
 #[derive(Clone, Copy, PartialEq, Eq)]

@@ -12,7 +12,8 @@ mod starts;
 mod table;
 
 pub use cases::is_rising;
-pub use class_base::Handler;
+pub use class_base;
+pub use class_base::{Handler, list_views};
 pub use fault::CodeFault;
 pub use forms::{plain, wide_local, with_byte, with_jump, with_pair};
 pub use insn::{Case, Insn};

@@ -10,7 +10,7 @@ use Rattle.jvm_values.specs.States.{PlaceTypes}
 use Rattle.jvm_values.specs.TypedHeaps.{WorldTypes, AreLawful}
 use Rattle.class_world.specs.World.{World}
 use Rattle.class_program.specs.declared.program.CatchRange.{CatchRange}
-use Rattle.code_forms.specs.declared.insn.Case.{Case}
+use Rattle.class_program.specs.code_forms.declared.insn.Case.{Case}
 use Rattle.frame_types.specs.declared.table.Table.{Table}
 use Rattle.frame_types.specs.Tables.{Flow}
 use Rattle.frame_types.specs.Growth.{IsTable, IsGrown, AreRefused}

@@ -10,8 +10,8 @@ use Rattle.jvm_values.specs.Subtyping.{IsSlot, IsReference}
 use Rattle.jvm_values.specs.Kinds.{kind_of_code}
 use Rattle.jvm_values.specs.declared.types.Kind.{Kind}
 use Rattle.jvm_values.proofs.Options.{some_is}
-use Rattle.code_forms.specs.declared.insn.Insn.{Insn}
-use Rattle.code_forms.specs.declared.insn.Insn.TheVariants as insns
+use Rattle.class_program.specs.code_forms.declared.insn.Insn.{Insn}
+use Rattle.class_program.specs.code_forms.declared.insn.Insn.TheVariants as insns
 use Rattle.class_program.specs.declared.op.Op.{Op}
 use Rattle.class_program.specs.declared.op.Op.TheVariants as ops
 use Rattle.class_program.specs.declared.program.Method.{Method}

@@ -4,7 +4,7 @@ use Rattle.std.specs.Prelude.{map, filter, Option, Some, None, unwrap_or, IsTrue
 use Rattle.std.specs.List.{list_any}
 use Rattle.std.specs.Option.{option_map_or, option_to_list, is_some}
 use Rattle.list_views.specs.Options.{◌>>=◌, asked}
-use Rattle.code_forms.specs.declared.insn.Case.{Case}
+use Rattle.class_program.specs.code_forms.declared.insn.Case.{Case}
 use Rattle.jvm_values.specs.declared.types.Ty.{Ty}
 use Rattle.jvm_values.specs.declared.typing.PlaceType.TheVariants as places
 use Rattle.jvm_values.specs.States.{PlaceTypes}

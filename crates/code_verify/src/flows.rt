@@ -13,8 +13,8 @@ ghost use Rattle.code_verify.specs.Flows.{onward, caught};
 
 use crate::rows::THROWABLE;
 use class_program::CatchRange;
+use class_program::code_forms::Case;
 use class_world::World;
-use code_forms::Case;
 use frame_types::Table;
 use jvm_values::{FrameType, PlaceType, Ty, Types, class_type};
 use op_forms::Form;

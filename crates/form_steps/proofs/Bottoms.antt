@@ -19,7 +19,7 @@ use Rattle.class_program.specs.declared.program.Method.{Method}
 use Rattle.class_program.specs.declared.program.StaticField.{StaticField}
 use Rattle.class_program.specs.Programs.{Program}
 use Rattle.frame_types.specs.Tables.{CodeTypes}
-use Rattle.code_verify.specs.TypedStates.{IsTypedFrame, AreCallers}
+use Rattle.jvm_run.specs.code_verify.TypedStates.{IsTypedFrame, AreCallers}
 use Rattle.jvm_run.proofs.Lists.{zip_get}
 use Rattle.abs_expand.specs.BadStates.{IsOfField, IsPlaced, AreCallersPlaced, statics_under}
 use Rattle.abs_expand.specs.Table.{locals_of_method}

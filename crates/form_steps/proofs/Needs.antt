@@ -33,7 +33,7 @@ use Rattle.abs_heap.specs.Laws.{plain_link, Goes}
 use Rattle.class_world.specs.WorldTypes.{types_of}
 use Rattle.class_program.specs.Programs.{Program}
 use Rattle.frame_types.specs.Places.{IsOfWorld, IsSet}
-use Rattle.code_verify.specs.TypedStates.{HasPlaceType}
+use Rattle.jvm_run.specs.code_verify.TypedStates.{HasPlaceType}
 use Rattle.term_graph.specs.Graphs.{GraphChild}
 use Rattle.term_graph.specs.declared.links.Link.{Link}
 use Rattle.term_graph.specs.Edges.{Edge}

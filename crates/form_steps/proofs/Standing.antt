@@ -23,8 +23,8 @@ use Rattle.class_program.specs.Programs.{Program, insn_at}
 use Rattle.op_forms.specs.Forms.{Form, form_of}
 use Rattle.frame_types.specs.Places.{IsOfWorld, IsSet}
 use Rattle.frame_types.specs.Tables.{CodeTypes}
-use Rattle.code_verify.specs.Rows.{types_after}
-use Rattle.code_verify.specs.TypedStates.{HasStack}
+use Rattle.jvm_run.specs.code_verify.Rows.{types_after}
+use Rattle.jvm_run.specs.code_verify.TypedStates.{HasStack}
 use Rattle.jvm_step.specs.Effects.{Effect, new_instance}
 use Rattle.jvm_step.specs.Table.{Work, effect_of, on_frame, on_heap, on_statics}
 use Rattle.jvm_step.specs.Running.{Step, step, step_in, normal_step, with_object, applied, work_of}

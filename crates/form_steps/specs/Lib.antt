@@ -1,2 +1,7 @@
 pub mod Laws
 pub mod inner
+-- libraries below, given again for the crates above
+pub use Rattle.abs_expand.specs as abs_expand
+pub use Rattle.abs_heap.specs as abs_heap
+pub use Rattle.jvm_run.specs as jvm_run
+pub use Rattle.jvm_run.specs.code_verify

@@ -4,4 +4,7 @@
 
 mod laws;
 
+pub use abs_expand;
+pub use abs_expand::abs_plans;
+pub use jvm_run;
 pub use laws::moved_states_fit;

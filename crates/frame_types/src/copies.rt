@@ -2,8 +2,8 @@
 ghost use Rattle.std.specs.Prelude.{◌≡◌, IfOk};
 ghost use Rattle.jvm_values.specs.States.{types_of};
 
+use jvm_values::list_views::{Seq, Stack};
 use jvm_values::{FrameType, PlaceType};
-use list_views::{Seq, Stack};
 use std::alloc::{AllocError, Global};
 
 /// The same stack once more.

@@ -6,8 +6,8 @@ ghost use Rattle.frame_types.specs.Places.{IsOfWorld, IsSet, IsProper};
 ghost use Rattle.frame_types.specs.Joins.{AreJoins, AreApart, IsMergedAs};
 
 use crate::joins::join_places;
+use jvm_values::list_views::{Seq, Stack};
 use jvm_values::{FrameType, PlaceType, Types};
-use list_views::{Seq, Stack};
 
 /// Whether two types are one.
 fn is_same(a: PlaceType, b: PlaceType) -> bool

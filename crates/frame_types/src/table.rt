@@ -9,8 +9,8 @@ ghost use Rattle.frame_types.specs.Growth.{IsComing, IsTable, IsGrown, AreRefuse
 
 use crate::copies::copy_of;
 use crate::merges::{Coming, merge_frames};
+use jvm_values::list_views::Seq;
 use jvm_values::{FrameType, Types};
-use list_views::Seq;
 use std::alloc::{AllocError, Global};
 
 /// The types at the places of a method's code, and which of these places are to be looked at.

@@ -13,11 +13,11 @@ use Rattle.term_graph.specs.declared.links.Link.{Link}
 use Rattle.term_graph.specs.declared.nodes.By.{By}
 use Rattle.term_graph.specs.declared.nodes.By.TheVariants.{Expand, Instance, End, Todo}
 use Rattle.term_graph.specs.Graphs.{GraphNode, GraphChild}
-use Rattle.abs_expand.specs.declared.fault.ExpandFault.{ExpandFault}
-use Rattle.abs_expand.specs.declared.fault.ExpandFault.TheVariants as expansion
-use Rattle.abs_expand.specs.Answers.{Answers}
-use Rattle.abs_expand.specs.BadStates.{IsGoodState}
-use Rattle.abs_expand.specs.Expansions.{plan_of}
+use Rattle.one_expansion.specs.abs_expand.declared.fault.ExpandFault.{ExpandFault}
+use Rattle.one_expansion.specs.abs_expand.declared.fault.ExpandFault.TheVariants as expansion
+use Rattle.one_expansion.specs.abs_expand.Answers.{Answers}
+use Rattle.one_expansion.specs.abs_expand.BadStates.{IsGoodState}
+use Rattle.one_expansion.specs.abs_expand.Expansions.{plan_of}
 use Rattle.one_expansion.proofs.OneAnswer.{no_children, end_few}
 use Rattle.graph_check.specs.declared.fault.What.{What}
 use Rattle.graph_check.specs.declared.fault.What.TheVariants as whats

@@ -14,9 +14,9 @@ use Rattle.term_graph.specs.declared.links.Link.{Link}
 use Rattle.term_graph.specs.declared.nodes.By.{By}
 use Rattle.term_graph.specs.declared.nodes.By.TheVariants.{Expand, Instance, End, Todo}
 use Rattle.term_graph.specs.Graphs.{GraphNode, GraphChild}
-use Rattle.abs_expand.specs.BadStates.{IsGoodState}
-use Rattle.abs_expand.specs.Expansions.{plan_of, counts_of}
-use Rattle.abs_expand.proofs.ZipLists.{beside}
+use Rattle.one_expansion.specs.abs_expand.BadStates.{IsGoodState}
+use Rattle.one_expansion.specs.abs_expand.Expansions.{plan_of, counts_of}
+use Rattle.one_expansion.proofs.abs_expand.ZipLists.{beside}
 use Rattle.graph_check.specs.declared.fault.What.{What}
 use Rattle.graph_check.specs.declared.fault.What.TheVariants as whats
 use Rattle.graph_check.specs.Good.{HasChildren, NamesChild, IsStateAt, IsLeftBy, IsFirstOtherChild, FailsBy, FailsAs}

@@ -26,14 +26,14 @@ use Rattle.class_world.specs.lemmas.WorldLaws.{world_laws}
 use Rattle.class_program.specs.Programs.{Program, IsClosed}
 use Rattle.class_program.specs.Widths.{HasWidths}
 use Rattle.frame_types.specs.Tables.{CodeTypes}
-use Rattle.jvm_step.specs.Running.{step}
+use Rattle.step_laws.specs.jvm_step.Running.{step}
 use Rattle.term_graph.specs.declared.links.Link.{Link}
 use Rattle.term_graph.specs.declared.nodes.By.{By}
 use Rattle.term_graph.specs.declared.nodes.By.TheVariants.{Expand, Instance, End, Todo}
 use Rattle.term_graph.specs.Graphs.{GraphNode, GraphChild}
 use Rattle.term_graph.specs.Edges.{Edge}
-use Rattle.abs_expand.specs.Laws.{IsMet, EndsEnd, StepsFitChildren}
-use Rattle.abs_expand.proofs.ZipLists.{beside}
+use Rattle.one_expansion.specs.abs_expand.Laws.{IsMet, EndsEnd, StepsFitChildren}
+use Rattle.one_expansion.proofs.abs_expand.ZipLists.{beside}
 use Rattle.graph_check.specs.Good.{NamesChild, IsExpanded, IsInstance, IsLeftBy, IsGoodNode, GraphOk}
 use Rattle.graph_check.specs.Laws.{GoesOn, EndsHere, GraphsHoldRuns}
 

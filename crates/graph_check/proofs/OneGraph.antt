@@ -16,7 +16,7 @@ use Rattle.graph_check.specs.declared.fault.CheckFault.{CheckFault}
 use Rattle.graph_check.specs.declared.fault.CheckFault.TheVariants.{At, Memory}
 use Rattle.graph_check.specs.Good.{IsGoodNode, IsRooted, GraphOk, FailsAs, IsFirstBadNode, IsFault, Tells}
 use Rattle.graph_check.specs.OneVerdict.{GraphsHaveOneVerdict}
-use Rattle.abs_expand.proofs.ZipLists.{beside}
+use Rattle.one_expansion.proofs.abs_expand.ZipLists.{beside}
 use Rattle.graph_check.proofs.OneNode.{links_by, node_one, node_left}
 
 module _ (p : Program) (typing : ℕ → CodeTypes) (nodes : List GraphNode) where

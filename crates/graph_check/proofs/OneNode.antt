@@ -13,8 +13,8 @@ use Rattle.term_graph.specs.declared.links.Link.{Link}
 use Rattle.term_graph.specs.declared.nodes.By.{By}
 use Rattle.term_graph.specs.declared.nodes.By.TheVariants.{Expand, Instance, End, Todo}
 use Rattle.term_graph.specs.Graphs.{GraphNode, GraphChild}
-use Rattle.abs_expand.specs.BadStates.{IsGoodState, IsBadState}
-use Rattle.abs_expand.specs.Expansions.{plan_of, counts_of}
+use Rattle.one_expansion.specs.abs_expand.BadStates.{IsGoodState, IsBadState}
+use Rattle.one_expansion.specs.abs_expand.Expansions.{plan_of, counts_of}
 use Rattle.graph_check.specs.declared.fault.What.{What}
 use Rattle.graph_check.specs.declared.fault.What.TheVariants as whats
 use Rattle.graph_check.specs.Good.{HasChildren, HasEnded, HasTooMany, IsLeftBy, IsMiscounted, HasOtherChild, FailsToMatch, FailsBy}

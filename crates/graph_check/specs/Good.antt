@@ -13,9 +13,9 @@ use Rattle.term_graph.specs.declared.links.Links.{Links}
 use Rattle.term_graph.specs.declared.nodes.By.{By}
 use Rattle.term_graph.specs.declared.nodes.By.TheVariants.{Expand, Instance, End, Todo}
 use Rattle.term_graph.specs.Graphs.{GraphNode, GraphChild}
-use Rattle.abs_expand.specs.declared.fault.ExpandFault.TheVariants as expansion
-use Rattle.abs_expand.specs.Answers.{Answers}
-use Rattle.abs_expand.specs.BadStates.{IsGoodState, IsBadState}
+use Rattle.one_expansion.specs.abs_expand.declared.fault.ExpandFault.TheVariants as expansion
+use Rattle.one_expansion.specs.abs_expand.Answers.{Answers}
+use Rattle.one_expansion.specs.abs_expand.BadStates.{IsGoodState, IsBadState}
 use Rattle.graph_check.specs.declared.fault.What.{What}
 use Rattle.graph_check.specs.declared.fault.What.TheVariants as whats
 use Rattle.graph_check.specs.declared.fault.CheckFault.{CheckFault}

@@ -8,13 +8,13 @@ use Rattle.class_world.specs.WorldTypes.{types_of}
 use Rattle.class_program.specs.Programs.{Program, IsClosed}
 use Rattle.class_program.specs.Widths.{HasWidths}
 use Rattle.frame_types.specs.Tables.{CodeTypes}
-use Rattle.jvm_step.specs.Running.{step, IsEnd}
+use Rattle.step_laws.specs.jvm_step.Running.{step, IsEnd}
 use Rattle.term_graph.specs.declared.links.Link.{Link}
 use Rattle.term_graph.specs.declared.nodes.By.{By}
 use Rattle.term_graph.specs.declared.nodes.By.TheVariants.{Expand, Instance, End, Todo}
 use Rattle.term_graph.specs.Graphs.{GraphNode}
 use Rattle.term_graph.specs.Edges.{Edge, InstanceEdge}
-use Rattle.abs_expand.specs.Laws.{IsAfter, IsMet}
+use Rattle.one_expansion.specs.abs_expand.Laws.{IsAfter, IsMet}
 use Rattle.graph_check.specs.Good.{GraphOk}
 
 -- an edge of an expanded node, from a state of the machine to the one after it: the n-th link leads to the n-th of the named nodes

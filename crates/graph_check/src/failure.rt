@@ -4,7 +4,7 @@ ghost use Rattle.graph_check.specs.declared.failure.Failure.TheVariants.{Memory}
 ghost use Rattle.graph_check.specs.inner.Checked.{failure_of, fault_of};
 
 use crate::fault::{CheckFault, What};
-use abs_expand::ExpandFault;
+use one_expansion::abs_expand::ExpandFault;
 use std::alloc::{AllocError, AllocFailed};
 
 /// Why a node is no good one, or want of memory.

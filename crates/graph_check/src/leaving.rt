@@ -4,19 +4,19 @@ ghost use Rattle.class_program.specs.Views.{program_of};
 ghost use Rattle.code_verify.specs.Typings.{typing_at};
 ghost use Rattle.term_graph.specs.declared.nodes.By.TheVariants.{Expand, Instance, End};
 ghost use Rattle.abs_cells.specs.Sound.{IsWellFormed};
-ghost use Rattle.abs_expand.specs.BadStates.{IsGoodState};
+ghost use Rattle.one_expansion.specs.abs_expand.BadStates.{IsGoodState};
 ghost use Rattle.graph_check.specs.inner.Checked.{MatchesOr, LeavesOr, NodeLeavesOr};
 
 use crate::children::named_links;
 use crate::failure::{Failure, failure_of};
 use crate::fault::What;
 use abs_cells::{AbsState, Id, Pairs};
-use abs_expand::{ExpandFault, bad_clause, expand};
 use abs_match::instance;
 use abs_reach::Marks;
 use class_program::Program;
 use code_verify::Typing;
 use list_views::Seq;
+use one_expansion::abs_expand::{ExpandFault, bad_clause, expand};
 use std::alloc::Global;
 use term_graph::{By, Link, NodeSource};
 

@@ -11,3 +11,6 @@ mod leaving;
 pub use checking::check_graph;
 pub use fault::{CheckFault, What};
 pub use laws::{graphs_have_one_verdict, graphs_hold_runs};
+pub use one_expansion;
+pub use one_expansion::{abs_expand, steady_plans};
+pub use step_laws;

@@ -16,7 +16,7 @@ use Rattle.term_graph.specs.declared.links.Link.{Link}
 use Rattle.term_graph.specs.declared.nodes.By.{By}
 use Rattle.term_graph.specs.declared.nodes.By.TheVariants.{Expand, Instance, End, Todo}
 use Rattle.term_graph.specs.Graphs.{GraphNode, GraphChild}
-use Rattle.place_sorts.specs.Growing.{IsGrowing}
+use Rattle.grow_laws.specs.place_sorts.Growing.{IsGrowing}
 use Rattle.grow_laws.specs.Laws.{GrowingChildren}
 use Rattle.grow_laws.specs.Laws.{GrowingStatesStandAlike, GrowingWidenings}
 use Rattle.graph_build.specs.Disciplined.{IsNode, IsAboveBy, IsAbove, IsAtOrAbove, IsUnderLater, IsFirstMatch}

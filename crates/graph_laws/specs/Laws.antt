@@ -9,7 +9,7 @@ use Rattle.term_graph.specs.declared.links.Link.{Link}
 use Rattle.term_graph.specs.declared.nodes.By.{By}
 use Rattle.term_graph.specs.declared.nodes.By.TheVariants.{Instance}
 use Rattle.term_graph.specs.Graphs.{GraphNode}
-use Rattle.place_sorts.specs.Growing.{IsGrowing}
+use Rattle.grow_laws.specs.place_sorts.Growing.{IsGrowing}
 use Rattle.graph_build.specs.Answers.{IsClosed as HasNoOpenNode}
 use Rattle.graph_build.specs.Disciplined.{IsNode, IsTree, IsDisciplined}
 use Rattle.path_rules.specs.Paths.{is_cut, IsCut}

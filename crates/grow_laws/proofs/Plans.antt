@@ -27,8 +27,8 @@ use Rattle.abs_turns.specs.Plans.{Turn, Plan, ends, steps, by_null, by_class, by
 use Rattle.abs_turns.specs.Table.{plan_of_form}
 use Rattle.abs_turns.specs.Throwing.{throwing_plan}
 use Rattle.abs_turns.specs.Turns.{Here}
-use Rattle.abs_plans.specs.Planning.{plan_here, plan_in, plan_of}
-use Rattle.abs_plans.proofs.GoodPlans.{plan_is_good}
+use Rattle.abs_expand.specs.abs_plans.Planning.{plan_here, plan_in, plan_of}
+use Rattle.abs_expand.proofs.abs_plans.GoodPlans.{plan_is_good}
 use Rattle.abs_expand.specs.BadStates.{HasStackOf, HasRunningStack, IsRunningPlaced, AreCallersPlaced, statics_under, ArePlaced}
 use Rattle.abs_expand.specs.Children.{IsTurnChild}
 use Rattle.abs_expand.specs.Expansions.{AreChildren, AreExpanded}

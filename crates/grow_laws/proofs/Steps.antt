@@ -36,7 +36,7 @@ use Rattle.term_graph.specs.Graphs.{GraphChild}
 use Rattle.abs_turns.specs.GoodPlans.{IsThere, HoldsIds, IsChange, IsGoodAct, IsGoodTurn}
 use Rattle.abs_turns.specs.Plans.{Act, nothing, makes, writes, item, object, array, Goal, nowhere, on_stack, in_local, in_bottom}
 use Rattle.abs_turns.specs.Plans.{in_field, is_thrown, Turn}
-use Rattle.abs_plans.proofs.WellFormed.{well_with, all_still}
+use Rattle.abs_expand.proofs.abs_plans.WellFormed.{well_with, all_still}
 use Rattle.abs_expand.specs.BadStates.{ArePlaced}
 use Rattle.abs_expand.specs.Children.{IsActed, IsTurnChild, gone_to, set_field, field_with}
 use Rattle.abs_expand.specs.inner.Making.{frames_to, thrown_to, cells_to}

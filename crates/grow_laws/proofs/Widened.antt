@@ -35,7 +35,7 @@ use Rattle.frame_types.specs.Tables.{CodeTypes}
 use Rattle.abs_expand.specs.BadStates.{IsOfPlace, IsOfField, HasStackOf, call_takes, call_at, IsPlaced, statics_under}
 use Rattle.abs_expand.specs.BadStates.{HasCallersStack, IsCallerPlaced, AreCallersPlaced, HasRunningStack, IsRunningPlaced}
 use Rattle.abs_expand.specs.BadStates.{ArePlaced}
-use Rattle.abs_plans.proofs.WellFormed.{frames_there}
+use Rattle.abs_expand.proofs.abs_plans.WellFormed.{frames_there}
 use Rattle.place_sorts.specs.Growing.{AreWaiting, WaitBelow}
 use Rattle.place_sorts.proofs.SortLists.{take_mapped, drop_mapped, given_taken, given_dropped}
 use Rattle.grow_laws.proofs.StandAlike.{alike_ints, alike_others}

@@ -39,7 +39,7 @@ use Rattle.jvm_values.specs.Subtyping.{IsSlot}
 use Rattle.class_world.specs.World.{World, is_interface_class, is_abstract}
 use Rattle.class_world.specs.Descriptors.{class_slot}
 use Rattle.class_world.specs.Resolve.{method_at}
-use Rattle.class_read.specs.Content.{MethodContent}
+use Rattle.class_world.specs.class_read.Content.{MethodContent}
 use Rattle.class_program.specs.declared.op.Op.{Op}
 use Rattle.class_program.specs.declared.op.Op.TheVariants as ops
 use Rattle.class_program.specs.declared.op.Call.{Call}

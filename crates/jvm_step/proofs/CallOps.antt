@@ -3,7 +3,7 @@ use Rattle.std.proofs.Common.{◌≡◌, true, false, Option, Some, None, refl, 
 use Rattle.std.specs.Option.{option_map_or, option_and_then}
 use Rattle.std.proofs.lemmas.Bool.{false≢true}
 use Rattle.std.proofs.lemmas.Option.{none-some}
-use Rattle.code_forms.specs.declared.insn.Insn.{Insn}
+use Rattle.class_program.specs.code_forms.declared.insn.Insn.{Insn}
 use Rattle.class_program.specs.declared.op.Op.{Op}
 use Rattle.class_program.specs.declared.op.Op.TheVariants as ops
 use Rattle.class_program.specs.declared.op.Call.{Call}

@@ -6,9 +6,9 @@ use Rattle.std.specs.Prelude.{slice_get, ◌==◌}
 use Rattle.std.specs.Option.{option_map_or, option_and_then}
 use Rattle.std.specs.List.{filter_map, flat_map}
 use Rattle.jvm_values.specs.declared.types.Slot.{Slot}
-use Rattle.class_read.specs.Content.{ClassContent}
-use Rattle.class_world.specs.World.{World, class_of, line_from, line_of, super_of}
-use Rattle.class_world.specs.Fields.{field_slot, own_slots, fields_of}
+use Rattle.class_program.specs.class_read.Content.{ClassContent}
+use Rattle.class_program.specs.class_world.World.{World, class_of, line_from, line_of, super_of}
+use Rattle.class_program.specs.class_world.Fields.{field_slot, own_slots, fields_of}
 
 no_super_if : {X : Type 0} (zero_class : Bool) (f : X → Option ℕ) (c : Option X) → c ≡ None
     → cond zero_class None (option_and_then f c) ≡ None

@@ -13,7 +13,7 @@ use Rattle.std.specs.Ordering.{int_eq}
 use Rattle.std.specs.Int.{w32, int_wrap}
 use Rattle.std.specs.Str.{bytes_eq}
 use Rattle.list_views.specs.Options.{◌>>=◌, asked}
-use Rattle.code_forms.specs.declared.insn.Case.{Case}
+use Rattle.class_program.specs.code_forms.declared.insn.Case.{Case}
 use Rattle.jvm_values.specs.declared.heap.Value.{Value}
 use Rattle.jvm_values.specs.declared.heap.Value.TheVariants as values
 use Rattle.jvm_values.specs.declared.heap.Object.{Object}
@@ -34,12 +34,12 @@ use Rattle.jvm_values.specs.Kinds.{narrowed}
 use Rattle.jvm_values.specs.Subtyping.{class_type}
 use Rattle.jvm_values.specs.TypedHeaps.{WorldTypes}
 use Rattle.jvm_values.specs.Writes.{with_value}
-use Rattle.class_world.specs.World.{World}
-pub use Rattle.class_world.specs.WorldTypes.{types_of}
-use Rattle.class_world.specs.Resolve.{method_at}
-use Rattle.class_world.specs.BuiltIns.{throwable, null_pointer_exception, arithmetic_exception, array_index_out_of_bounds_exception}
-use Rattle.class_world.specs.BuiltIns.{negative_array_size_exception, class_cast_exception, array_store_exception}
-use Rattle.class_world.specs.BuiltIns.{incompatible_class_change_error, abstract_method_error}
+use Rattle.class_program.specs.class_world.World.{World}
+pub use Rattle.class_program.specs.class_world.WorldTypes.{types_of}
+use Rattle.class_program.specs.class_world.Resolve.{method_at}
+use Rattle.class_program.specs.class_world.BuiltIns.{throwable, null_pointer_exception, arithmetic_exception, array_index_out_of_bounds_exception}
+use Rattle.class_program.specs.class_world.BuiltIns.{negative_array_size_exception, class_cast_exception, array_store_exception}
+use Rattle.class_program.specs.class_world.BuiltIns.{incompatible_class_change_error, abstract_method_error}
 use Rattle.class_program.specs.Ops.{constructor_name}
 use Rattle.class_program.specs.declared.op.Call.{Call}
 use Rattle.class_program.specs.declared.op.FieldUse.{FieldUse}

@@ -8,3 +8,10 @@ pub mod Operands
 pub mod Steps
 pub mod Acts
 pub mod Memory
+-- definitions of crates below that the checker unfolds in functions of this crate
+pub mod Unfolded
+-- libraries below, given again for the crates above
+pub use Rattle.class_program.specs as class_program
+pub use Rattle.class_program.specs.class_world
+pub use Rattle.class_program.specs.code_forms
+pub use Rattle.op_forms.specs as op_forms

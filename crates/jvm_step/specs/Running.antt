@@ -13,8 +13,8 @@ use Rattle.jvm_values.specs.declared.state.Mode.TheVariants.{Normal, Throwing}
 use Rattle.jvm_values.specs.States.{MachineFrame, MachineState, locals_from}
 use Rattle.jvm_values.specs.Subtyping.{class_type}
 use Rattle.jvm_values.specs.TypedHeaps.{type_of}
-use Rattle.class_world.specs.World.{World}
-use Rattle.class_world.specs.Types.{is_sub}
+use Rattle.class_program.specs.class_world.World.{World}
+use Rattle.class_program.specs.class_world.Types.{is_sub}
 use Rattle.class_program.specs.declared.program.CatchRange.{CatchRange}
 use Rattle.class_program.specs.declared.program.Method.{Method}
 use Rattle.op_forms.specs.Forms.{form_of}

@@ -2,7 +2,7 @@
 ghost use Rattle.std.specs.Prelude.{◌≡◌, ◌<◌, ◌∷◌, ℕ, List, All, OnErr, IsOk, Option, Some, length, MatchResult, IfOk, reverse};
 ghost use Rattle.std.specs.Prelude.{slice_get, take, option_and_then};
 ghost use Rattle.jvm_values.specs.States.{MachineFrame, state_of};
-ghost use Rattle.class_world.specs.Worlds.{classes_of};
+ghost use Rattle.class_program.specs.class_world.Worlds.{classes_of};
 ghost use Rattle.class_program.specs.Views.{program_of};
 ghost use Rattle.class_program.specs.declared.program.Method.{Method as MethodSeen};
 ghost use Rattle.class_program.specs.Programs.{insn_at};
@@ -17,8 +17,8 @@ use crate::entries::called_frame;
 use crate::objects::next_number;
 use crate::outcome::Outcome;
 use crate::tops::{drop_top, empty_top, give_to_caller, set_top_place, take_from_caller};
+use class_program::class_world::World;
 use class_program::{Method, Program};
-use class_world::World;
 use jvm_values::{Frame, Mode, Object, State, Types, Value, initial_values};
 use list_views::Seq;
 use std::alloc::{AllocError, Global};

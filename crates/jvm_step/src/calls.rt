@@ -4,7 +4,7 @@ ghost use Rattle.std.specs.Option.{option_map};
 ghost use Rattle.jvm_values.specs.declared.heap.Heap.{Heap};
 ghost use Rattle.jvm_values.specs.States.{frame_of};
 ghost use Rattle.jvm_values.specs.TypedHeaps.{WorldTypes};
-ghost use Rattle.class_world.specs.World.{World};
+ghost use Rattle.class_program.specs.class_world.World.{World};
 ghost use Rattle.class_program.specs.declared.op.Op.{Op};
 ghost use Rattle.class_program.specs.Programs.{op_at};
 ghost use Rattle.class_program.specs.Selected.{selected_at, can_receive_at};

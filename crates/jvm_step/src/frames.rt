@@ -12,7 +12,7 @@ ghost use Rattle.jvm_step.specs.Effects.{tableswitch_effect, lookupswitch_effect
 use crate::after::After;
 use crate::built_ins::ARITHMETIC_EXCEPTION;
 use crate::operands::{int_at, int_of, reference_at, reference_of, replace, take};
-use code_forms::Case;
+use class_program::code_forms::Case;
 use jvm_values::{Cond, Frame, IntOp, Kind, Value};
 use list_views::Seq;
 use std::alloc::{AllocError, AllocFailed};

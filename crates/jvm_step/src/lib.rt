@@ -28,12 +28,15 @@ mod writes;
 pub use after::After;
 pub use calls::{invoke_selected, invokespecial, invokestatic};
 pub use casts::{aastore, checkcast, instanceof};
+pub use class_program;
+pub use class_program::{class_world, code_forms};
 pub use frames::{
     aload, arith, astore, goto, iinc, iload, ineg, istore, jump_if, jump_if_ints, jump_if_null,
     jump_if_same, lookupswitch, narrow, push, tableswitch,
 };
 pub use leaves::{areturn, athrow, ireturn, return_nothing};
 pub use objects::{anewarray, new_object, newarray};
+pub use op_forms;
 pub use outcome::Outcome;
 pub use reads::{aaload, arraylength, getfield, getstatic, number_load};
 pub use shuffles::shuffle;

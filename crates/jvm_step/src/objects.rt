@@ -3,14 +3,14 @@ ghost use Rattle.std.specs.Prelude.{◌≡◌, ◌<◌, ◌≤◌, length, repli
 ghost use Rattle.jvm_values.specs.States.{frame_of};
 ghost use Rattle.jvm_values.specs.declared.heap.Value.TheVariants as values;
 ghost use Rattle.jvm_values.specs.declared.types.Base.TheVariants as bases;
-ghost use Rattle.class_world.specs.Worlds.{classes_of};
+ghost use Rattle.class_program.specs.class_world.Worlds.{classes_of};
 ghost use Rattle.jvm_step.specs.Acts.{Tries};
 ghost use Rattle.jvm_step.specs.Effects.{types_of, instance_of, new_effect, zeros, nulls, makes, newarray_effect, anewarray_effect};
 
 use crate::after::After;
 use crate::built_ins::NEGATIVE_ARRAY_SIZE_EXCEPTION;
 use crate::operands::{int_at, replace};
-use class_world::World;
+use class_program::class_world::World;
 use jvm_values::{Base, Frame, Heap, Kind, Object, Ty, Types, Value, initial_values};
 use list_views::Seq;
 use std::alloc::{AllocError, Global};
@@ -125,7 +125,7 @@ pub fn anewarray(
 }
 
 /// A new instance of a class that can be made; None of another type.
-#[tactic(auto, unfolding(class_world::specs::Fields::can_be_made), using(std::proofs::lemmas::Option::slice_get_past))]
+#[tactic(auto, unfolding(crate::specs::Unfolded::can_be_made), using(std::proofs::lemmas::Option::slice_get_past))]
 fn instance(alloc: Global, world: &World<'_>, t: Ty) -> Result<Option<Object>, AllocError>
     ensures { IfOk result (λ object. object ≡ instance_of (types_of (classes_of world.now)) t.dims t.base) }
 {
@@ -136,7 +136,7 @@ fn instance(alloc: Global, world: &World<'_>, t: Ty) -> Result<Option<Object>, A
 }
 
 /// A new instance of a class; None where it can't be made.
-#[tactic(auto, unfolding(class_world::specs::Fields::can_be_made), using(std::proofs::lemmas::Option::slice_get_past))]
+#[tactic(auto, unfolding(crate::specs::Unfolded::can_be_made), using(std::proofs::lemmas::Option::slice_get_past))]
 fn made(alloc: Global, world: &World<'_>, class: u32) -> Result<Option<Object>, AllocError>
     ensures { IfOk result (λ object. object ≡ instance_of (types_of (classes_of world.now)) 0 (bases.Class class)) }
 {

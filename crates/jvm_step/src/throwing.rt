@@ -4,10 +4,10 @@ ghost use Rattle.std.specs.List.{find};
 ghost use Rattle.std.specs.Option.{option_map};
 ghost use Rattle.jvm_step.specs.Operands.{object_at as thrown_at};
 ghost use Rattle.jvm_values.specs.States.{state_of};
-ghost use Rattle.class_world.specs.Worlds.{classes_of};
+ghost use Rattle.class_program.specs.class_world.Worlds.{classes_of};
 ghost use Rattle.class_program.specs.declared.program.Method.{Method as MethodSeen};
 ghost use Rattle.class_program.specs.Views.{program_of};
-ghost use Rattle.class_world.specs.Types.{is_sub};
+ghost use Rattle.class_program.specs.class_world.Types.{is_sub};
 ghost use Rattle.jvm_values.specs.Subtyping.{class_type};
 ghost use Rattle.jvm_values.specs.TypedHeaps.{type_of};
 ghost use Rattle.jvm_step.specs.Running.{Step, takes, throwing_step};
@@ -17,8 +17,8 @@ ghost use Rattle.jvm_step.specs.Steps.{Does, HasRoom, handler_in, handled_in, ha
 use crate::outcome::Outcome;
 use crate::reads::object_at;
 use crate::tops::{drop_top, empty_top, handle_in_top};
+use class_program::class_world::World;
 use class_program::{CatchRange, Method, Program};
-use class_world::World;
 use jvm_values::{Base, Heap, Mode, Object, State, Ty, is_object_below};
 use std::alloc::AllocError;
 

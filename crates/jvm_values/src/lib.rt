@@ -21,6 +21,7 @@ pub use heap::{Heap, Object, Value, initial_values};
 pub use ints::{Cond, IntOp};
 pub use joins::{item_of, join};
 pub use laws::typed_heaps_are_closed;
+pub use list_views;
 pub use object_types::is_object_below;
 pub use shape::{Shape, Term};
 pub use state::{Frame, Mode, State};

@@ -24,8 +24,8 @@ use Rattle.term_graph.specs.declared.links.Link.{Link}
 use Rattle.term_graph.specs.declared.nodes.By.{By}
 use Rattle.term_graph.specs.declared.nodes.By.TheVariants as ways
 use Rattle.term_graph.specs.Graphs.{GraphNode}
-use Rattle.abs_expand.specs.Laws.{IsAfter, IsMet}
-use Rattle.abs_expand.proofs.ZipLists.{beside}
+use Rattle.graph_check.specs.abs_expand.Laws.{IsAfter, IsMet}
+use Rattle.graph_check.proofs.abs_expand.ZipLists.{beside}
 use Rattle.graph_check.specs.Good.{GraphOk, IsGoodNode}
 use Rattle.graph_check.specs.Laws.{GoesBy, GraphsHoldRuns}
 use Rattle.graph_check.proofs.Excluding.{good_by}

@@ -44,12 +44,12 @@ use Rattle.jvm_step.specs.Operands.{is_null, reference_of, top_reference, object
 use Rattle.jvm_step.specs.Table.{Work, effect_of, on_frame}
 use Rattle.jvm_step.specs.Running.{Step, step, new_frame, entered, invokes as machine_invokes}
 use Rattle.term_graph.specs.Edges.{HoldsBetween}
-use Rattle.abs_expand.specs.inner.Building.{HoldsIds}
-use Rattle.abs_expand.specs.Needs.{need_null}
-use Rattle.abs_expand.specs.Plans.{Turn, Plan, steps, no_child, no_rows}
-use Rattle.abs_expand.specs.Table.{cell_here, is_null_here, unless_null, accessed, one_step, called_frame, invokes, runs_or_lacks}
-use Rattle.abs_expand.specs.Table.{static_plan, special_plan, class_of_cell, answered, selecting_plan}
-use Rattle.abs_expand.specs.Turns.{moves, throws, with_stack as stack_at}
+use Rattle.form_steps.specs.abs_expand.inner.Building.{HoldsIds}
+use Rattle.form_steps.specs.abs_expand.Needs.{need_null}
+use Rattle.form_steps.specs.abs_expand.Plans.{Turn, Plan, steps, no_child, no_rows}
+use Rattle.form_steps.specs.abs_expand.Table.{cell_here, is_null_here, unless_null, accessed, one_step, called_frame, invokes, runs_or_lacks}
+use Rattle.form_steps.specs.abs_expand.Table.{static_plan, special_plan, class_of_cell, answered, selecting_plan}
+use Rattle.form_steps.specs.abs_expand.Turns.{moves, throws, with_stack as stack_at}
 use Rattle.form_steps.proofs.Tops.{from_tops, nothing_behind}
 use Rattle.form_steps.proofs.Standing.{rests, Stands, here, Work_, held, lower_held, going, by_effect, not_stuck, no_frame_effect}
 use Rattle.form_steps.proofs.Standing.{raises_frame}

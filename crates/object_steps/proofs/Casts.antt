@@ -31,12 +31,12 @@ use Rattle.jvm_step.specs.Effects.{Effect, with_stack, checkcast_effect, instanc
 use Rattle.jvm_step.specs.Operands.{reference_of, top_reference, is_null_or_below, is_below}
 use Rattle.jvm_step.specs.Table.{effect_of, on_frame}
 use Rattle.term_graph.specs.Edges.{is_size_variable, HoldsBetween}
-use Rattle.abs_expand.specs.Needs.{may_be_null, need_null}
-use Rattle.abs_expand.specs.Plans.{makes, on_stack, Turn, Plan, steps, no_rows}
-use Rattle.abs_expand.specs.Table.{cell_here, is_null_cell, one_step, number_cell, Cast, checkcast_of, instanceof_of, bounded}
-use Rattle.abs_expand.specs.Table.{with_bound, cell_bound, is_bound_below, may_be_below, is_known_cell, undecided, cast_plan}
-use Rattle.abs_expand.specs.Table.{checkcast_plan, instanceof_plan}
-use Rattle.abs_expand.specs.Turns.{narrows, with_stack as stack_at}
+use Rattle.form_steps.specs.abs_expand.Needs.{may_be_null, need_null}
+use Rattle.form_steps.specs.abs_expand.Plans.{makes, on_stack, Turn, Plan, steps, no_rows}
+use Rattle.form_steps.specs.abs_expand.Table.{cell_here, is_null_cell, one_step, number_cell, Cast, checkcast_of, instanceof_of, bounded}
+use Rattle.form_steps.specs.abs_expand.Table.{with_bound, cell_bound, is_bound_below, may_be_below, is_known_cell, undecided, cast_plan}
+use Rattle.form_steps.specs.abs_expand.Table.{checkcast_plan, instanceof_plan}
+use Rattle.form_steps.specs.abs_expand.Turns.{narrows, with_stack as stack_at}
 use Rattle.form_steps.proofs.SomeOf.{SomeOf}
 use Rattle.form_steps.proofs.Standing.{rests, Stands, here, onward, Work_, no_frame_effect, goes_next, raises_frame}
 use Rattle.form_steps.proofs.TurnKinds.{sound_at, Fitting, Meets, IsChange, throwing_turn}

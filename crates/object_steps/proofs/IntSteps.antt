@@ -43,11 +43,11 @@ use Rattle.frame_types.specs.Tables.{CodeTypes}
 use Rattle.jvm_step.specs.Running.{Step, step}
 use Rattle.term_graph.specs.Edges.{HoldsBetween, number_of}
 use Rattle.term_graph.specs.declared.links.LinkRow.{LinkRow}
-use Rattle.abs_expand.specs.Plans.{Goal, Turn, Plan, no_rows, makes}
-use Rattle.abs_expand.specs.Turns.{with_stack as stack_at, narrows, turn_of_result, Operand, known, id, interval_of_id, interval_at}
-use Rattle.abs_expand.specs.Turns.{are_one, rows_over, turn_of_case, turns_of, rows_if, place_of_way, branch_of_case, branches}
-use Rattle.abs_expand.specs.Turns.{switch_turn}
-use Rattle.abs_expand.specs.Switches.{parts_of}
+use Rattle.form_steps.specs.abs_expand.Plans.{Goal, Turn, Plan, no_rows, makes}
+use Rattle.form_steps.specs.abs_expand.Turns.{with_stack as stack_at, narrows, turn_of_result, Operand, known, id, interval_of_id, interval_at}
+use Rattle.form_steps.specs.abs_expand.Turns.{are_one, rows_over, turn_of_case, turns_of, rows_if, place_of_way, branch_of_case, branches}
+use Rattle.form_steps.specs.abs_expand.Turns.{switch_turn}
+use Rattle.form_steps.specs.abs_expand.Switches.{parts_of}
 use Rattle.form_steps.proofs.SomeOf.{SomeOf, some_of, some_mapped}
 use Rattle.form_steps.proofs.Results.{gives_result, HasResult, results, NamesNone, rows_of_two}
 use Rattle.form_steps.proofs.Keys.{Leads, key_target, parts_cover}

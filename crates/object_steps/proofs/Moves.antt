@@ -38,12 +38,12 @@ use Rattle.abs_ints.proofs.AllCases.{operated_covers}
 use Rattle.class_world.specs.BuiltIns.{arithmetic_exception}
 use Rattle.class_world.specs.WorldTypes.{types_of}
 use Rattle.class_program.specs.Programs.{Program}
-use Rattle.op_forms.specs.declared.form.Shuffle.{Shuffle as StackShuffle}
-use Rattle.op_forms.specs.Forms.{shuffled}
+use Rattle.jvm_step.specs.op_forms.declared.form.Shuffle.{Shuffle as StackShuffle}
+use Rattle.jvm_step.specs.op_forms.Forms.{shuffled}
 use Rattle.frame_types.specs.Places.{IsSet}
 use Rattle.frame_types.specs.Tables.{CodeTypes}
-use Rattle.code_verify.specs.Operands.{is_int, is_reference}
-use Rattle.code_verify.specs.Rows.{iload_types, aload_types, iinc_types}
+use Rattle.form_steps.specs.code_verify.Operands.{is_int, is_reference}
+use Rattle.form_steps.specs.code_verify.Rows.{iload_types, aload_types, iinc_types}
 use Rattle.jvm_step.specs.Operands.{int_of, reference_of, top_int, top_reference}
 use Rattle.jvm_step.specs.Effects.{Effect, with_stack, branch, sets, int_of_local, reference_of_local, constant_effect}
 use Rattle.jvm_step.specs.Effects.{iload_effect, aload_effect, istore_effect, astore_effect, iinc_effect, shuffle_effect}
@@ -51,16 +51,16 @@ use Rattle.jvm_step.specs.Effects.{arith_result, arith_effect, ineg_effect, narr
 use Rattle.jvm_step.specs.Effects.{tableswitch_effect, lookupswitch_effect}
 use Rattle.jvm_step.specs.Table.{effect_of, on_frame}
 use Rattle.jvm_step.specs.Running.{Step, step}
-use Rattle.jvm_run.proofs.Placed.{asked_is}
+use Rattle.form_steps.proofs.jvm_run.Placed.{asked_is}
 use Rattle.term_graph.specs.Edges.{HoldsBetween}
 use Rattle.term_graph.specs.declared.links.LinkRow.{LinkRow}
-use Rattle.abs_expand.specs.Plans.{on_stack, in_local, makes, Turn, Plan, steps, no_rows}
-use Rattle.abs_expand.specs.inner.Building.{HoldsIds}
-use Rattle.abs_expand.specs.Switches.{table_keys, lookup_keys}
-use Rattle.abs_expand.specs.Table.{local_here, step_if, one_step, unary, binary, load_plan, store_plan, increment_plan}
-use Rattle.abs_expand.specs.Table.{negation_plan, narrow_plan, switch_plan, number_cell}
-use Rattle.abs_expand.specs.Turns.{with_stack as stack_at, pushes, turn_narrowing, known, id, goes_on, interval_of_id, turns_of, branches}
-use Rattle.abs_plans.proofs.Holding.{local_held, set_held, reordered}
+use Rattle.form_steps.specs.abs_expand.Plans.{on_stack, in_local, makes, Turn, Plan, steps, no_rows}
+use Rattle.form_steps.specs.abs_expand.inner.Building.{HoldsIds}
+use Rattle.form_steps.specs.abs_expand.Switches.{table_keys, lookup_keys}
+use Rattle.form_steps.specs.abs_expand.Table.{local_here, step_if, one_step, unary, binary, load_plan, store_plan, increment_plan}
+use Rattle.form_steps.specs.abs_expand.Table.{negation_plan, narrow_plan, switch_plan, number_cell}
+use Rattle.form_steps.specs.abs_expand.Turns.{with_stack as stack_at, pushes, turn_narrowing, known, id, goes_on, interval_of_id, turns_of, branches}
+use Rattle.form_steps.proofs.abs_plans.Holding.{local_held, set_held, reordered}
 use Rattle.form_steps.proofs.SomeOf.{SomeOf, some_one, some_of_map}
 use Rattle.form_steps.proofs.Keys.{key_target, lookup_target, table_target}
 use Rattle.form_steps.proofs.Effects.{constant_is, goto_is, sets_is, sets_none, shuffle_is, arith_is, ineg_is, narrow_is, if_is}

@@ -24,7 +24,7 @@ use Rattle.abs_cells.specs.AbstractStates.{AbstractState}
 use Rattle.abs_cells.specs.Cells.{ids_in, cell_at, HasCell}
 use Rattle.abs_cells.specs.Fits.{Meaning}
 use Rattle.abs_reach.proofs.Walks.{named_has_cell}
-use Rattle.abs_heap.specs.Laws.{heap_with}
+use Rattle.form_steps.specs.abs_heap.Laws.{heap_with}
 use Rattle.class_world.specs.BuiltIns.{null_pointer_exception, throwable}
 use Rattle.class_world.specs.WorldTypes.{types_of}
 use Rattle.class_program.specs.declared.op.FieldUse.{FieldUse}
@@ -38,10 +38,10 @@ use Rattle.jvm_step.specs.Operands.{is_null, reference_of, top_int, top_referenc
 use Rattle.jvm_step.specs.Table.{effect_of, on_frame, on_heap}
 use Rattle.jvm_step.specs.Running.{Step, step}
 use Rattle.term_graph.specs.Edges.{HoldsBetween}
-use Rattle.abs_expand.specs.Plans.{Turn, Plan, steps, no_rows}
-use Rattle.abs_expand.specs.Table.{cell_here, is_null_here, unless_null, step_if, one_step, field_id, getfield_plan, length_id}
-use Rattle.abs_expand.specs.Table.{length_plan, athrow_plan, new_of_base, new_plan}
-use Rattle.abs_expand.specs.Turns.{goes_on, moves, emptied, throws}
+use Rattle.form_steps.specs.abs_expand.Plans.{Turn, Plan, steps, no_rows}
+use Rattle.form_steps.specs.abs_expand.Table.{cell_here, is_null_here, unless_null, step_if, one_step, field_id, getfield_plan, length_id}
+use Rattle.form_steps.specs.abs_expand.Table.{length_plan, athrow_plan, new_of_base, new_plan}
+use Rattle.form_steps.specs.abs_expand.Turns.{goes_on, moves, emptied, throws}
 use Rattle.form_steps.proofs.SomeOf.{SomeOf}
 use Rattle.form_steps.proofs.Tops.{stacked}
 use Rattle.form_steps.proofs.Standing.{rests, Stands, here, onward, Work_, held, raised, by_effect, no_frame_effect, no_heap_effect}

@@ -31,16 +31,16 @@ use Rattle.class_world.specs.WorldTypes.{types_of}
 use Rattle.class_program.specs.Programs.{Program}
 use Rattle.frame_types.specs.Places.{IsOfWorld, IsSet}
 use Rattle.frame_types.specs.Tables.{CodeTypes}
-use Rattle.code_verify.specs.TypedStates.{HasPlaceType, HasStack}
+use Rattle.form_steps.specs.code_verify.TypedStates.{HasPlaceType, HasStack}
 use Rattle.jvm_step.specs.Effects.{Effect, with_stack, branch, is_wanted, if_acmp_effect, if_null_effect}
 use Rattle.jvm_step.specs.Operands.{reference_of, same_reference, is_null, top_reference}
 use Rattle.jvm_step.specs.Table.{effect_of, on_frame}
 use Rattle.jvm_step.specs.Running.{Step, step}
 use Rattle.term_graph.specs.Edges.{HoldsBetween}
-use Rattle.abs_expand.specs.Needs.{may_be_null, need_null, is_unknown}
-use Rattle.abs_expand.specs.Plans.{Plan, steps, by_equal, no_rows}
-use Rattle.abs_expand.specs.Table.{place_under, is_null_cell, is_null_here, unless_null, accessed, jump_if, null_plan, equal_plan}
-use Rattle.abs_expand.specs.Turns.{throws}
+use Rattle.form_steps.specs.abs_expand.Needs.{may_be_null, need_null, is_unknown}
+use Rattle.form_steps.specs.abs_expand.Plans.{Plan, steps, by_equal, no_rows}
+use Rattle.form_steps.specs.abs_expand.Table.{place_under, is_null_cell, is_null_here, unless_null, accessed, jump_if, null_plan, equal_plan}
+use Rattle.form_steps.specs.abs_expand.Turns.{throws}
 use Rattle.form_steps.proofs.Standing.{rests, Stands, onward, here, Work_, raised, no_frame_effect}
 use Rattle.form_steps.proofs.TurnKinds.{Meets, throwing_turn}
 use Rattle.form_steps.proofs.Needs.{IsTypedId, need_null_meets, need_object_meets, equal_meets}

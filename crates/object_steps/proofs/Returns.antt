@@ -24,10 +24,10 @@ use Rattle.jvm_step.specs.Operands.{top_int, top_reference}
 use Rattle.jvm_step.specs.Table.{Work, effect_of, on_frame}
 use Rattle.jvm_step.specs.Running.{Step, step, with_result, returns, IsEnd}
 use Rattle.term_graph.specs.Edges.{HoldsBetween}
-use Rattle.abs_expand.specs.Plans.{Plan, no_rows}
-use Rattle.abs_expand.specs.inner.Building.{HoldsIds}
-use Rattle.abs_expand.specs.Table.{step_if, returned_to, value_plan}
-use Rattle.abs_expand.specs.Turns.{moves}
+use Rattle.form_steps.specs.abs_expand.Plans.{Plan, no_rows}
+use Rattle.form_steps.specs.abs_expand.inner.Building.{HoldsIds}
+use Rattle.form_steps.specs.abs_expand.Table.{step_if, returned_to, value_plan}
+use Rattle.form_steps.specs.abs_expand.Turns.{moves}
 use Rattle.form_steps.proofs.Tops.{FitFrames, tops, from_tops, stacked}
 use Rattle.form_steps.proofs.Standing.{Stands, here, Work_, lower_held, going, by_effect, not_stuck, no_frame_effect}
 use Rattle.form_steps.proofs.TurnKinds.{Meets, moving_turn}

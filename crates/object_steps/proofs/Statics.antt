@@ -35,12 +35,12 @@ use Rattle.jvm_step.specs.Operands.{top, is_passed, kept}
 use Rattle.jvm_step.specs.Table.{effect_of, on_frame, on_statics}
 use Rattle.jvm_step.specs.Running.{Step, step}
 use Rattle.term_graph.specs.Edges.{HoldsBetween}
-use Rattle.abs_expand.specs.inner.Building.{HoldsIds}
-use Rattle.abs_expand.specs.Plans.{in_bottom, makes, Turn, Plan, no_child, no_rows}
-use Rattle.abs_expand.specs.Table.{step_if, bottom_of, bottom_with, static_local, locals_of_method, getstatic_plan, put_static}
-use Rattle.abs_expand.specs.Table.{putstatic_plan}
-use Rattle.abs_expand.specs.Turns.{moves, goes_on, turn_narrowing, turns_narrowing, interval_of_id, with_stack as stack_at}
-use Rattle.abs_plans.proofs.Holding.{set_held}
+use Rattle.form_steps.specs.abs_expand.inner.Building.{HoldsIds}
+use Rattle.form_steps.specs.abs_expand.Plans.{in_bottom, makes, Turn, Plan, no_child, no_rows}
+use Rattle.form_steps.specs.abs_expand.Table.{step_if, bottom_of, bottom_with, static_local, locals_of_method, getstatic_plan, put_static}
+use Rattle.form_steps.specs.abs_expand.Table.{putstatic_plan}
+use Rattle.form_steps.specs.abs_expand.Turns.{moves, goes_on, turn_narrowing, turns_narrowing, interval_of_id, with_stack as stack_at}
+use Rattle.form_steps.proofs.abs_plans.Holding.{set_held}
 use Rattle.form_steps.proofs.SomeOf.{SomeOf, some_one, some_of_map}
 use Rattle.form_steps.specs.Laws.{Moved}
 use Rattle.form_steps.proofs.Tops.{BottomHas, bottom_set, stacked, from_tops}

@@ -18,8 +18,8 @@ use Rattle.abs_heap.specs.Given.{IsGiven, first_cell, with_cells, MayBeOne}
 use Rattle.abs_heap.specs.Names.{name_in, frame_named, IsImage}
 use Rattle.abs_heap.specs.Writing.{shape_after, Write, cell_after, GainsPair, IsWriteChild, JoinsItem, IsItemChild, zero_cell}
 use Rattle.abs_heap.specs.Writing.{IsObjectChild, array_cell, IsNewArrayChild}
-use Rattle.abs_turns.specs.Plans.{Act, nothing, makes, writes, item, object, array, Goal, nowhere, on_stack, in_local, in_bottom}
-use Rattle.abs_turns.specs.Plans.{in_field, is_thrown}
+use Rattle.abs_expand.specs.abs_turns.Plans.{Act, nothing, makes, writes, item, object, array, Goal, nowhere, on_stack, in_local, in_bottom}
+use Rattle.abs_expand.specs.abs_turns.Plans.{in_field, is_thrown}
 use Rattle.abs_expand.specs.Children.{IsActed, field_with, gone_to}
 use Rattle.steady_plans.specs.Steps.{makes_id}
 use Rattle.one_expansion.proofs.Alike.{Alike, back, between, as_equal, cell_alike, given_cells, given_alike}

@@ -10,7 +10,7 @@ use Rattle.class_world.specs.WorldTypes.{types_of}
 use Rattle.class_program.specs.Programs.{Program}
 use Rattle.frame_types.specs.Tables.{CodeTypes}
 use Rattle.term_graph.specs.Graphs.{GraphChild}
-use Rattle.abs_turns.specs.Plans.{Plan, ends}
+use Rattle.abs_expand.specs.abs_turns.Plans.{Plan, ends}
 use Rattle.abs_expand.specs.Answers.{Answers}
 use Rattle.abs_expand.specs.BadStates.{IsGoodState, IsBadState, unsound, misplaced, uncalled}
 use Rattle.abs_expand.specs.Expansions.{plan_of, counts_of, AreFew, IsFirstTooMany, AreChildren, AreExpanded}

@@ -6,7 +6,7 @@ use Rattle.abs_cells.specs.AbstractStates.{AbstractState}
 use Rattle.term_graph.specs.declared.links.Link.{Link}
 use Rattle.term_graph.specs.declared.links.LinkRow.{LinkRow}
 use Rattle.term_graph.specs.Graphs.{GraphChild}
-use Rattle.abs_turns.specs.Plans.{Goal, nowhere, Turn, Plan, ends, steps, by_null, by_class, by_equal}
+use Rattle.abs_expand.specs.abs_turns.Plans.{Goal, nowhere, Turn, Plan, ends, steps, by_null, by_class, by_equal}
 use Rattle.abs_expand.specs.Children.{IsTurnChild, gone_to, IsLean}
 use Rattle.abs_expand.specs.Expansions.{AreChildren, AreExpanded}
 use Rattle.one_expansion.proofs.Alike.{Alike, between, as_equal, given_alike, IsAlikeChild, leans_same}

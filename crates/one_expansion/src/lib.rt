@@ -3,4 +3,6 @@
 
 mod laws;
 
+pub use abs_expand;
 pub use laws::{answers_are_one, children_are_one};
+pub use steady_plans;

@@ -5,8 +5,8 @@ use Rattle.jvm_values.specs.declared.ints.IntOp.{IntOp}
 use Rattle.jvm_values.specs.declared.ints.IntOp.TheVariants as operators
 use Rattle.jvm_values.specs.declared.types.Kind.{Kind}
 use Rattle.jvm_values.specs.Kinds.{kind_of_code}
-use Rattle.code_forms.specs.declared.insn.Insn.{Insn}
-use Rattle.code_forms.specs.declared.insn.Insn.TheVariants as insns
+use Rattle.class_program.specs.code_forms.declared.insn.Insn.{Insn}
+use Rattle.class_program.specs.code_forms.declared.insn.Insn.TheVariants as insns
 use Rattle.op_forms.specs.Forms.{Form, form_of_insn}
 
 abbrev pub is_of_two : IntOp → Bool

@@ -6,9 +6,9 @@ use Rattle.std.proofs.lemmas.Int.{ints}
 use Rattle.jvm_values.specs.declared.types.Kind.{Kind}
 use Rattle.jvm_values.specs.declared.types.Kind.TheVariants as kinds
 use Rattle.jvm_values.specs.Kinds.{IsOfKind, kind_of_code}
-use Rattle.code_forms.specs.declared.insn.Insn.{Insn}
-use Rattle.code_forms.specs.declared.insn.Insn.TheVariants as insns
-use Rattle.code_decode.specs.Texts.{Fits}
+use Rattle.class_program.specs.code_forms.declared.insn.Insn.{Insn}
+use Rattle.class_program.specs.code_forms.declared.insn.Insn.TheVariants as insns
+use Rattle.class_program.specs.code_decode.Texts.{Fits}
 use Rattle.class_program.specs.declared.op.Op.{Op}
 use Rattle.class_program.specs.declared.op.Op.TheVariants as ops
 use Rattle.class_program.specs.Widths.{IsInWidth}

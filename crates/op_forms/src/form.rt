@@ -3,8 +3,8 @@ ghost use Rattle.std.specs.Prelude.{◌≡◌};
 ghost use Rattle.std.specs.Option.{option_map};
 ghost use Rattle.op_forms.specs.Forms.{form_of, form_of_insn, form_seen, number_array};
 
+use class_program::code_forms::{Case, Insn};
 use class_program::{Call, FieldUse, Op};
-use code_forms::{Case, Insn};
 use jvm_values::{Cond, IntOp, Kind, Ty};
 
 /// A reordering of the top of the operand stack (JVM specification, section 6.5). Every value has one word.

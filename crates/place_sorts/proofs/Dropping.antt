@@ -15,7 +15,7 @@ use Rattle.abs_reach.specs.Reached.{named_steps, positions, IsReached, IsDropped
 use Rattle.class_program.specs.Programs.{Program}
 use Rattle.frame_types.specs.Tables.{CodeTypes}
 use Rattle.abs_expand.specs.BadStates.{ArePlaced}
-use Rattle.abs_plans.proofs.WellFormed.{flat_to, flat_from, frames_there, thrown_there, names_there}
+use Rattle.abs_expand.proofs.abs_plans.WellFormed.{flat_to, flat_from, frames_there, thrown_there, names_there}
 use Rattle.place_sorts.proofs.Following.{Follows, cell_follows, frames_follow}
 use Rattle.place_sorts.proofs.Keeping.{itself, frames_same, cell_same}
 use Rattle.place_sorts.proofs.SortLists.{option_same, each_listed}

@@ -3,4 +3,5 @@
 
 mod laws;
 
+pub use jvm_run;
 pub use laws::links_fit;

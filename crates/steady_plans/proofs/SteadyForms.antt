@@ -40,8 +40,8 @@ use Rattle.class_program.specs.declared.selected.Selected.TheVariants as answers
 use Rattle.class_program.specs.Programs.{Program, insn_at}
 use Rattle.class_world.specs.WorldTypes.{types_of}
 use Rattle.frame_types.specs.Tables.{CodeTypes}
-use Rattle.code_verify.specs.Flows.{covers}
-use Rattle.jvm_step.specs.Effects.{answer_of}
+use Rattle.abs_plans.specs.code_verify.Flows.{covers}
+use Rattle.abs_plans.specs.jvm_step.Effects.{answer_of}
 use Rattle.op_forms.specs.Forms.{Form, form_of, shuffled}
 use Rattle.op_forms.specs.Forms.Form.{Nop, AconstNull, Iconst, Iload, Aload, Istore, Astore, Iinc, Shuffle, Arith, Ineg, Narrow, If}
 use Rattle.op_forms.specs.Forms.Form.{IfIcmp, IfAcmpeq, IfAcmpne, Ifnull, Ifnonnull, Goto, Tableswitch, Lookupswitch, Ireturn}
@@ -49,24 +49,24 @@ use Rattle.op_forms.specs.Forms.Form.{Areturn, Return, Getstatic, Putstatic, Get
 use Rattle.op_forms.specs.Forms.Form.{Invokestatic, Invokeinterface, New, Newarray, Anewarray, Arraylength, NumberLoad, Aaload}
 use Rattle.op_forms.specs.Forms.Form.{NumberStore, Aastore, Athrow, Checkcast, Instanceof}
 use Rattle.term_graph.specs.declared.links.LinkRow.{LinkRow}
-use Rattle.abs_turns.specs.Needs.{Passing, passes, fails, splits, after_test, passing_id, tested, operands_of, may_be_null}
-use Rattle.abs_turns.specs.Needs.{need_null, is_unknown, known_partner, split_unknown, split_below, need_class, need_object}
-use Rattle.abs_turns.specs.Plans.{Turn, Plan, nowhere, on_stack, in_local, in_bottom, in_field, steps, by_null, by_equal, no_child}
-use Rattle.abs_turns.specs.Plans.{no_rows}
-use Rattle.abs_turns.specs.Switches.{table_keys, lookup_keys, parts_of}
-use Rattle.abs_turns.specs.Throwing.{takes, handled, is_open, caught_plan, if_passes, throwing_plan}
-use Rattle.abs_turns.specs.Turns.{Here, known, id, frames_at, with_stack, emptied, moves, goes_on, pushes, throws, throws_after}
-use Rattle.abs_turns.specs.Turns.{interval_of_id, turns_of, branches}
-use Rattle.abs_turns.specs.Table.{types_here, place_under, cell_here, is_null_here, unless_null, accessed, local_here, step_if}
-use Rattle.abs_turns.specs.Table.{one_step, load_plan, store_plan, increment_plan, negation_plan, narrow_plan, switch_plan, jump_if}
-use Rattle.abs_turns.specs.Table.{null_plan, equal_plan, field_id, getfield_plan, on_instance, put_slot, putfield_plan, bottom_with}
-use Rattle.abs_turns.specs.Table.{static_local, getstatic_plan, put_static, putstatic_plan, new_of_base, array_turn, natural}
-use Rattle.abs_turns.specs.Table.{negative, array_plan, length_id, items_of, length_plan, access_at, access_of, number_load_plan}
-use Rattle.abs_turns.specs.Table.{number_store_plan, aaload_plan, aastore_plan, Cast, checkcast_of, instanceof_of, with_bound}
-use Rattle.abs_turns.specs.Table.{bounded, cell_bound, is_bound_below, may_be_below, is_known_cell, undecided, cast_plan}
-use Rattle.abs_turns.specs.Table.{checkcast_plan, instanceof_plan, invokes, runs_or_lacks, static_plan, receiver_of, special_plan}
-use Rattle.abs_turns.specs.Table.{class_of_cell, answered, selecting_plan, returned_to, value_plan, athrow_plan, binary, unary}
-use Rattle.abs_turns.specs.Table.{row_of, taken_by, plan_of_form}
+use Rattle.abs_plans.specs.abs_turns.Needs.{Passing, passes, fails, splits, after_test, passing_id, tested, operands_of, may_be_null}
+use Rattle.abs_plans.specs.abs_turns.Needs.{need_null, is_unknown, known_partner, split_unknown, split_below, need_class, need_object}
+use Rattle.abs_plans.specs.abs_turns.Plans.{Turn, Plan, nowhere, on_stack, in_local, in_bottom, in_field, steps, by_null, by_equal, no_child}
+use Rattle.abs_plans.specs.abs_turns.Plans.{no_rows}
+use Rattle.abs_plans.specs.abs_turns.Switches.{table_keys, lookup_keys, parts_of}
+use Rattle.abs_plans.specs.abs_turns.Throwing.{takes, handled, is_open, caught_plan, if_passes, throwing_plan}
+use Rattle.abs_plans.specs.abs_turns.Turns.{Here, known, id, frames_at, with_stack, emptied, moves, goes_on, pushes, throws, throws_after}
+use Rattle.abs_plans.specs.abs_turns.Turns.{interval_of_id, turns_of, branches}
+use Rattle.abs_plans.specs.abs_turns.Table.{types_here, place_under, cell_here, is_null_here, unless_null, accessed, local_here, step_if}
+use Rattle.abs_plans.specs.abs_turns.Table.{one_step, load_plan, store_plan, increment_plan, negation_plan, narrow_plan, switch_plan, jump_if}
+use Rattle.abs_plans.specs.abs_turns.Table.{null_plan, equal_plan, field_id, getfield_plan, on_instance, put_slot, putfield_plan, bottom_with}
+use Rattle.abs_plans.specs.abs_turns.Table.{static_local, getstatic_plan, put_static, putstatic_plan, new_of_base, array_turn, natural}
+use Rattle.abs_plans.specs.abs_turns.Table.{negative, array_plan, length_id, items_of, length_plan, access_at, access_of, number_load_plan}
+use Rattle.abs_plans.specs.abs_turns.Table.{number_store_plan, aaload_plan, aastore_plan, Cast, checkcast_of, instanceof_of, with_bound}
+use Rattle.abs_plans.specs.abs_turns.Table.{bounded, cell_bound, is_bound_below, may_be_below, is_known_cell, undecided, cast_plan}
+use Rattle.abs_plans.specs.abs_turns.Table.{checkcast_plan, instanceof_plan, invokes, runs_or_lacks, static_plan, receiver_of, special_plan}
+use Rattle.abs_plans.specs.abs_turns.Table.{class_of_cell, answered, selecting_plan, returned_to, value_plan, athrow_plan, binary, unary}
+use Rattle.abs_plans.specs.abs_turns.Table.{row_of, taken_by, plan_of_form}
 use Rattle.abs_plans.specs.Planning.{plan_here, plan_in, plan_of}
 use Rattle.steady_plans.specs.Steps.{SendsNone, IsSteady, AreSteady}
 use Rattle.steady_plans.proofs.SteadyTurns.{still, maker, AreSame, operator_steady, kinds_steady, branches_steady, switch_steady}

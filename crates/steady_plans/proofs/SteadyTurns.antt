@@ -26,13 +26,13 @@ use Rattle.class_world.specs.BuiltIns.{array_index_out_of_bounds_exception}
 use Rattle.term_graph.specs.declared.links.Side.{Side}
 use Rattle.term_graph.specs.declared.links.Side.TheVariants.{After}
 use Rattle.term_graph.specs.declared.links.LinkRow.{LinkRow}
-use Rattle.abs_turns.specs.Plans.{Goal, nowhere, Turn, no_rows}
-use Rattle.abs_turns.specs.Table.{natural, negative, in_bounds, out_of_bounds, access_at}
-use Rattle.abs_turns.specs.Turns.{Here, Operand, known, id, with_stack, throws_after, interval_at, interval_of_id, are_one}
-use Rattle.abs_turns.specs.Turns.{narrowings, term_of, terms_of, constant_of, row_over, rows_over, turn_of_result, turn_of_case}
-use Rattle.abs_turns.specs.Turns.{turns_of, turn_narrowing, turns_narrowing, narrows, place_of_way, rows_if, branch_of_case}
-use Rattle.abs_turns.specs.Turns.{branches, switch_turn}
-use Rattle.abs_turns.proofs.OptionLists.{filtered, each_any, if_there}
+use Rattle.abs_plans.specs.abs_turns.Plans.{Goal, nowhere, Turn, no_rows}
+use Rattle.abs_plans.specs.abs_turns.Table.{natural, negative, in_bounds, out_of_bounds, access_at}
+use Rattle.abs_plans.specs.abs_turns.Turns.{Here, Operand, known, id, with_stack, throws_after, interval_at, interval_of_id, are_one}
+use Rattle.abs_plans.specs.abs_turns.Turns.{narrowings, term_of, terms_of, constant_of, row_over, rows_over, turn_of_result, turn_of_case}
+use Rattle.abs_plans.specs.abs_turns.Turns.{turns_of, turn_narrowing, turns_narrowing, narrows, place_of_way, rows_if, branch_of_case}
+use Rattle.abs_plans.specs.abs_turns.Turns.{branches, switch_turn}
+use Rattle.abs_plans.proofs.abs_turns.OptionLists.{filtered, each_any, if_there}
 use Rattle.steady_plans.proofs.EachRow.{HasEach, each_related, each_compared}
 use Rattle.steady_plans.specs.Steps.{makes_id, IsSteady, AreSteady}
 

@@ -1,8 +1,8 @@
 -- Steps that make no id: they send none anywhere, and their rows name none.
 use Rattle.std.specs.Prelude.{◌≡◌, ℕ, Bool, true, false}
 use Rattle.std.specs.List.{AllByRecursion}
-use Rattle.abs_turns.specs.Plans.{Act, nothing, makes, writes, item, object, array, nowhere, Turn, Plan, ends, steps, by_null}
-use Rattle.abs_turns.specs.Plans.{by_class, by_equal}
+use Rattle.abs_plans.specs.abs_turns.Plans.{Act, nothing, makes, writes, item, object, array, nowhere, Turn, Plan, ends, steps, by_null}
+use Rattle.abs_plans.specs.abs_turns.Plans.{by_class, by_equal}
 
 -- an act makes a fresh id
 abbrev pub makes_id : Act → Bool

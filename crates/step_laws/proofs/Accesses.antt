@@ -39,16 +39,16 @@ use Rattle.frame_types.specs.Tables.{CodeTypes}
 use Rattle.jvm_step.specs.Running.{Step, step}
 use Rattle.term_graph.specs.Edges.{HoldsBetween}
 use Rattle.term_graph.specs.declared.links.LinkRow.{LinkRow}
-use Rattle.abs_expand.specs.Plans.{Turn, no_rows}
-use Rattle.abs_expand.specs.Table.{natural, negative, in_bounds, out_of_bounds, access_at}
-use Rattle.abs_expand.specs.Turns.{id, interval_of_id, narrowings, rows_over, throws_after}
-use Rattle.form_steps.proofs.SomeOf.{SomeOf, some_one}
-use Rattle.form_steps.proofs.Results.{NamesNone}
-use Rattle.form_steps.proofs.RowsHold.{rows_hold_without}
+use Rattle.object_steps.specs.abs_expand.Plans.{Turn, no_rows}
+use Rattle.object_steps.specs.abs_expand.Table.{natural, negative, in_bounds, out_of_bounds, access_at}
+use Rattle.object_steps.specs.abs_expand.Turns.{id, interval_of_id, narrowings, rows_over, throws_after}
+use Rattle.object_steps.proofs.form_steps.SomeOf.{SomeOf, some_one}
+use Rattle.object_steps.proofs.form_steps.Results.{NamesNone}
+use Rattle.object_steps.proofs.form_steps.RowsHold.{rows_hold_without}
 use Rattle.object_steps.proofs.Casts.{some_later}
-use Rattle.form_steps.proofs.Standing.{Stands, here, raised}
-use Rattle.form_steps.proofs.TurnKinds.{Fitting, Meets, IsChange, throwing_turn}
-use Rattle.form_steps.proofs.Operands.{bounded, IntAt, operand_is, narrow_both, narrow_to}
+use Rattle.object_steps.proofs.form_steps.Standing.{Stands, here, raised}
+use Rattle.object_steps.proofs.form_steps.TurnKinds.{Fitting, Meets, IsChange, throwing_turn}
+use Rattle.object_steps.proofs.form_steps.Operands.{bounded, IntAt, operand_is, narrow_both, narrow_to}
 
 -- ---- the case of a relation
 

@@ -44,17 +44,17 @@ use Rattle.jvm_step.specs.Table.{effect_of, on_frame, on_heap}
 use Rattle.jvm_step.specs.Running.{Step, step}
 use Rattle.term_graph.specs.Edges.{HoldsBetween}
 use Rattle.term_graph.specs.declared.links.LinkRow.{LinkRow}
-use Rattle.abs_expand.specs.Plans.{makes as makes_act, on_stack, Turn, Plan, no_child, no_rows}
-use Rattle.abs_expand.specs.Table.{cell_here, natural, negative, array_turn, array_plan, length_id, access_at, of_kind, number_load_plan}
-use Rattle.abs_expand.specs.Turns.{throws_after, with_stack as stack_at, interval_of_id}
-use Rattle.form_steps.proofs.SomeOf.{SomeOf}
-use Rattle.form_steps.proofs.Tops.{stacked}
+use Rattle.object_steps.specs.abs_expand.Plans.{makes as makes_act, on_stack, Turn, Plan, no_child, no_rows}
+use Rattle.object_steps.specs.abs_expand.Table.{cell_here, natural, negative, array_turn, array_plan, length_id, access_at, of_kind, number_load_plan}
+use Rattle.object_steps.specs.abs_expand.Turns.{throws_after, with_stack as stack_at, interval_of_id}
+use Rattle.object_steps.proofs.form_steps.SomeOf.{SomeOf}
+use Rattle.object_steps.proofs.form_steps.Tops.{stacked}
 use Rattle.step_laws.proofs.Accesses.{access_meets}
 use Rattle.object_steps.proofs.Casts.{some_later}
-use Rattle.form_steps.proofs.Standing.{Stands, here, onward, Work_, held, going, raised, no_frame_effect, no_heap_effect}
-use Rattle.form_steps.proofs.Standing.{goes_after, goes_next, raises_frame, raises_heap}
-use Rattle.form_steps.proofs.TurnKinds.{Fitting, Meets, IsChange, throwing_turn, array_making_turn}
-use Rattle.form_steps.proofs.Operands.{IntAt, int_at, bounded, by_int, narrow_to}
+use Rattle.object_steps.proofs.form_steps.Standing.{Stands, here, onward, Work_, held, going, raised, no_frame_effect, no_heap_effect}
+use Rattle.object_steps.proofs.form_steps.Standing.{goes_after, goes_next, raises_frame, raises_heap}
+use Rattle.object_steps.proofs.form_steps.TurnKinds.{Fitting, Meets, IsChange, throwing_turn, array_making_turn}
+use Rattle.object_steps.proofs.form_steps.Operands.{IntAt, int_at, bounded, by_int, narrow_to}
 use Rattle.object_steps.proofs.Moves.{pushed_turn}
 use Rattle.object_steps.proofs.Objects.{newarray_stuck, newarray_by, anewarray_stuck, anewarray_by}
 use Rattle.object_steps.proofs.References.{accessed_meets}

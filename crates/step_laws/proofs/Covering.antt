@@ -19,10 +19,10 @@ use Rattle.op_forms.specs.Widths.{IsFormInWidth}
 use Rattle.op_forms.proofs.Widths.{increment_int}
 use Rattle.op_forms.proofs.Plain.{is_of_two, is_plain, plain_forms}
 use Rattle.frame_types.specs.Tables.{CodeTypes}
-use Rattle.code_verify.specs.Rows.{types_after}
+use Rattle.object_steps.specs.code_verify.Rows.{types_after}
 use Rattle.jvm_step.specs.Table.{effect_of}
-use Rattle.abs_expand.specs.Table.{row_of}
-use Rattle.jvm_run.proofs.Named.{IsNamed}
+use Rattle.object_steps.specs.abs_expand.Table.{row_of}
+use Rattle.object_steps.proofs.jvm_run.Named.{IsNamed}
 use Rattle.step_laws.proofs.Arrays.{numbers_made, references_made, number_read}
 use Rattle.object_steps.proofs.Calls.{static_called, special_called, selecting_called}
 use Rattle.object_steps.proofs.Casts.{cast_checked, type_tested}
@@ -36,8 +36,8 @@ use Rattle.step_laws.proofs.Fields.{field_put}
 use Rattle.step_laws.proofs.Writes.{item_read, number_stored, item_written}
 use Rattle.object_steps.proofs.References.{null_test, equal_test}
 use Rattle.object_steps.proofs.Statics.{static_read, static_put}
-use Rattle.form_steps.proofs.Standing.{Stands, here, Work_}
-use Rattle.form_steps.proofs.TurnKinds.{Meets}
+use Rattle.object_steps.proofs.form_steps.Standing.{Stands, here, Work_}
+use Rattle.object_steps.proofs.form_steps.TurnKinds.{Meets}
 
 -- an operator that an instruction has is no narrowing
 op_of_two : (op : Op) (operator : IntOp) → form_of op ≡ Some (Arith operator) → is_operator operator ≡ true

@@ -51,22 +51,22 @@ use Rattle.jvm_step.specs.Effects.{Effect, with_stack, fields_in, with_item, put
 use Rattle.jvm_step.specs.Operands.{reference_of, top, top_reference, object_at, is_assignable, is_passed, kept}
 use Rattle.jvm_step.specs.Table.{effect_of, on_heap}
 use Rattle.jvm_step.specs.Running.{Step, step}
-use Rattle.jvm_run.proofs.Lists.{zip_get}
-use Rattle.jvm_run.proofs.Objects.{erased_class, class_below_by}
+use Rattle.object_steps.proofs.jvm_run.Lists.{zip_get}
+use Rattle.object_steps.proofs.jvm_run.Objects.{erased_class, class_below_by}
 use Rattle.term_graph.specs.Edges.{HoldsBetween}
-use Rattle.abs_expand.specs.Plans.{makes, in_field, Turn, Plan, steps, no_rows}
-use Rattle.abs_expand.specs.Children.{set_field, field_with}
-use Rattle.abs_expand.specs.inner.Building.{HoldsIds}
-use Rattle.abs_expand.specs.Table.{cell_here as cell_of, on_instance, put_slot, putfield_plan}
-use Rattle.abs_expand.specs.Turns.{moves, turn_narrowing, turns_narrowing, interval_of_id, with_stack as stack_at}
-use Rattle.form_steps.proofs.SomeOf.{SomeOf, some_one, some_of_map}
+use Rattle.object_steps.specs.abs_expand.Plans.{makes, in_field, Turn, Plan, steps, no_rows}
+use Rattle.object_steps.specs.abs_expand.Children.{set_field, field_with}
+use Rattle.object_steps.specs.abs_expand.inner.Building.{HoldsIds}
+use Rattle.object_steps.specs.abs_expand.Table.{cell_here as cell_of, on_instance, put_slot, putfield_plan}
+use Rattle.object_steps.specs.abs_expand.Turns.{moves, turn_narrowing, turns_narrowing, interval_of_id, with_stack as stack_at}
+use Rattle.object_steps.proofs.form_steps.SomeOf.{SomeOf, some_one, some_of_map}
 use Rattle.abs_heap.specs.Laws.{HasOtherCells}
-use Rattle.form_steps.proofs.Formed.{changed_formed, frames_held, thrown_held}
-use Rattle.form_steps.proofs.Steps.{formed, mid_fits, field_goes}
-use Rattle.form_steps.proofs.Tops.{stacked, from_tops}
-use Rattle.form_steps.proofs.Standing.{Stands, here, onward, Work_, held, lower_held, going, no_heap_effect, goes_after, raises_heap}
-use Rattle.form_steps.proofs.TurnKinds.{Fitting, Meets, sound_at, writing_turn, keeping_turn}
-use Rattle.form_steps.proofs.Operands.{IntAt, int_at, bounded, stack_is, stack_held}
+use Rattle.object_steps.proofs.form_steps.Formed.{changed_formed, frames_held, thrown_held}
+use Rattle.object_steps.proofs.form_steps.Steps.{formed, mid_fits, field_goes}
+use Rattle.object_steps.proofs.form_steps.Tops.{stacked, from_tops}
+use Rattle.object_steps.proofs.form_steps.Standing.{Stands, here, onward, Work_, held, lower_held, going, no_heap_effect, goes_after, raises_heap}
+use Rattle.object_steps.proofs.form_steps.TurnKinds.{Fitting, Meets, sound_at, writing_turn, keeping_turn}
+use Rattle.object_steps.proofs.form_steps.Operands.{IntAt, int_at, bounded, stack_is, stack_held}
 use Rattle.object_steps.proofs.References.{accessed_meets}
 
 -- ---- effects

@@ -8,15 +8,15 @@ use Rattle.class_world.specs.BuiltIns.{IsWorld, HasNoInterfacesBelow}
 use Rattle.class_program.specs.Programs.{Program, IsClosed}
 use Rattle.class_program.specs.Widths.{HasWidths}
 use Rattle.frame_types.specs.Tables.{CodeTypes}
-use Rattle.jvm_run.specs.Laws.{StepsAreTyped}
-use Rattle.abs_expand.specs.Laws.{IsMet, EndsEnd, StepsFitChildren}
-use Rattle.abs_expand.specs.Expansions.{plan_of}
-use Rattle.form_steps.specs.inner.Lows.{Lows, AreThrowablesErased}
+use Rattle.object_steps.specs.jvm_run.Laws.{StepsAreTyped}
+use Rattle.object_steps.specs.abs_expand.Laws.{IsMet, EndsEnd, StepsFitChildren}
+use Rattle.object_steps.specs.abs_expand.Expansions.{plan_of}
+use Rattle.object_steps.specs.form_steps.inner.Lows.{Lows, AreThrowablesErased}
 use Rattle.step_laws.proofs.Premises.{throwables_erased}
 use Rattle.step_laws.proofs.Covering.{covered}
 use Rattle.step_laws.proofs.Meeting.{to_child, stands, wide, plan_meets}
 use Rattle.step_laws.proofs.Throwing.{throwing_meets}
-use Rattle.form_steps.proofs.TurnKinds.{Meets}
+use Rattle.object_steps.proofs.form_steps.TurnKinds.{Meets}
 
 module _ (typed_steps : StepsAreTyped) (p : Program) (typing : ℕ → CodeTypes) (state : AbstractState) (machine : MachineState)
     (meaning : Meaning) (lows : Lows) (closed : IsClosed p) (widths : HasWidths p) (erased : AreThrowablesErased p)

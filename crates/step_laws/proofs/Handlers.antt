@@ -27,12 +27,12 @@ use Rattle.class_world.specs.BuiltIns.{throwable}
 use Rattle.class_world.specs.WorldTypes.{types_of}
 use Rattle.class_program.specs.declared.program.CatchRange.{CatchRange}
 use Rattle.class_program.specs.Programs.{Program}
-use Rattle.code_verify.specs.Flows.{covers, CanCatch}
-use Rattle.abs_expand.specs.Needs.{is_unknown}
-use Rattle.abs_expand.specs.Throwing.{takes_type, thrown_type, takes, is_below_bound, may_take, before_taker}
-use Rattle.form_steps.specs.inner.Lows.{AreThrowablesErased}
-use Rattle.form_steps.proofs.Standing.{Rests}
-use Rattle.form_steps.proofs.TurnKinds.{sound_at}
+use Rattle.object_steps.specs.code_verify.Flows.{covers, CanCatch}
+use Rattle.object_steps.specs.abs_expand.Needs.{is_unknown}
+use Rattle.object_steps.specs.abs_expand.Throwing.{takes_type, thrown_type, takes, is_below_bound, may_take, before_taker}
+use Rattle.object_steps.specs.form_steps.inner.Lows.{AreThrowablesErased}
+use Rattle.object_steps.proofs.form_steps.Standing.{Rests}
+use Rattle.object_steps.proofs.form_steps.TurnKinds.{sound_at}
 
 -- the object's type is below the class that an entry catches
 abbrev pub is_caught : WorldTypes → Ty → CatchRange → Bool

@@ -36,33 +36,33 @@ use Rattle.op_forms.specs.Widths.{IsFormInWidth}
 use Rattle.op_forms.proofs.Widths.{forms_wide}
 use Rattle.frame_types.specs.Places.{IsOfWorld, IsSet, IsFrame}
 use Rattle.frame_types.specs.Tables.{CodeTypes}
-use Rattle.code_verify.specs.TypedStates.{HasPlaceType, HasStack, IsRunning, AreCallers, AreTypedFrames}
+use Rattle.object_steps.specs.code_verify.TypedStates.{HasPlaceType, HasStack, IsRunning, AreCallers, AreTypedFrames}
 use Rattle.jvm_step.specs.Running.{step}
-use Rattle.jvm_run.specs.Laws.{StepsAreTyped}
-use Rattle.jvm_run.proofs.Lists.{zip_get}
-use Rattle.jvm_run.proofs.Named.{IsNamed, named_of}
-use Rattle.jvm_run.proofs.Placed.{Placed, placed, at_has}
-use Rattle.jvm_run.proofs.Stepping.{insn_there}
+use Rattle.object_steps.specs.jvm_run.Laws.{StepsAreTyped}
+use Rattle.object_steps.proofs.jvm_run.Lists.{zip_get}
+use Rattle.object_steps.proofs.jvm_run.Named.{IsNamed, named_of}
+use Rattle.object_steps.proofs.jvm_run.Placed.{Placed, placed, at_has}
+use Rattle.object_steps.proofs.jvm_run.Stepping.{insn_there}
 use Rattle.term_graph.specs.Graphs.{GraphChild}
 use Rattle.term_graph.specs.declared.links.Link.{Link}
 use Rattle.term_graph.specs.Edges.{Edge, id_after}
-use Rattle.abs_expand.specs.Plans.{Plan, ends, steps, by_null, by_class, by_equal}
-use Rattle.abs_expand.specs.Needs.{operands_of}
-use Rattle.abs_expand.specs.Table.{taken_by, row_of, plan_of_form}
-use Rattle.abs_expand.specs.BadStates.{IsOfPlace, IsRunningPlaced, ArePlaced, statics_under}
-use Rattle.abs_expand.specs.Children.{IsTurnChild, IsLean}
-use Rattle.abs_expand.specs.Expansions.{plan_here, plan_in, plan_of, AreExpanded}
-use Rattle.abs_expand.specs.Laws.{IsAfter, GoesToChild, IsMet}
-use Rattle.abs_expand.proofs.ZipLists.{beside}
-use Rattle.form_steps.proofs.SomeOf.{SomeOf}
-use Rattle.form_steps.specs.inner.Lows.{DroppedKeepSized}
-use Rattle.form_steps.proofs.Steps.{FitsChild, dropped_fits, dropped_sort, sized_there}
-use Rattle.form_steps.proofs.Tops.{FitFrames, tops, from_tops}
-use Rattle.form_steps.proofs.Bottoms.{StandsOnStatics, last_of, on_statics_of}
-use Rattle.form_steps.specs.inner.Lows.{Lows}
-use Rattle.form_steps.proofs.Standing.{rests, Stands, here, held}
-use Rattle.form_steps.proofs.TurnKinds.{Fitting, FitsSplit, Meets}
-use Rattle.form_steps.proofs.Needs.{IsTypedId, tested_meets}
+use Rattle.object_steps.specs.abs_expand.Plans.{Plan, ends, steps, by_null, by_class, by_equal}
+use Rattle.object_steps.specs.abs_expand.Needs.{operands_of}
+use Rattle.object_steps.specs.abs_expand.Table.{taken_by, row_of, plan_of_form}
+use Rattle.object_steps.specs.abs_expand.BadStates.{IsOfPlace, IsRunningPlaced, ArePlaced, statics_under}
+use Rattle.object_steps.specs.abs_expand.Children.{IsTurnChild, IsLean}
+use Rattle.object_steps.specs.abs_expand.Expansions.{plan_here, plan_in, plan_of, AreExpanded}
+use Rattle.object_steps.specs.abs_expand.Laws.{IsAfter, GoesToChild, IsMet}
+use Rattle.object_steps.proofs.abs_expand.ZipLists.{beside}
+use Rattle.object_steps.proofs.form_steps.SomeOf.{SomeOf}
+use Rattle.object_steps.specs.form_steps.inner.Lows.{DroppedKeepSized}
+use Rattle.object_steps.proofs.form_steps.Steps.{FitsChild, dropped_fits, dropped_sort, sized_there}
+use Rattle.object_steps.proofs.form_steps.Tops.{FitFrames, tops, from_tops}
+use Rattle.object_steps.proofs.form_steps.Bottoms.{StandsOnStatics, last_of, on_statics_of}
+use Rattle.object_steps.specs.form_steps.inner.Lows.{Lows}
+use Rattle.object_steps.proofs.form_steps.Standing.{rests, Stands, here, held}
+use Rattle.object_steps.proofs.form_steps.TurnKinds.{Fitting, FitsSplit, Meets}
+use Rattle.object_steps.proofs.form_steps.Needs.{IsTypedId, tested_meets}
 
 -- ---- children
 

@@ -9,8 +9,8 @@ use Rattle.abs_heap.specs.Laws.{ValuesGoOn}
 use Rattle.class_world.specs.World.{World}
 use Rattle.class_world.specs.BuiltIns.{IsWorld, HasNoInterfacesBelow}
 use Rattle.class_program.specs.Programs.{Program, IsClosed}
-use Rattle.form_steps.specs.inner.Lows.{IsPlainCell, FreshIdsGoOn, DroppedKeepSized}
-use Rattle.form_steps.specs.inner.Lows.{AreThrowablesErased}
+use Rattle.object_steps.specs.form_steps.inner.Lows.{IsPlainCell, FreshIdsGoOn, DroppedKeepSized}
+use Rattle.object_steps.specs.form_steps.inner.Lows.{AreThrowablesErased}
 
 plain_none : (cell : Cell) → IsPlainCell cell → is_reference cell ≡ false
 plain_none (cells.Int interval) plain = refl

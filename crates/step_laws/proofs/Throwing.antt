@@ -30,27 +30,27 @@ use Rattle.class_program.specs.declared.program.CatchRange.{CatchRange}
 use Rattle.class_program.specs.declared.program.Method.{Method}
 use Rattle.class_program.specs.Programs.{Program, IsClosed}
 use Rattle.frame_types.specs.Tables.{CodeTypes}
-use Rattle.code_verify.specs.Flows.{covers}
-use Rattle.code_verify.specs.TypedStates.{IsUnwinding, AreTypedFrames}
+use Rattle.object_steps.specs.code_verify.Flows.{covers}
+use Rattle.object_steps.specs.code_verify.TypedStates.{IsUnwinding, AreTypedFrames}
 use Rattle.jvm_step.specs.Running.{Step, step, step_in, throwing_step, handled as handled_by, IsEnd}
 use Rattle.term_graph.specs.Edges.{HoldsBetween}
-use Rattle.abs_expand.specs.BadStates.{IsRunningPlaced, ArePlaced, statics_under}
-use Rattle.abs_expand.specs.inner.Building.{HoldsIds}
-use Rattle.abs_expand.specs.Expansions.{plan_in, plan_of}
-use Rattle.abs_expand.specs.Laws.{IsMet}
-use Rattle.abs_expand.specs.Needs.{Passing, passes, splits, passing_id, may_be_null, is_unknown, split_below}
-use Rattle.abs_expand.specs.Plans.{Plan, steps}
-use Rattle.abs_expand.specs.Throwing.{takes, may_take, before_taker, handled, caught_plan, if_passes, throwing_plan}
-use Rattle.abs_expand.specs.Turns.{moves}
-use Rattle.form_steps.proofs.Formed.{frames_held}
-use Rattle.form_steps.proofs.Steps.{moved_goes}
-use Rattle.form_steps.proofs.Tops.{FitFrames, tops, from_tops}
-use Rattle.form_steps.specs.inner.Lows.{Lows, AreThrowablesErased}
+use Rattle.object_steps.specs.abs_expand.BadStates.{IsRunningPlaced, ArePlaced, statics_under}
+use Rattle.object_steps.specs.abs_expand.inner.Building.{HoldsIds}
+use Rattle.object_steps.specs.abs_expand.Expansions.{plan_in, plan_of}
+use Rattle.object_steps.specs.abs_expand.Laws.{IsMet}
+use Rattle.object_steps.specs.abs_expand.Needs.{Passing, passes, splits, passing_id, may_be_null, is_unknown, split_below}
+use Rattle.object_steps.specs.abs_expand.Plans.{Plan, steps}
+use Rattle.object_steps.specs.abs_expand.Throwing.{takes, may_take, before_taker, handled, caught_plan, if_passes, throwing_plan}
+use Rattle.object_steps.specs.abs_expand.Turns.{moves}
+use Rattle.object_steps.proofs.form_steps.Formed.{frames_held}
+use Rattle.object_steps.proofs.form_steps.Steps.{moved_goes}
+use Rattle.object_steps.proofs.form_steps.Tops.{FitFrames, tops, from_tops}
+use Rattle.object_steps.specs.form_steps.inner.Lows.{Lows, AreThrowablesErased}
 use Rattle.step_laws.proofs.Handlers.{is_caught, none_may, finds_same}
 use Rattle.step_laws.proofs.Meeting.{TopFrames, top_frames, closed_state}
-use Rattle.form_steps.proofs.Needs.{IsTypedId, passing_typed, split_meets}
-use Rattle.form_steps.proofs.Standing.{Rests}
-use Rattle.form_steps.proofs.TurnKinds.{Fitting, Meets}
+use Rattle.object_steps.proofs.form_steps.Needs.{IsTypedId, passing_typed, split_meets}
+use Rattle.object_steps.proofs.form_steps.Standing.{Rests}
+use Rattle.object_steps.proofs.form_steps.TurnKinds.{Fitting, Meets}
 
 -- what is thrown
 record IsThrown (meaning : Meaning) (x : ℕ) (mode : Mode) : Type 0 where

@@ -39,19 +39,19 @@ use Rattle.jvm_step.specs.Table.{effect_of, on_frame, on_heap}
 use Rattle.jvm_step.specs.Running.{Step, step}
 use Rattle.term_graph.specs.Edges.{HoldsBetween}
 use Rattle.term_graph.specs.declared.links.LinkRow.{LinkRow}
-use Rattle.abs_expand.specs.Plans.{nothing, nowhere, on_stack, item, writes, Turn, Plan, no_child}
-use Rattle.abs_expand.specs.Table.{cell_here, is_null_cell, is_null_here, access_at, length_id, items_length_id, items_of}
-use Rattle.abs_expand.specs.Table.{number_store_plan, aaload_plan, aastore_plan}
-use Rattle.abs_expand.specs.Turns.{throws_after, with_stack as stack_at}
-use Rattle.form_steps.proofs.SomeOf.{SomeOf}
-use Rattle.form_steps.proofs.Carry.{described_of}
-use Rattle.form_steps.proofs.Tops.{stacked}
+use Rattle.object_steps.specs.abs_expand.Plans.{nothing, nowhere, on_stack, item, writes, Turn, Plan, no_child}
+use Rattle.object_steps.specs.abs_expand.Table.{cell_here, is_null_cell, is_null_here, access_at, length_id, items_length_id, items_of}
+use Rattle.object_steps.specs.abs_expand.Table.{number_store_plan, aaload_plan, aastore_plan}
+use Rattle.object_steps.specs.abs_expand.Turns.{throws_after, with_stack as stack_at}
+use Rattle.object_steps.proofs.form_steps.SomeOf.{SomeOf}
+use Rattle.object_steps.proofs.form_steps.Carry.{described_of}
+use Rattle.object_steps.proofs.form_steps.Tops.{stacked}
 use Rattle.step_laws.proofs.Accesses.{access_meets}
 use Rattle.step_laws.proofs.Arrays.{IndexOver, index_of, by_index, length_held, top_array, outside_item}
-use Rattle.form_steps.proofs.Standing.{Stands, here, onward, Work_, held, raised, no_frame_effect, no_heap_effect, goes_after}
-use Rattle.form_steps.proofs.Standing.{goes_next, raises_frame, raises_heap}
-use Rattle.form_steps.proofs.TurnKinds.{Fitting, Meets, IsChange, throwing_turn, item_turn, writing_turn, keeping_turn, alikes, nameds}
-use Rattle.form_steps.proofs.Operands.{int_at, by_int_at, TopInt}
+use Rattle.object_steps.proofs.form_steps.Standing.{Stands, here, onward, Work_, held, raised, no_frame_effect, no_heap_effect, goes_after}
+use Rattle.object_steps.proofs.form_steps.Standing.{goes_next, raises_frame, raises_heap}
+use Rattle.object_steps.proofs.form_steps.TurnKinds.{Fitting, Meets, IsChange, throwing_turn, item_turn, writing_turn, keeping_turn, alikes, nameds}
+use Rattle.object_steps.proofs.form_steps.Operands.{int_at, by_int_at, TopInt}
 use Rattle.object_steps.proofs.Moves.{by_reference_at}
 use Rattle.object_steps.proofs.References.{top_is_reference, accessed_meets}
 

@@ -1,6 +1,6 @@
 //! What expansions promise of the machine. The laws are calls that do nothing when they run.
-ghost use Rattle.abs_expand.specs.Laws.{EndsEnd, StepsFitChildren};
-ghost use Rattle.form_steps.specs.inner.Lows.{Lows};
+ghost use Rattle.object_steps.specs.abs_expand.Laws.{EndsEnd, StepsFitChildren};
+ghost use Rattle.object_steps.specs.form_steps.inner.Lows.{Lows};
 
 use abs_heap::{
     arrays_go_on, classes_split, equal_splits, int_writes_go_on, items_go_on, null_splits,
@@ -8,8 +8,8 @@ use abs_heap::{
 };
 use abs_reach::dropped_ids_keep_sizes;
 use class_world::no_interface_is_below_a_class;
-use jvm_run::steps_are_typed;
 use jvm_values::{int_writes_keep, number_writes_keep};
+use object_steps::jvm_run::steps_are_typed;
 
 /// The laws of heaps and of dropping that steps rest on.
 fn low_laws()

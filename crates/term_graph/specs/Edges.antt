@@ -1,12 +1,12 @@
 -- What an edge of a termination graph says of the machine's states at its two ends.
 use Rattle.std.specs.Prelude.{◌≡◌, ℕ, Bool, true, false, ℤ, pos, ◌+ℤ◌, ◌*ℤ◌, ◌==◌, if◌then◌else◌, List, [], ◌∷◌, All, Option, Some, None}
-use Rattle.lin_core.specs.Rows.{IsOfKind}
-use Rattle.jvm_values.specs.declared.heap.Value.{Value}
-use Rattle.jvm_values.specs.declared.heap.Value.TheVariants as values
-use Rattle.jvm_values.specs.declared.heap.Heap.{Heap}
-use Rattle.jvm_values.specs.declared.shape.Shape.TheVariants.{Tree, Dag, Any}
-use Rattle.jvm_values.specs.States.{MachineState}
-use Rattle.jvm_values.specs.Terms.{HeapTerm, IsTerm, size_of}
+use Rattle.abs_cells.specs.lin_core.Rows.{IsOfKind}
+use Rattle.abs_cells.specs.jvm_values.declared.heap.Value.{Value}
+use Rattle.abs_cells.specs.jvm_values.declared.heap.Value.TheVariants as values
+use Rattle.abs_cells.specs.jvm_values.declared.heap.Heap.{Heap}
+use Rattle.abs_cells.specs.jvm_values.declared.shape.Shape.TheVariants.{Tree, Dag, Any}
+use Rattle.abs_cells.specs.jvm_values.States.{MachineState}
+use Rattle.abs_cells.specs.jvm_values.Terms.{HeapTerm, IsTerm, size_of}
 use Rattle.abs_cells.specs.declared.cells.Cell.{Cell}
 use Rattle.abs_cells.specs.declared.cells.Cell.TheVariants as cells
 use Rattle.abs_cells.specs.AbstractStates.{AbstractState}

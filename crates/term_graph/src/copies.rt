@@ -2,8 +2,8 @@
 ghost use Rattle.std.specs.Prelude.{◌≡◌, IfOk};
 
 use crate::nodes::{By, Node};
+use abs_cells::list_views::Seq;
 use abs_cells::{AbsState, Pairs, copied_cells, copied_frames};
-use list_views::Seq;
 use std::alloc::{AllocError, AllocFailed, Global};
 
 /// The same state once more, in as much time as the state is long.

@@ -6,7 +6,7 @@ use crate::copies::{copied_by, copied_node};
 use crate::nodes::{By, Node};
 use crate::sources::NodeSource;
 use abs_cells::Pairs;
-use list_views::Seq;
+use abs_cells::list_views::Seq;
 use std::alloc::{AllocError, Global};
 use std::marker::Model;
 

@@ -1,7 +1,7 @@
 //! What an edge to a child says beside its two states.
 use abs_cells::Id;
-use lin_core::RowKind;
-use list_views::Seq;
+use abs_cells::lin_core::RowKind;
+use abs_cells::list_views::Seq;
 
 /// The state at which a row reads an id's int.
 #[derive(Clone, Copy, PartialEq, Eq)]

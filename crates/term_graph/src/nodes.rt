@@ -2,8 +2,8 @@
 ghost use Rattle.std.specs.Prelude.{◌≡◌};
 
 use crate::links::Link;
+use abs_cells::list_views::Seq;
 use abs_cells::{AbsState, Id, Pairs};
-use list_views::Seq;
 use std::marker::Model;
 
 /// How a node is left. Nodes are named by their numbers, from 0.

@@ -32,9 +32,9 @@ use Rattle.abs_turns.specs.Plans.{Plan, ends, steps, by_null, by_class, by_equal
 use Rattle.abs_turns.specs.Needs.{Passing, passes, fails, splits, passes_if, passing, passing_id, is_unknown}
 use Rattle.abs_turns.specs.Needs.{split_unknown, split_below, known_partner}
 use Rattle.abs_turns.specs.Throwing.{takes, is_open, may_take, before_taker, handled, caught_plan, if_passes, throwing_plan}
-use Rattle.abs_plans.specs.Planning.{plan_in, plan_of}
-use Rattle.abs_expand.proofs.ZipLists.{beside}
-use Rattle.graph_check.specs.Good.{IsLeftBy, IsGoodNode}
+use Rattle.cert_check.specs.abs_plans.Planning.{plan_in, plan_of}
+use Rattle.cert_check.proofs.abs_expand.ZipLists.{beside}
+use Rattle.cert_check.specs.graph_check.Good.{IsLeftBy, IsGoodNode}
 use Rattle.throw_report.specs.Laws.{HasObject, EndNodesThrowObjects}
 
 -- ---- plans

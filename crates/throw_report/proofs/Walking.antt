@@ -34,11 +34,11 @@ use Rattle.term_graph.specs.declared.links.Link.{Link}
 use Rattle.term_graph.specs.declared.nodes.By.{By}
 use Rattle.term_graph.specs.declared.nodes.By.TheVariants as ways
 use Rattle.term_graph.specs.Graphs.{GraphNode, successors}
-use Rattle.abs_expand.specs.Laws.{IsAfter, IsMet}
-use Rattle.abs_expand.proofs.ZipLists.{beside}
-use Rattle.graph_check.specs.Good.{GraphOk, IsGoodNode}
-use Rattle.graph_check.specs.Laws.{GoesBy, GoesOn, GraphsHoldRuns}
-use Rattle.graph_check.proofs.Excluding.{good_by}
+use Rattle.cert_check.specs.abs_expand.Laws.{IsAfter, IsMet}
+use Rattle.cert_check.proofs.abs_expand.ZipLists.{beside}
+use Rattle.cert_check.specs.graph_check.Good.{GraphOk, IsGoodNode}
+use Rattle.cert_check.specs.graph_check.Laws.{GoesBy, GoesOn, GraphsHoldRuns}
+use Rattle.cert_check.proofs.graph_check.Excluding.{good_by}
 use Rattle.cert_check.specs.Walks.{Station, IsAt, GoesTo, WalksEnd}
 use Rattle.cert_check.proofs.Ending.{walks_end_at_root}
 use Rattle.throw_report.specs.declared.ways.Report.{Report}

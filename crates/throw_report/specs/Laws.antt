@@ -16,7 +16,7 @@ use Rattle.path_rules.specs.Walks.{Spot}
 use Rattle.term_graph.specs.declared.links.Link.{Link}
 use Rattle.term_graph.specs.declared.nodes.By.TheVariants.{End}
 use Rattle.term_graph.specs.Graphs.{GraphNode}
-use Rattle.graph_check.specs.Good.{GraphOk}
+use Rattle.cert_check.specs.graph_check.Good.{GraphOk}
 use Rattle.cert_check.specs.Certified.{IsCertified}
 use Rattle.cert_check.specs.Walks.{Station, IsAt, GoesTo}
 use Rattle.throw_report.specs.declared.ways.Report.{Report}

@@ -1,7 +1,7 @@
 //! What reports promise of runs. The laws are calls that do nothing when they run.
 ghost use Rattle.throw_report.specs.Laws.{CertifiedRunsEndAsReported, EndNodesThrowObjects, ReportsAreOne, WalksEndAsReported};
 
-use graph_check::graphs_hold_runs;
+use cert_check::graph_check::graphs_hold_runs;
 use input_root::{fitting_states_are_described, fitting_states_are_typed};
 use jvm_run::steps_are_typed;
 use path_rules::walks_meet_rules;

@@ -2,9 +2,9 @@
 ghost use Rattle.std.specs.Prelude.{◌≡◌, ◌↔◌, IsTrue};
 ghost use Rattle.abs_cells.specs.declared.cells.Cell.TheVariants.{Int, Null, Obj, Nums, Refs, Unk};
 
+use abs_cells::lin_core::Interval;
 use abs_cells::{Cell, Id, Ids};
 use jvm_values::{Kind, Shape, Ty};
-use lin_core::Interval;
 
 /// Whether a cell is that of an int of the interval.
 fn is_int(cell: &Cell, interval: Interval) -> bool

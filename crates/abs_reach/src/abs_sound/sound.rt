@@ -12,9 +12,9 @@ ghost use Rattle.abs_reach.specs.abs_sound.Zips.{all_zip};
 ghost use Rattle.abs_reach.specs.abs_sound.Tests.{is_of_slot};
 
 use crate::cell_of;
+use abs_cells::lin_core::Interval;
 use abs_cells::{AbsState, Cell, Id, Pairs, well_formed};
 use jvm_values::{Base, Slot, Ty, Types};
-use lin_core::Interval;
 
 /// Whether an id has a cell of an int.
 pub fn has_int(cells: &[(Id, Cell)], id: Id) -> bool

@@ -7,8 +7,8 @@ use Rattle.abs_ints.specs.Comparing.{related}
 use Rattle.abs_ints.specs.declared.cases.IntCase.{IntCase}
 use Rattle.abs_ints.specs.declared.cases.Way.TheVariants.{Taken}
 use Rattle.abs_ints.specs.declared.relations.Relation.TheVariants.{AtLeast}
-use Rattle.class_world.specs.BuiltIns.{array_index_out_of_bounds_exception, array_store_exception}
-use Rattle.term_graph.specs.declared.links.LinkRow.{LinkRow}
+use Rattle.abs_turns.specs.class_world.BuiltIns.{array_index_out_of_bounds_exception, array_store_exception}
+use Rattle.abs_turns.specs.term_graph.declared.links.LinkRow.{LinkRow}
 use Rattle.abs_rows.specs.declared.arrays.Access.{Access}
 use Rattle.abs_rows.specs.declared.arrays.Access.TheVariants.{Number, NumberStore, Item, ItemStore}
 use Rattle.abs_rows.specs.declared.arrays.Inside.{Inside}

@@ -2,7 +2,7 @@
 -- an object of the class runs by that method's name and descriptor.
 use Rattle.std.specs.Prelude.{◌≡◌, ℕ, List, slice_get, Option, Some}
 use Rattle.std.specs.Map.{lookup}
-use Rattle.class_read.specs.Content.{MethodContent}
+use Rattle.class_world.specs.class_read.Content.{MethodContent}
 use Rattle.class_world.specs.declared.world.MethodRef.{MethodRef}
 use Rattle.class_world.specs.World.{World}
 use Rattle.class_world.specs.Resolve.{method_at}

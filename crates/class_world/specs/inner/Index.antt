@@ -7,7 +7,7 @@ use Rattle.jvm_values.specs.declared.types.Slot.{Slot}
 use Rattle.class_read.specs.declared.view.FieldView.{FieldView}
 use Rattle.class_read.specs.declared.view.MethodView.{MethodView}
 use Rattle.class_read.specs.Content.{ClassContent, FieldContent, MethodContent}
-pub use Rattle.class_base.specs.Members.{Key, same_key}
+pub use Rattle.code_forms.specs.class_base.Members.{Key, same_key}
 use Rattle.class_world.specs.declared.index.MemberIndex.{MemberIndex}
 use Rattle.class_world.specs.World.{World}
 use Rattle.class_world.specs.Fields.{field_slot}

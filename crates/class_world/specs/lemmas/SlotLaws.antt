@@ -5,10 +5,10 @@ use Rattle.std.specs.Prelude.{option_and_then, slice_get, All}
 use Rattle.std.specs.List.{filter_map, flat_map, cons_option, AllByRecursion}
 use Rattle.std.specs.Option.{option_map_or}
 use Rattle.std.proofs.lemmas.Bool.{ltb-false, ne_eqb}
-use Rattle.class_base.specs.declared.types.Element.{Element}
-use Rattle.class_base.specs.declared.types.Element.TheVariants.{Primitive, Object}
-use Rattle.class_base.specs.declared.types.FieldType.{FieldType}
-use Rattle.class_base.specs.Types.{type_at, element_at, array_depth}
+use Rattle.code_forms.specs.class_base.declared.types.Element.{Element}
+use Rattle.code_forms.specs.class_base.declared.types.Element.TheVariants.{Primitive, Object}
+use Rattle.code_forms.specs.class_base.declared.types.FieldType.{FieldType}
+use Rattle.code_forms.specs.class_base.Types.{type_at, element_at, array_depth}
 use Rattle.class_read.specs.Content.{ClassContent, FieldContent}
 use Rattle.jvm_values.specs.declared.types.Kind.{Kind}
 use Rattle.jvm_values.specs.declared.types.Slot.{Slot}

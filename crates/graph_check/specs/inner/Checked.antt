@@ -9,8 +9,8 @@ use Rattle.frame_types.specs.Tables.{CodeTypes}
 use Rattle.term_graph.specs.declared.links.Link.{Link}
 use Rattle.term_graph.specs.declared.nodes.By.{By}
 use Rattle.term_graph.specs.Graphs.{GraphNode, GraphChild}
-use Rattle.abs_expand.specs.declared.fault.ExpandFault.{ExpandFault}
-use Rattle.abs_expand.specs.declared.fault.ExpandFault.TheVariants as expansion
+use Rattle.one_expansion.specs.abs_expand.declared.fault.ExpandFault.{ExpandFault}
+use Rattle.one_expansion.specs.abs_expand.declared.fault.ExpandFault.TheVariants as expansion
 use Rattle.graph_check.specs.declared.fault.What.TheVariants as whats
 use Rattle.graph_check.specs.declared.fault.CheckFault.{CheckFault}
 use Rattle.graph_check.specs.declared.fault.CheckFault.TheVariants as faults

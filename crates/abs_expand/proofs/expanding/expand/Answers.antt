@@ -1,7 +1,7 @@
 use Rattle.std.proofs.Common.{◌∙◌, map, sym, ap, subst}
 use Rattle.class_program.specs.Views.{program_of}
 use Rattle.class_world.specs.WorldTypes.{types_of}
-use Rattle.code_verify.specs.Typings.{typing_at}
+use Rattle.abs_turns.specs.code_verify.Typings.{typing_at}
 use Rattle.abs_turns.specs.Plans.{steps, by_null, by_class, by_equal}
 use Rattle.abs_turns.specs.PlansSeen.{turn_seen, plan_seen}
 use Rattle.abs_turns.specs.GoodPlans.{IsGoodPlan}

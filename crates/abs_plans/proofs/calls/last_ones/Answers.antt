@@ -1,4 +1,4 @@
-use Rattle.jvm_step.proofs.Stacks.{last_of}
+use Rattle.abs_turns.proofs.jvm_step.Stacks.{last_of}
 use Rattle.abs_plans.proofs.calls.last_ones.Goals as goal
 
 pub returns : goal.returns

@@ -1,6 +1,6 @@
 use Rattle.class_world.specs.WorldTypes.{types_of}
 use Rattle.class_program.specs.Views.{program_of}
-use Rattle.code_verify.specs.Typings.{typing_at}
+use Rattle.abs_turns.specs.code_verify.Typings.{typing_at}
 use Rattle.abs_plans.proofs.GoodPlans.{plan_is_good}
 use Rattle.abs_plans.proofs.MadePlans.{good_is}
 use Rattle.abs_plans.proofs.planning.plan.Goals as goal

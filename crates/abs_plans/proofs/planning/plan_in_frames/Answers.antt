@@ -1,6 +1,6 @@
 use Rattle.std.proofs.Common.{◌∙◌, ◌-◌, length, reverse, take, refl, sym}
 use Rattle.class_program.specs.Views.{program_of}
-use Rattle.code_verify.specs.Typings.{typing_at}
+use Rattle.abs_turns.specs.code_verify.Typings.{typing_at}
 use Rattle.abs_plans.proofs.MadePlans.{made_is}
 use Rattle.abs_plans.proofs.PlannedStates.{none_turned, first_turned, no_frames, at_frame}
 use Rattle.abs_plans.proofs.planning.plan_in_frames.Goals as goal

@@ -1,7 +1,7 @@
 use Rattle.std.proofs.Common.{◌∙◌, Some, None, reverse}
 use Rattle.class_program.specs.Programs.{insn_at}
 use Rattle.class_program.specs.Views.{program_of}
-use Rattle.code_verify.specs.Typings.{typing_at}
+use Rattle.abs_turns.specs.code_verify.Typings.{typing_at}
 use Rattle.abs_plans.proofs.MadePlans.{made_is}
 use Rattle.abs_plans.proofs.PlannedStates.{asked_at, in_normal, in_no_place}
 use Rattle.abs_plans.proofs.planning.plan_normal.Goals as goal

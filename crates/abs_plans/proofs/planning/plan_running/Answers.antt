@@ -1,6 +1,6 @@
 use Rattle.std.proofs.Common.{◌∙◌, ◌∷◌, Some, None, reverse, sym}
 use Rattle.class_program.specs.Views.{program_of}
-use Rattle.code_verify.specs.Typings.{typing_at}
+use Rattle.abs_turns.specs.code_verify.Typings.{typing_at}
 use Rattle.abs_plans.proofs.MadePlans.{made_is}
 use Rattle.abs_plans.proofs.PlannedStates.{in_mode}
 use Rattle.abs_plans.proofs.planning.plan_running.Goals as goal

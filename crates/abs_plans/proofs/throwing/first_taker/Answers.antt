@@ -1,5 +1,5 @@
 use Rattle.std.proofs.Common.{drop, sym, ◌≡◌, ◌∙◌, ◌-◌, ◌+◌, length, refl, arith}
-use Rattle.code_verify.specs.Flows.{covers}
+use Rattle.abs_turns.specs.code_verify.Flows.{covers}
 use Rattle.abs_turns.specs.Table.{types_here}
 use Rattle.abs_turns.specs.Stops.{taker_of, may_of}
 use Rattle.abs_plans.proofs.RangesTaken.{one_more, none_left, all_left}

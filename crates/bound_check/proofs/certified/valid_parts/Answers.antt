@@ -5,7 +5,7 @@ use Rattle.descent.specs.declared.rules.PathRule.{PathRule}
 use Rattle.descent.specs.Conditions.{AreRules}
 use Rattle.descent.specs.Steps.{proof_fault, Refuses as ProofRefuses}
 use Rattle.term_graph.specs.Graphs.{GraphNode}
-use Rattle.graph_check.specs.Good.{GraphOk}
+use Rattle.cert_check.specs.graph_check.Good.{GraphOk}
 use Rattle.cert_check.specs.Valid.{Tells}
 use Rattle.cert_check.specs.Parts.{case_of, RulesOr}
 use Rattle.cert_check.proofs.Telling.{proof_refused}

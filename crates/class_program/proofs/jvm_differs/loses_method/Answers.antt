@@ -1,6 +1,6 @@
 use Rattle.std.proofs.Common.{◌&&◌, ap, sym, ◌∙◌}
 use Rattle.list_views.proofs.Truths.{and_false}
-use Rattle.class_read.specs.View.{method_content}
+use Rattle.class_world.specs.class_read.View.{method_content}
 use Rattle.class_world.specs.Worlds.{classes_of}
 use Rattle.class_world.specs.Select.{is_selectable, receivers}
 use Rattle.class_program.specs.JvmDiffers.{loses_method}

@@ -1,5 +1,5 @@
 use Rattle.class_world.specs.Worlds.{classes_of}
-use Rattle.class_read.specs.View.{code_content}
+use Rattle.class_world.specs.class_read.View.{code_content}
 use Rattle.class_program.proofs.Rising.{ops_placed}
 use Rattle.class_program.proofs.method.coded.Goals as goal
 

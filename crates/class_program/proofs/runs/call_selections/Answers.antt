@@ -1,5 +1,5 @@
 use Rattle.std.proofs.Common.{sym}
-use Rattle.class_read.specs.View.{method_content}
+use Rattle.class_world.specs.class_read.View.{method_content}
 use Rattle.class_world.specs.Worlds.{classes_of}
 use Rattle.class_program.proofs.Rows.{row_found}
 use Rattle.class_program.proofs.runs.call_selections.Goals as goal

@@ -1,5 +1,5 @@
 use Rattle.std.proofs.Common.{◌≡◌, length}
-use Rattle.class_read.specs.View.{method_content}
+use Rattle.class_world.specs.class_read.View.{method_content}
 use Rattle.class_world.specs.Worlds.{classes_of}
 use Rattle.class_program.specs.inner.Rows.{IsRow}
 use Rattle.class_program.proofs.selections.row_of.Given as goal

@@ -1,7 +1,7 @@
 use Rattle.std.proofs.Common.{ap, sym, ◌∙◌, length, arith}
 use Rattle.std.proofs.lemmas.List.{length-map}
-use Rattle.class_read.specs.Content.{ClassContent}
-use Rattle.class_read.specs.View.{field_content}
+use Rattle.class_world.specs.class_read.Content.{ClassContent}
+use Rattle.class_world.specs.class_read.View.{field_content}
 use Rattle.class_world.specs.Worlds.{classes_of}
 use Rattle.class_program.proofs.FewFields.{few_there, count_past}
 use Rattle.class_program.proofs.statics.field_count.Goals as goal

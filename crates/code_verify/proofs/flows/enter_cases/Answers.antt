@@ -1,7 +1,7 @@
 use Rattle.std.proofs.Common.{◌≡◌, length, arith, refl, map, List}
 use Rattle.frame_types.proofs.GrowthLaws.{grown_none}
 use Rattle.jvm_values.specs.States.{types_of as seen}
-use Rattle.code_forms.specs.declared.insn.Case.{Case}
+use Rattle.class_program.specs.code_forms.declared.insn.Case.{Case}
 use Rattle.code_verify.specs.Flows.{onward}
 use Rattle.code_verify.proofs.WorldOf.{laws_at}
 use Rattle.code_verify.proofs.FlowLaws.{cases_add, came, did_not_come, next_comes, next_refuses, all_came}

@@ -1,6 +1,6 @@
 use Rattle.std.proofs.Common.{refl, ap, map}
 use Rattle.std.specs.Option.{option_to_list}
-use Rattle.code_forms.specs.declared.insn.Case.{Case}
+use Rattle.class_program.specs.code_forms.declared.insn.Case.{Case}
 use Rattle.code_verify.proofs.WorldOf.{laws_at}
 use Rattle.code_verify.proofs.FlowLaws.{onward_two, came, did_not_come, first_refuses, both_answer}
 use Rattle.code_verify.proofs.flows.enter_keys.Goals as goal

@@ -2,7 +2,7 @@ use Rattle.std.proofs.Common.{ℕ, List, Option, Ok, subst}
 use Rattle.class_program.specs.Views.{program_of}
 use Rattle.code_verify.specs.Typings.{typing_at}
 use Rattle.term_graph.specs.Graphs.{GraphChild}
-use Rattle.abs_expand.specs.Answers.{Answers}
+use Rattle.one_expansion.specs.abs_expand.Answers.{Answers}
 use Rattle.graph_check.specs.inner.Checked.{LinksOr}
 use Rattle.graph_check.proofs.Answering.{expanded_or}
 use Rattle.graph_check.proofs.leaving.expanded.Goals as goal

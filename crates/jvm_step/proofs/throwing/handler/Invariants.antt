@@ -1,6 +1,6 @@
 use Rattle.std.proofs.Common.{◌≡◌, drop}
 use Rattle.std.specs.List.{find}
-use Rattle.class_world.specs.Worlds.{classes_of}
+use Rattle.class_program.specs.class_world.Worlds.{classes_of}
 use Rattle.jvm_step.specs.Running.{takes}
 use Rattle.jvm_step.proofs.throwing.handler.Given as goal
 

@@ -3,7 +3,7 @@ use Rattle.std.specs.Option.{MatchOption}
 use Rattle.std.proofs.Common.{subst, ap, ◌∙◌}
 use Rattle.abs_cells.specs.Cells.{cell_in}
 use Rattle.abs_cells.specs.Sound.{IsSound}
-use Rattle.class_world.specs.WorldTypes.{types_of}
+use Rattle.jvm_step.specs.class_world.WorldTypes.{types_of}
 use Rattle.abs_turns.specs.Turns.{Here}
 use Rattle.abs_turns.proofs.SoundCells.{found_sound}
 use Rattle.abs_turns.proofs.spot.Spot.cell.Goals as goal

@@ -1,4 +1,4 @@
-use Rattle.class_read.specs.View.{method_content}
+use Rattle.class_world.specs.class_read.View.{method_content}
 use Rattle.class_world.specs.Worlds.{classes_of}
 use Rattle.class_program.proofs.Rows.{row_found}
 use Rattle.class_program.proofs.program.Program.selected_by.Goals as goal

@@ -1,4 +1,4 @@
-use Rattle.class_read.specs.View.{method_content}
+use Rattle.class_world.specs.class_read.View.{method_content}
 use Rattle.class_world.specs.Worlds.{classes_of}
 use Rattle.class_program.proofs.Rows.{rows_more}
 use Rattle.class_program.proofs.selections.Selections.add.Goals as goal

@@ -2,7 +2,7 @@ use Rattle.std.proofs.Common.{List, [], sym, subst}
 use Rattle.class_program.specs.Views.{program_of}
 use Rattle.code_verify.specs.Typings.{typing_at}
 use Rattle.term_graph.specs.Graphs.{GraphNode}
-use Rattle.graph_check.specs.Good.{GraphOk}
+use Rattle.cert_check.specs.graph_check.Good.{GraphOk}
 use Rattle.state_tables.proofs.certs.paths.rules_from_root.Goals as goal
 
 pub rules_between-requires-clause-graph : goal.rules_between-requires-clause-graph
