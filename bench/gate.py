@@ -2,60 +2,29 @@
 its tests, where it has some) and for its must-fail edits.
 
 usage: python3 bench/gate.py [CRATE..]
-       python3 bench/gate.py --page TIMES [OLDER]
+       python3 bench/gate.py --page TIMES LOG
        python3 bench/gate.py --ways
 
 Works in a fresh copy of this checkout's crates/, crates.txt and HANDLES below a new folder, which it removes at its end.
 Without names it takes every crate of crates.txt, lowest first. Libraries below a crate are built before its clock starts.
 Some hours of one core for all crates; other jobs on the machine hardly change processor time.
 
-With --page it runs nothing: TIMES has lines of a crate, 'proof', 'tests', 'builds' or 'edits', and processor seconds, divided by
-tabs, and what may stand behind them, as gate_watch.py notes them while a gate runs. It writes the table of gate.md, in Markdown, a row a crate, the tests, tables and readers of
-cases shared by the crates that they test, in proportion to their lines (TESTS_OF). Among the tests are the builds of their programs, each shared by all crates below the program, in
-proportion to their lines, since it compiles them all. A time that OLDER alone has, from an earlier run, has a star; one that neither has is a dash. Below it stand the layers of docs/MAP.md with their sums.
+With --page it runs nothing, and writes what a run of the gate took into bench/gate.md, between its two marks, and what the first use of
+each program takes into bench/first_use.txt, which ./jterm says. TIMES is what gate_watch.py noted beside that run, and LOG what stamp.py
+wrote of it. Crates and layers are those of crates.txt, and lines those of this checkout, so it has to be as the gate saw it. A time that
+TIMES lacks is a dash.
 
-With --ways it says in how many ways crates.txt leads down from each crate, and from all together: rt goes through each of them before it proves anything.
+With --ways it says in how many ways crates.txt leads down from each crate, and from all together: rt goes through each of them before it
+proves anything.
 """
-import collections, pathlib, resource, shutil, subprocess, sys, tempfile
+import collections, datetime, pathlib, re, resource, shutil, subprocess, sys, tempfile, textwrap
 
 from common import TOP, crate_rows, crates_below
 
 BUDGET = 240  # processor seconds for 1,000 lines
-# Crates of tests, tables, readers of cases and thin programs, and the crates whose budgets they share, each in proportion to its lines.
-TESTS_OF = {
-    'table_cases': 'code_decode class_asm class_program code_verify descent abs_expand cert_form run_call',
-    'json_cases': 'descent abs_expand cert_form',
-    'class_tables': 'abs_ints json_view jvm_heaps code_forms code_decode class_read asm_lines asm_codes asm_pool class_asm '
-                    'class_program code_verify input_text input_desc jvm_step',
-    'entry_cases': 'class_world class_program',
-    'low_calls': 'class_pool code_forms code_decode jvm_values jvm_heaps abs_cells lin_core list_views',
-    'state_cases': 'abs_reach term_enc abs_heap abs_match abs_widen abs_turns abs_rows abs_plans abs_expand',
-    'state_tables': 'abs_reach term_enc abs_heap abs_match abs_widen abs_turns abs_rows abs_plans abs_expand '
-                    'descent rule_links rank_forms rank_search its_front its_search its_call cert_form cert_write cert_check path_rules',
-    'rule_cases': 'descent rule_links rank_forms rank_search',
-    'line_cases': 'input_steps run_call prove_call check_call',
-    'command_tables': 'input_steps run_call desc_steps prove_core prove_call cert_check check_call',
-    'tools_cli': 'describe check_call',
-    'jterm_cli': 'jterm',
-    'jterm_calls': 'jterm',
-}
-# The layers of docs/MAP.md.
-LAYER = {
-    crate: layer for layer, crates_of in {
-        'base': 'list_views io_ports json_view input_text text_lines number_graphs lin_core',
-        'class files': 'class_base class_pool code_forms code_decode class_read class_world class_program input_desc call_graph op_forms '
-                       'asm_lines asm_codes asm_pool class_asm generate_text generate_laws',
-        'machine': 'jvm_values jvm_heaps frame_types jvm_step code_verify jvm_run',
-        'abstract states': 'abs_cells abs_reach abs_sound abs_equal abs_heap abs_match abs_widen term_graph abs_ints term_enc '
-                           'abs_turns abs_rows abs_plans abs_expand',
-        'certificates': 'input_root descent form_steps object_steps step_laws its_front its_search its_call steady_plans one_expansion graph_check graph_fill plan_links cert_check '
-                        'cert_form cert_write path_rules graph_build rule_links rank_forms rank_search chain_proofs prove_core',
-        'program': 'input_steps asm_call run_call describe desc_steps prove_call check_call jterm',
-    }.items() for crate in crates_of.split()
-}
-# What the thirteen crates of the first measurement have become, each with its share of the tests.
-THIRTEEN = ('list_views io_ports class_base json_view lin_core jvm_values class_pool code_forms code_decode class_read asm_lines asm_codes '
-            'asm_pool class_asm class_world class_program jterm').split()
+PAGE, FIRST_USE = TOP / 'bench/gate.md', TOP / 'bench/first_use.txt'
+# Between these lines of gate.md stands what --page writes.
+MARKS = '<!-- begin: written by gate.py --page -->\n', '<!-- end: written by gate.py --page -->\n'
 
 
 def seconds(command, folder):
@@ -87,120 +56,187 @@ def measure(copy, name, below):
     return lines(folder), proof, tests, refused, len(edits)
 
 
+def layers():
+    """The layer of each crate, by the lines of crates.txt that begin one: '# Base: lists, texts'."""
+    layer, found = '', {}
+    for line in (TOP / 'crates.txt').read_text().splitlines():
+        begins = re.match(r'# ([A-Z][a-z ]*):', line)
+        if begins:
+            layer = begins[1]
+        elif ':' in line.split('#')[0]:
+            found[line.split(':')[0].strip()] = layer
+    return found
+
+
 def noted(file):
-    """The processor seconds of each crate's proof, tests and edits that a file notes."""
+    """The processor seconds of each crate's proof (of a program with its builds), tests and edits that gate_watch.py noted."""
     times = collections.defaultdict(dict)
     for line in pathlib.Path(file).read_text().splitlines():
-        if line.strip():
-            name, kind, spent, *_ = line.split('\t')
-            times[name][kind] = times[name].get(kind, 0) + float(spent)
+        name, kind, spent, *_ = line.split('\t')
+        kind = 'proof' if kind == 'builds' else kind
+        times[name][kind] = times[name].get(kind, 0) + float(spent)
     return times
 
 
+class Log:
+    """A log that stamp.py wrote: what it notes of the run by its words, and the lines, each with its second."""
+
+    def __init__(self, file):
+        self.notes, self.lines = {}, []
+        for line in pathlib.Path(file).read_text(errors='replace').splitlines():
+            word, _, text = line.partition(' ')
+            if word == '#':
+                self.notes.update([text.split(': ', 1)])
+            elif re.fullmatch(r'[0-9.]+', word):
+                self.lines.append((float(word), text))
+        if 'status' not in self.notes:
+            sys.exit('gate.py: the run that %s tells of has not ended' % file)
+
+    def proved(self, name):
+        """The second at which a crate's proof, and its program, were done, or None."""
+        return next((second for second, text in self.lines if text == 'rt: %s proved' % name), None)
+
+    def is_from_nothing(self):
+        return not any(re.match(r'rt: \w+ is kept:', text) or 'by an earlier run on this machine' in text for _, text in self.lines)
+
+    def last(self, begin):
+        """The last line that so begins, or nothing."""
+        return next((text for _, text in reversed(self.lines) if re.match(begin, text)), '')
+
+    def date(self):
+        day = datetime.date.fromisoformat(self.notes['date'].split()[0])
+        return '%d %s' % (day.day, day.strftime('%B %Y'))
+
+    def minutes(self, word):
+        return number(float(self.notes[word]) / 60)
+
+
+def number(value):
+    return '-' if value is None else format(round(value), ',')
+
+
+def wrapped(*sentences):
+    """A paragraph of these sentences."""
+    return textwrap.fill(' '.join(sentences), 138, break_long_words=False, break_on_hyphens=False) + '\n\n'
+
+
+def row(title, size, parts, texts=None):
+    """A row of a table: lines, the seconds of its parts (or texts in their place), their sum and the budget."""
+    cells = [number(size), *(texts or map(number, parts)), number(sum(part or 0 for part in parts)), number(size * BUDGET / 1000)]
+    return '| %s | %s |\n' % (title, ' | '.join(cells))
+
+
 class Page:
-    """The tables of gate.md, from the times of a run and of an older one."""
+    """What --page writes of a run."""
 
-    def __init__(self, times, older):
-        self.times, self.older = times, older
-        self.over, self.missing = [], []
+    def __init__(self, times, log):
+        self.times, self.log, self.rows, self.layers = times, log, crate_rows(), layers()
+        self.size = {name: lines(TOP / 'crates' / name) for name in self.rows}
+        self.edits = {name: len(list((TOP / 'crates' / name / 'must-fail').glob('*.edit'))) for name in self.rows}
 
-    def time(self, name, kind):
-        """What a crate took, and whether the older run says so alone; None where neither says."""
-        for times, is_old in ((self.times, False), (self.older, True)):
-            if kind in times[name]:
-                return times[name][kind], is_old
-        return None
+    def parts(self, name):
+        return [self.times[name].get(kind) for kind in ('proof', 'tests', 'edits')]
 
-    def tests(self, name):
-        """What tests of a crate take of its budget: their lines and their seconds, by its share; whether a time is old; those that lack one."""
-        size, spent, is_old, lacking = 0, 0, False, []
-        for test, crates_of in TESTS_OF.items():
-            if name in crates_of.split():
-                share = self.size[name] / sum(self.size[one] for one in crates_of.split())
-                size += share * self.size[test]
-                if not self.time(test, 'proof') and not self.time(test, 'tests'):
-                    lacking.append(test)
-                for kind in ('proof', 'tests', 'edits'):
-                    known = self.time(test, kind)
-                    if known:
-                        spent, is_old = spent + share * known[0], is_old or known[1]
-            known = self.time(test, 'builds')
-            if known and name in self.below[test]:
-                share = self.size[name] / sum(self.size[one] for one in self.below[test])
-                spent, is_old = spent + share * known[0], is_old or known[1]
-        return size, spent, is_old, lacking
+    def first_uses(self):
+        """Of each program: its crates, the processor seconds of their proofs and builds, and the second at which the gate had it."""
+        for name in self.rows:
+            if name.endswith('_cli'):
+                below = crates_below(self.rows, [name])
+                # (a first use proves what tests these crates have, and tries no edits)
+                yield name, below, sum(part or 0 for one in below for part in self.parts(one)[:2]), self.log.proved(name)
 
-    def row(self, name):
-        """Prints the row of a crate with its share of the tests; its numbers: lines, seconds for proof, tests and edits, all, budget."""
-        size, tested, tests_old, lacking = self.tests(name)
-        for known in (self.time(name, kind) for kind in ('tests', 'builds')):
-            if known:
-                tested, tests_old = tested + known[0], tests_old or known[1]
-        size += self.size[name]
-        count = len(list((TOP / 'crates' / name / 'must-fail').glob('*.edit')))
-        spent, texts = [], []
-        for kind in ('proof', 'edits'):
-            known = self.time(name, kind) or (None, False)
-            spent.append(known[0] or 0)
-            texts.append('-' if known[0] is None else format(round(known[0]), ',') + '*' * known[1])
-            if known[0] is None and (kind == 'proof' or count):
-                lacking.append(name + ("'s edits" if kind == 'edits' else ''))
-        self.missing += [one for one in lacking if one not in self.missing]
-        texts.insert(1, format(round(tested), ',') + '*' * tests_old if tested else '-')
-        texts[2] += ' (%d)' % count if count else ''
-        budget, sum_of = size * BUDGET / 1000, spent[0] + tested + spent[1]
-        if sum_of > budget:
-            self.over.append(name)
-        print('| `%s` | %s | %s | %s | %s |' % (name, format(round(size), ','), ' | '.join(texts), format(round(sum_of), ','), format(round(budget), ',')))
-        return size, spent[0], tested, spent[1], sum_of, budget
+    def longest(self):
+        """The processor seconds of the proofs of a chain of crates, each above the one before, where they are most, and the chain."""
+        best = {}
+        for name, below in self.rows.items():
+            before = max((best[low] for low in below if low in best), key=lambda of: of[0], default=(0, []))
+            best[name] = before[0] + (self.times[name].get('proof') or 0), [*before[1], name]
+        return max(best.values(), key=lambda of: of[0])
 
-    def write(self, rows):
-        self.size = {name: lines(TOP / 'crates' / name) for name in rows}
-        self.below = {test: [name for name in crates_below(rows, rows[test]) if name not in TESTS_OF] for test in TESTS_OF}
-        head = '| %s | Lines | Proof | Tests | Edits | All | Budget |\n|---|---|---|---|---|---|---|'
-        print(head % 'Crate, with its share of the tests')
-        taken = {name: self.row(name) for name in rows if name not in TESTS_OF}
-        print('\n' + head % 'Layer')
-        sums = {}
-        for name, numbers in taken.items():
-            sums.setdefault(LAYER[name], []).append(numbers)
-        sums['all'] = list(taken.values())
-        sums['what the thirteen crates have become'] = [taken[name] for name in THIRTEEN]
-        for layer, of in sums.items():
-            print('| %s | %s |' % (layer, ' | '.join(format(round(sum(column)), ',') for column in zip(*of))))
-        for title, names in (('Over their budget', self.over), ('Not timed', self.missing)):
-            print('\n%s: %s.' % (title, ', '.join('`%s`' % n for n in names) or 'none'))
+    def run(self):
+        """What the run was, in words."""
+        notes, log = self.log.notes, self.log
+        nothing = 'from nothing' if log.is_from_nothing() else 'over what earlier runs had kept'
+        yield wrapped(
+            '%s, commit %s, `rt version` says %s, %s cores,' % (log.date(), notes['commit'], notes['kit'], notes['cores']),
+            '`%s` %s:' % (notes['command'], nothing),
+            '**%s minutes by the clock, %s processor minutes**.' % (log.minutes('wall'), log.minutes('processor')),
+            'All other processes of the machine took %s processor minutes meanwhile. Its last lines:' % log.minutes('others'))
+        said = [log.last('rt: (ok|FAILED)'), log.last(r'\d+ passed, \d+ failed')]
+        yield ''.join('    %s\n' % line for line in said if line) + '\n'
+        proofs = sum(parts[0] or 0 for parts in map(self.parts, self.rows))
+        spent, chain = self.longest()
+        sums = len(self.rows), number(sum(self.size.values())), number(sum(ways(self.rows).values()))
+        yield wrapped(
+            '`crates.txt` has %d crates of %s lines, and leads down from them in %s ways (`--ways`).' % sums,
+            'All proofs and builds of programs took %s processor minutes.' % number(proofs / 60),
+            'The longest chain of them, one after the other, took %s:' % number(spent / 60),
+            ', '.join('`%s`' % name for name in chain) + '.')
+
+    def tables(self):
+        yield '| Program | Crates | Processor minutes of their proofs and builds | Minutes after which the gate had it |\n'
+        yield '|---|---|---|---|\n'
+        for name, below, spent, second in self.first_uses():
+            yield '| `%s` | %d | %s | %s |\n' % (name, len(below), number(spent / 60), number(second and second / 60))
+        head = '\n| %s | Lines | Proof | Tests | Edits | All | Budget |\n|---|---|---|---|---|---|---|\n'
+        yield head % 'Layer'
+        sums, over = {}, []
+        for name in self.rows:
+            sums.setdefault(self.layers[name], []).append(name)
+        for layer, names in [*sums.items(), ('all', self.rows)]:
+            parts = [sum(part or 0 for part in column) for column in zip(*map(self.parts, names))]
+            yield row(layer, sum(self.size[name] for name in names), parts)
+        yield head % 'Crate'
+        for name in self.rows:
+            parts, count = self.parts(name), self.edits[name]
+            texts = [number(part) for part in parts]
+            texts[2] += ' (%d)' % count if count else ''
+            over += [name] if sum(part or 0 for part in parts) > self.size[name] * BUDGET / 1000 else []
+            yield row('`%s`' % name, self.size[name], parts, texts)
+        missing = [name for name in self.rows if self.parts(name)[0] is None or self.edits[name] and self.parts(name)[2] is None]
+        for title, names in (('Over their budget', over), ('Not all timed', missing)):
+            yield '\n' + wrapped('%s: %s.' % (title, ', '.join('`%s`' % name for name in names) or 'none'))[:-1]
+
+    def write(self):
+        before, begin, rest = PAGE.read_text().partition(MARKS[0])
+        _, end, after = rest.partition(MARKS[1])
+        if not begin or not end:
+            sys.exit('gate.py: bench/gate.md lacks the lines %s' % ' and '.join(map(repr, MARKS)))
+        PAGE.write_text(before + begin + ''.join([*self.run(), *self.tables()]) + end + after)
+        known = [(name, spent, second) for name, _, spent, second in self.first_uses() if second is not None]
+        if not self.log.is_from_nothing() or not known:
+            sys.exit('gate.py: the run was not from nothing, or proved no program: bench/first_use.txt stays as it was')
+        comments = [line for line in FIRST_USE.read_text().splitlines(True) if line.startswith('#')]
+        for name, spent, second in known:
+            comments.append('%s %d %d %s %s\n' % (name, round(spent / 60), round(second / 60), self.log.notes['cores'], self.log.date()))
+        FIRST_USE.write_text(''.join(comments))
 
 
-def be_complete(rows):
-    """Ends where TESTS_OF and LAYER don't name exactly the crates of crates.txt, each once."""
-    lacking = [name for name in rows if name not in TESTS_OF and name not in LAYER]
-    tested = [name for crates_of in TESTS_OF.values() for name in crates_of.split()]
-    gone = [name for name in [*TESTS_OF, *tested, *LAYER, *THIRTEEN] if name not in rows]
-    twice = [name for name in TESTS_OF if name in LAYER or name in tested]
-    if lacking or gone or twice:
-        sys.exit('gate.py: in neither table: %s; no more in crates.txt: %s; a test and tested: %s' % tuple(' '.join(them) or 'none' for them in (lacking, gone, twice)))
+def ways(rows):
+    """The ways that lead down from each crate, itself as one."""
+    found = {}
+    for name, below in rows.items():
+        found[name] = 1 + sum(found[low] for low in below if low in rows)
+    return found
 
 
 def print_ways(rows):
-    """The ways that lead down from each crate, itself as one, the most first, and their sum."""
-    ways = {}
-    for name, below in rows.items():
-        ways[name] = 1 + sum(ways[low] for low in below if low in rows)
-    for name in sorted(ways, key=ways.get, reverse=True):
-        print('%-16s %12s' % (name, format(ways[name], ',')))
-    print('%-16s %12s' % ('all', format(sum(ways.values()), ',')))
+    """The ways that lead down from each crate, the most first, and their sum."""
+    found = ways(rows)
+    for name in sorted(found, key=found.get, reverse=True):
+        print('%-16s %12s' % (name, format(found[name], ',')))
+    print('%-16s %12s' % ('all', format(sum(found.values()), ',')))
 
 
 def main():
     if sys.argv[1:] == ['--ways']:
         print_ways(crate_rows())
         return
-    if sys.argv[1:2] == ['--page']:
-        be_complete(crate_rows())
-        times = [noted(file) for file in sys.argv[2:4]]
-        Page(times[0], times[1] if len(times) > 1 else collections.defaultdict(dict)).write(crate_rows())
+    if sys.argv[1:2] == ['--page'] and len(sys.argv) == 4:
+        Page(noted(sys.argv[2]), Log(sys.argv[3])).write()
         return
+    if sys.argv[1:2] == ['--page']:
+        sys.exit(__doc__.split('\n\n')[1])
     rows = crate_rows()
     names = sys.argv[1:] or list(rows)
     print('%-16s %7s %7s %7s %7s %6s %7s %7s' % ('crate', 'lines', 'proof', 'tests', 'edits', '', 'all', 'budget'))
