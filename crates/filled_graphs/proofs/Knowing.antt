@@ -15,8 +15,8 @@ use Rattle.filled_graphs.specs.declared.origins.Origin.{Origin}
 use Rattle.filled_graphs.specs.declared.origins.Origin.TheVariants.{Given, Lacking, Named}
 use Rattle.filled_graphs.specs.Filling.{ChildRules, HasStateOf, IsNodeOf, AreFirstFilled, IsFilled, Filling, ways_of}
 use Rattle.filled_graphs.specs.Origins.{IsOriginOf, HaveOrigins}
-use Rattle.filled_graphs.proofs.Lists.{in_more}
-use Rattle.filled_graphs.proofs.Once.{state_once, filling_prop}
+use Rattle.filled_graphs.specs.lemmas.Lists.{in_more}
+use Rattle.filled_graphs.specs.lemmas.Once.{state_once, filling_prop}
 use Rattle.filled_graphs.specs.filled_nodes.Children.{HasThemOrNone}
 use Rattle.filled_graphs.specs.filled_nodes.inner.ChildStates.{AreChildren, AreChildrenOf}
 use Rattle.filled_graphs.specs.filled_nodes.inner.Slots.{IsFull, AreEmpty, IsNamedBy}

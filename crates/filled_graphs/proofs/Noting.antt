@@ -16,7 +16,7 @@ use Rattle.filled_graphs.specs.declared.origins.Origin.TheVariants.{Given, Lacki
 use Rattle.filled_graphs.specs.Filling.{Names, IsFirstNamed, CanBeFilled, ways_of}
 use Rattle.filled_graphs.specs.Origins.{IsOriginOf, HaveOrigins}
 use Rattle.filled_graphs.specs.inner.Noting.{unnamed, is_lacking, noted, ComesBefore, IsNoted, AreNoted}
-use Rattle.filled_graphs.proofs.Lists.{image_at, set_other, mapped_of}
+use Rattle.filled_graphs.specs.lemmas.Lists.{image_at, set_other, mapped_of}
 
 -- ---- by place
 

@@ -17,7 +17,7 @@ use Rattle.filled_graphs.specs.declared.origins.Origin.TheVariants.{Named}
 use Rattle.filled_graphs.specs.Filling.{ChildRules, HasStateOf, AreFirstFilled, Takes, ways_of}
 use Rattle.filled_graphs.specs.Origins.{HaveOrigins}
 use Rattle.filled_graphs.proofs.Noting.{named_here, IsOther, not_expanded}
-use Rattle.filled_graphs.proofs.Lists.{image_at}
+use Rattle.filled_graphs.specs.lemmas.Lists.{image_at}
 use Rattle.filled_graphs.specs.filled_nodes.inner.ChildStates.{AreChildren, AreChildrenOf, IsChildsState, IsChildOrFirst}
 use Rattle.filled_graphs.specs.filled_nodes.inner.Slots.{IsFull, IsNamedBy, Leads, IsFullOrNamed, MayDrop}
 use Rattle.filled_graphs.specs.filled_nodes.Holding.{AreKept}

@@ -9,7 +9,7 @@ use Rattle.jvm_values.proofs.Options.{some_is}
 use Rattle.abs_cells.specs.AbstractStates.{AbstractState}
 use Rattle.filled_graphs.specs.declared.origins.Origin.{Origin}
 use Rattle.filled_graphs.specs.declared.origins.Origin.TheVariants.{Given, Lacking, Named}
-use Rattle.filled_graphs.proofs.Lists.{in_more, set_other}
+use Rattle.filled_graphs.specs.lemmas.Lists.{in_more, set_other}
 use Rattle.filled_graphs.specs.filled_nodes.inner.Slots.{IsFull, AreEmpty, has_state, IsNamedBy, names_it, IsNamerIn}
 
 abbrev Slots : Type 0

@@ -1,4 +1,5 @@
 pub mod Filling
 pub mod Origins
 pub mod inner
+pub mod lemmas
 pub mod filled_nodes

@@ -14,7 +14,7 @@ use Rattle.term_graph.specs.declared.nodes.By.{By}
 use Rattle.term_graph.specs.declared.nodes.By.TheVariants.{Expand, Instance, End, Todo}
 use Rattle.term_graph.specs.Graphs.{GraphNode, GraphPart}
 use Rattle.filled_graphs.specs.Filling.{CanBeFilled}
-use Rattle.filled_graphs.proofs.Lists.{image_at}
+use Rattle.filled_graphs.specs.lemmas.Lists.{image_at}
 use Rattle.cert_form.specs.Certificates.{names_child, LackingAreNamed}
 use Rattle.graph_fill.specs.ChildrenOfStates.{IsFilledGraph}
 

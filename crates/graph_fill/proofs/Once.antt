@@ -16,8 +16,8 @@ use Rattle.term_graph.specs.declared.nodes.By.{By}
 use Rattle.term_graph.specs.declared.nodes.By.TheVariants.{Expand}
 use Rattle.term_graph.specs.Graphs.{GraphNode, GraphPart}
 use Rattle.filled_graphs.specs.Filling.{Names, IsChildAt, HasStateOf, IsNodeOf, IsFilled, ways_of}
-use Rattle.filled_graphs.proofs.Lists.{image_at, mapped_of}
-use Rattle.filled_graphs.proofs.Once.{filled_one}
+use Rattle.filled_graphs.specs.lemmas.Lists.{image_at, mapped_of}
+use Rattle.filled_graphs.specs.lemmas.Once.{filled_one}
 use Rattle.graph_check.specs.Good.{NamesChild, IsExpanded, IsLeftBy, IsGoodNode, GraphOk}
 use Rattle.graph_check.proofs.abs_expand.ZipLists.{beside}
 use Rattle.graph_fill.specs.ChildrenOfStates.{child_rules}

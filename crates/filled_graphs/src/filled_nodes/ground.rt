@@ -2,7 +2,7 @@
 ghost use Rattle.std.specs.Prelude.{◌≡◌, ◌<◌, ◌≤◌, ◌+◌, ◌^◌, length, IfOk};
 ghost use Rattle.filled_graphs.specs.Filling.{Filling, CanBeFilled};
 ghost use Rattle.filled_graphs.specs.Origins.{HaveOrigins};
-ghost use Rattle.filled_graphs.proofs.Once.{filling_prop};
+ghost use Rattle.filled_graphs.specs.lemmas.Once.{filling_prop};
 ghost use Rattle.filled_graphs.specs.filled_nodes.inner.Slots.{IsFull};
 ghost use Rattle.filled_graphs.specs.filled_nodes.Holding.{AreKept};
 

@@ -11,7 +11,7 @@ use Rattle.term_graph.specs.declared.nodes.By.{By}
 use Rattle.term_graph.specs.Graphs.{GraphNode, GraphChild, GraphPart}
 use Rattle.filled_graphs.specs.Filling.{ChildRules, IsFirstNamed, Takes, HasStateOf, IsTakenState, IsNodeOf, AreFirstFilled, Filling}
 use Rattle.filled_graphs.specs.Filling.{ways_of}
-use Rattle.filled_graphs.proofs.Lists.{same_items}
+use Rattle.filled_graphs.specs.lemmas.Lists.{same_items}
 
 -- ---- a number is first named once
 
