@@ -28,8 +28,8 @@ use abs_reach::Marks;
 use anyhow::{Context, Result};
 use class_program::Program;
 use code_verify::{Typing, verify};
-use entry_cases::Entry;
-use state_cases::state_in;
+use table_cases::entry_cases::Entry;
+use table_cases::state_cases::state_in;
 use std::alloc::Global;
 use std::io::{BufRead, BufReader};
 use std::rt::Clock;
@@ -92,7 +92,7 @@ fn main(rt: HostRuntime) -> Result<()> {
     Ok(())
 }
 '''
-BELOW = 'abs_cells abs_expand abs_reach anyhow class_program code_verify entry_cases state_cases table_cases'
+BELOW = 'abs_cells abs_expand abs_reach anyhow class_program code_verify table_cases'
 
 
 def filled(state, count, sharing):

@@ -1,6 +1,6 @@
 """Forms that may differ from cut to cut, shown by all rows of the rules; and their rank steps.
 
-Reads again: crates/cut_search and crates/simplex. By the affine form of Farkas' lemma: Feautrier 1992, Podelski and Rybalchenko 2004.
+Reads again: crates/cut_search with its module simplex. By the affine form of Farkas' lemma: Feautrier 1992, Podelski and Rybalchenko 2004.
 A sum is a mapping: ('v', variable), ('k',) for the number 1 and ('r', row) for a row that was added, each with how often it counts.
 """
 import math

@@ -1,6 +1,6 @@
 """Whether a plain form, or a stepwise form, ranks path rules.
 
-Reads again: crates/rule_links/specs (Links, Positions, Changes, SizeLinks, FallLinks) and crates/rank_search/specs (Plain, Stepwise). Fuhs et al. 2009.
+Reads again: crates/rank_forms/specs/rule_links (Links, Positions, Changes, SizeLinks, FallLinks) and crates/rank_search/specs (Plain, Stepwise). Fuhs et al. 2009.
 """
 import heapq
 from collections import defaultdict
