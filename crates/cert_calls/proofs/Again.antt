@@ -6,8 +6,8 @@ use Rattle.class_program.specs.Programs.{Program, IsClosed}
 use Rattle.frame_types.specs.Tables.{CodeTypes}
 use Rattle.descent.specs.declared.proof.ProofStep.{ProofStep}
 use Rattle.term_graph.specs.Graphs.{GraphNode}
-use Rattle.prove_core.specs.cert_check.Parts.{case_of}
-use Rattle.prove_core.specs.cert_check.Valid.{IsValid}
+use Rattle.cert_check.specs.Parts.{case_of}
+use Rattle.cert_check.specs.Valid.{IsValid}
 use Rattle.cert_form.specs.cert_write.Readable.{IsNumber, IsReadableGraph}
 use Rattle.prove_core.specs.Stored.{IsStoredGraph}
 use Rattle.prove_core.specs.TextLaws.{GoodGraphsAreReadable}

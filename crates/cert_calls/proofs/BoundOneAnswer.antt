@@ -1,6 +1,6 @@
 -- A bound, a certificate, a description and class files have one answer.
 use Rattle.std.proofs.Common.{◌≡◌, ◌∙◌, inl, inr, ℕ, List, sym, ap}
-use Rattle.prove_core.specs.cert_check.Valid.{Case, IsValid}
+use Rattle.cert_check.specs.Valid.{Case, IsValid}
 use Rattle.check_call.specs.declared.outcome.Outcome.{Outcome}
 use Rattle.check_call.proofs.OneAnswer.{bytes_one}
 use Rattle.cert_calls.specs.bound_call.Answers.{SaysBound}

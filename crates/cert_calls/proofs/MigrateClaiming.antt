@@ -13,8 +13,8 @@ use Rattle.graph_fill.specs.ChildrenOfStates.{IsFilledGraph}
 use Rattle.graph_fill.proofs.Lacking.{can_be_filled}
 use Rattle.cert_form.specs.Certificates.{CertContent}
 use Rattle.cert_form.proofs.Lacking.{lacking_named}
-use Rattle.prove_core.specs.cert_check.Parts.{case_of}
-use Rattle.prove_core.specs.cert_check.Valid.{IsValid}
+use Rattle.cert_check.specs.Parts.{case_of}
+use Rattle.cert_check.specs.Valid.{IsValid}
 use Rattle.cert_form.specs.cert_write.Data.{content_of}
 use Rattle.desc_steps.specs.declared.given.DescribedProgram.{DescribedProgram}
 use Rattle.desc_steps.specs.Answers.{OfFiles}

@@ -18,8 +18,8 @@ use Rattle.graph_fill.specs.ChildrenOfStates.{IsFilledGraph}
 use Rattle.cert_form.specs.declared.fault.CertFault.{CertFault}
 use Rattle.cert_form.specs.declared.fault.CertFault.TheVariants as certs
 use Rattle.cert_form.specs.Certificates.{CertContent, cert_of, SaysOf, AnswersText}
-use Rattle.prove_core.specs.cert_check.Parts.{case_of}
-use Rattle.prove_core.specs.cert_check.Valid.{Case, IsValid}
+use Rattle.cert_check.specs.Parts.{case_of}
+use Rattle.cert_check.specs.Valid.{Case, IsValid}
 use Rattle.cert_form.specs.cert_limits.Limits.{ReadCertificatesKeepLimits}
 use Rattle.cert_form.specs.cert_write.Data.{content_of, certificate}
 use Rattle.cert_form.specs.cert_write.Readable.{IsReadableGraph}

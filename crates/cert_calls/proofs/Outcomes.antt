@@ -5,8 +5,8 @@ use Rattle.frame_types.specs.Tables.{CodeTypes}
 use Rattle.input_desc.specs.declared.desc.Desc.{Desc}
 use Rattle.input_desc.specs.declared.states.StateInput.{StateInput}
 use Rattle.cert_form.specs.Faults.{fault_text}
-use Rattle.prove_core.specs.cert_check.Valid.{graph_item}
-use Rattle.prove_core.specs.cert_check.declared.refusal.Cause.TheVariants as causes
+use Rattle.cert_check.specs.Valid.{graph_item}
+use Rattle.cert_check.specs.declared.refusal.Cause.TheVariants as causes
 use Rattle.loop_check.specs.declared.fault.LoopFault.{LoopFault}
 use Rattle.loop_check.specs.declared.fault.LoopFault.TheVariants as faults
 use Rattle.loop_check.specs.Lines.{cause_text as loop_cause}

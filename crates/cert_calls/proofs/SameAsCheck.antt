@@ -11,7 +11,7 @@ use Rattle.input_steps.specs.declared.refused.Fault.{Fault}
 use Rattle.term_graph.specs.Graphs.{GraphNode}
 use Rattle.cert_form.specs.Certificates.{CertContent}
 use Rattle.graph_fill.specs.ChildrenOfStates.{IsFilledGraph}
-use Rattle.prove_core.specs.cert_check.Parts.{case_of}
+use Rattle.cert_check.specs.Parts.{case_of}
 use Rattle.input_desc.specs.Initial.{initial_of}
 use Rattle.desc_steps.proofs.Answering.{files_turned}
 use Rattle.check_call.specs.declared.outcome.Outcome.{Outcome}

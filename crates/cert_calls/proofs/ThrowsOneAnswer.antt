@@ -1,6 +1,6 @@
 -- A certificate, a description and class files have one answer.
 use Rattle.std.proofs.Common.{◌≡◌, ◌∙◌, sym, ap}
-use Rattle.prove_core.specs.cert_check.Valid.{Case, IsValid}
+use Rattle.cert_check.specs.Valid.{Case, IsValid}
 use Rattle.throw_report.proofs.OneReport.{one_report}
 use Rattle.check_call.specs.declared.outcome.Outcome.{Outcome}
 use Rattle.check_call.proofs.OneAnswer.{bytes_one}

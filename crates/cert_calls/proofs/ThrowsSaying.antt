@@ -9,7 +9,7 @@ use Rattle.input_steps.specs.declared.refused.Refused.{Refused}
 use Rattle.input_steps.specs.declared.refused.Refused.TheVariants.{At, Memory}
 use Rattle.cert_form.specs.declared.fault.CertFault.{CertFault}
 use Rattle.cert_form.specs.declared.fault.CertFault.TheVariants as certs
-use Rattle.prove_core.specs.cert_check.Valid.{Case, IsValid}
+use Rattle.cert_check.specs.Valid.{Case, IsValid}
 use Rattle.desc_steps.specs.Answers.{AnswersAs}
 use Rattle.desc_steps.specs.Headline.{NameProgram}
 use Rattle.throw_report.specs.declared.ways.Report.{Report}

@@ -9,5 +9,3 @@ pub mod loop_call;
 pub mod loop_search;
 pub mod migrate_call;
 pub mod throws_call;
-
-pub use check_call;

@@ -8,9 +8,6 @@ mod judging;
 mod laws;
 mod verdict;
 
-pub use cert_check;
-pub use cert_check::{graph_check, plan_links};
-pub use graph_fill;
 pub use judging::judged;
 pub use laws::verdicts_are_one;
 pub use verdict::CertVerdict;

@@ -18,7 +18,7 @@ use Rattle.input_desc.specs.Descs.{inputs_from, desc_fault, IsDescribed, IsOwnDe
 use Rattle.input_desc.specs.Given.{params_of, statics_of, field_slot, argument_slot, slots_of}
 use Rattle.input_desc.proofs.Faultless.{counted}
 use Rattle.input_desc.proofs.GoodDescs.{found_count, texts_count, few_made, made_is_good}
-use Rattle.cert_verdict.specs.cert_check.Laws.{ValidCertificatesEnd}
+use Rattle.cert_check.specs.Laws.{ValidCertificatesEnd}
 use Rattle.desc_steps.proofs.Answering.{all_end}
 use Rattle.check_call.specs.Answers.{AnswersCert}
 use Rattle.check_call.specs.Laws.{AcceptedEnds}

@@ -20,8 +20,8 @@ use Rattle.term_graph.specs.Graphs.{GraphNode}
 use Rattle.json_view.specs.Located.{root_of}
 use Rattle.cert_form.specs.Certificates.{CertContent}
 use Rattle.cert_form.proofs.Lacking.{good_steps}
-use Rattle.cert_verdict.specs.cert_check.Laws.{ValidCertificatesEnd}
-use Rattle.cert_verdict.specs.cert_check.Parts.{case_of}
+use Rattle.cert_check.specs.Laws.{ValidCertificatesEnd}
+use Rattle.cert_check.specs.Parts.{case_of}
 use Rattle.check_call.specs.declared.outcome.Outcome.{Outcome}
 use Rattle.check_call.specs.Answers.{IsCertText, AnswersChecked, AnswersContent, AnswersCert}
 

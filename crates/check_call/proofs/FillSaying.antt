@@ -6,7 +6,7 @@ use Rattle.frame_types.specs.Tables.{CodeTypes}
 use Rattle.input_steps.specs.declared.refused.Refused.{Refused}
 use Rattle.desc_steps.specs.Names.{names_of}
 use Rattle.term_graph.specs.Graphs.{GraphNode}
-use Rattle.cert_verdict.specs.graph_fill.ChildrenOfStates.{IsFilledGraph}
+use Rattle.graph_fill.specs.ChildrenOfStates.{IsFilledGraph}
 use Rattle.cert_form.specs.declared.fault.CertFault.{CertFault}
 use Rattle.cert_form.specs.Certificates.{CertContent, cert_of, AnswersText}
 use Rattle.cert_form.specs.cert_write.Data.{content_in, certificate_in}

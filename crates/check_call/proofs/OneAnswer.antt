@@ -17,18 +17,18 @@ use Rattle.input_steps.proofs.OneAnswer.{IsOne, ok_one, err_one, ok_err}
 use Rattle.desc_steps.specs.Names.{names_of}
 use Rattle.desc_steps.proofs.OneAnswer.{files_one}
 use Rattle.term_graph.specs.Graphs.{GraphNode}
-use Rattle.cert_verdict.proofs.graph_fill.Once.{filled_once}
+use Rattle.graph_fill.proofs.Once.{filled_once}
 use Rattle.cert_form.specs.Answers.{Reader}
 use Rattle.cert_form.specs.declared.fault.CertFault.{CertFault}
 use Rattle.cert_form.specs.declared.fault.CertFault.TheVariants as certs
 use Rattle.cert_form.specs.Certificates.{CertContent, cert_of, SaysOf}
 use Rattle.cert_form.specs.Faults.{fault_text}
-use Rattle.cert_verdict.specs.cert_check.declared.refusal.Cause.{Cause}
-use Rattle.cert_verdict.specs.cert_check.declared.refusal.Refusal.{Refusal}
-use Rattle.cert_verdict.specs.cert_check.declared.refusal.Refusal.TheVariants as refusals
-use Rattle.cert_verdict.specs.cert_check.Valid.{Case, IsValid, IsFirstFault}
+use Rattle.cert_check.specs.declared.refusal.Cause.{Cause}
+use Rattle.cert_check.specs.declared.refusal.Refusal.{Refusal}
+use Rattle.cert_check.specs.declared.refusal.Refusal.TheVariants as refusals
+use Rattle.cert_check.specs.Valid.{Case, IsValid, IsFirstFault}
 use Rattle.cert_verdict.proofs.VerdictLaw.{verdicts_one}
-use Rattle.cert_verdict.specs.cert_check.Parts.{case_of}
+use Rattle.cert_check.specs.Parts.{case_of}
 use Rattle.check_call.specs.declared.outcome.Outcome.{Outcome}
 use Rattle.check_call.specs.Answers.{IsCertText, IsCertFault, OfText, SayingValid, OfCase, OfContent, OfCert, OfBytes, SaysAccepted}
 use Rattle.check_call.specs.Causes.{cause_text}

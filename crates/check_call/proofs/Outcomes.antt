@@ -5,8 +5,8 @@ use Rattle.frame_types.specs.Tables.{CodeTypes}
 use Rattle.input_desc.specs.declared.desc.Desc.{Desc}
 use Rattle.input_desc.specs.Initial.{initial_of}
 use Rattle.cert_form.specs.Faults.{fault_text}
-use Rattle.cert_verdict.specs.cert_check.Valid.{Case, IsValid}
-use Rattle.cert_verdict.specs.cert_check.Parts.{case_of}
+use Rattle.cert_check.specs.Valid.{Case, IsValid}
+use Rattle.cert_check.specs.Parts.{case_of}
 use Rattle.desc_steps.proofs.Answering.{files_on}
 use Rattle.check_call.specs.declared.outcome.Outcome.{Outcome}
 use Rattle.check_call.specs.Answers.{SayingValid, OfCase, OfCert, OfBytes}

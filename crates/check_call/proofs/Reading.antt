@@ -12,13 +12,13 @@ use Rattle.input_steps.specs.declared.refused.Fault.{Fault}
 use Rattle.desc_steps.specs.Answers.{AnswersAs}
 use Rattle.desc_steps.specs.Names.{names_of}
 use Rattle.term_graph.specs.Graphs.{GraphNode}
-use Rattle.cert_verdict.specs.graph_fill.ChildrenOfStates.{IsFilledGraph}
+use Rattle.graph_fill.specs.ChildrenOfStates.{IsFilledGraph}
 use Rattle.cert_form.specs.declared.fault.CertFault.{CertFault}
 use Rattle.cert_form.specs.declared.fault.CertFault.TheVariants as certs
 use Rattle.cert_form.specs.Certificates.{CertContent, cert_of, AnswersText}
-use Rattle.cert_verdict.specs.cert_check.declared.refusal.Cause.{Cause}
-use Rattle.cert_verdict.specs.cert_check.Valid.{Case, IsValid, IsFirstFault}
-use Rattle.cert_verdict.specs.cert_check.Parts.{case_of}
+use Rattle.cert_check.specs.declared.refusal.Cause.{Cause}
+use Rattle.cert_check.specs.Valid.{Case, IsValid, IsFirstFault}
+use Rattle.cert_check.specs.Parts.{case_of}
 use Rattle.check_call.specs.declared.outcome.Outcome.{Outcome}
 use Rattle.check_call.specs.Answers.{IsCertText, OfText, SayingValid, OfCase, OfContent, OfCert}
 use Rattle.check_call.specs.Causes.{cause_text}

@@ -15,7 +15,7 @@ use Rattle.desc_steps.specs.Names.{names_of}
 use Rattle.cert_form.specs.declared.fault.CertFault.{CertFault}
 use Rattle.cert_form.specs.declared.fault.CertFault.TheVariants as certs
 use Rattle.cert_form.specs.Faults.{fault_text}
-use Rattle.cert_verdict.specs.cert_check.Laws.{CertifiedRunsEnd}
+use Rattle.cert_check.specs.Laws.{CertifiedRunsEnd}
 use Rattle.cert_verdict.specs.declared.verdict.CertVerdict.{CertVerdict}
 use Rattle.cert_verdict.specs.declared.verdict.CertVerdict.TheVariants.{Accepted, Refused as RefusedAt, NoText}
 use Rattle.cert_verdict.specs.Verdicts.{SaysValid, SaysNone, Judges}

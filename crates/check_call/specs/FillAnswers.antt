@@ -7,7 +7,7 @@ use Rattle.input_steps.specs.declared.refused.Refused.TheVariants.{At, Memory}
 use Rattle.desc_steps.specs.Answers.{OfFiles}
 use Rattle.desc_steps.specs.Names.{names_of}
 use Rattle.term_graph.specs.Graphs.{GraphNode}
-use Rattle.cert_verdict.specs.graph_fill.ChildrenOfStates.{IsFilledGraph}
+use Rattle.graph_fill.specs.ChildrenOfStates.{IsFilledGraph}
 use Rattle.cert_form.specs.Certificates.{CertContent}
 use Rattle.check_call.specs.declared.outcome.Outcome.{Outcome}
 use Rattle.check_call.specs.Answers.{OfText}

@@ -3,9 +3,9 @@ ghost use Rattle.std.specs.Prelude.{◌≡◌, IfOk};
 ghost use Rattle.check_call.specs.Causes.{two_fields, lin_name, lin_fields, what_name, what_fields, path_name, path_fields};
 ghost use Rattle.check_call.specs.Causes.{proof_name, proof_fields, cause_name, cause_fields, cause_text};
 
-use cert_verdict::cert_check::Cause;
-use cert_verdict::graph_check::What;
+use cert_check::Cause;
 use descent::{DescentFault, LinFault};
+use graph_check::What;
 use list_views::Seq;
 use list_views::fault_words::{joined, number_field};
 use path_rules::PathFault;

@@ -15,10 +15,10 @@ use crate::outcome::Outcome;
 use crate::writing::filled_text;
 use abs_cells::PackedPairs;
 use cert_form::{CertText, ClassNames};
-use cert_verdict::graph_fill::filled;
 use class_program::Program;
 use code_verify::Typing;
 use desc_steps::class_names;
+use graph_fill::filled;
 use input_steps::Refused;
 use std::alloc::Global;
 

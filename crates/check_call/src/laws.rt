@@ -1,7 +1,7 @@
 //! Laws of the answer. These functions do nothing; their contracts are the laws.
 ghost use Rattle.check_call.specs.Laws.{AcceptedEnds, AnswersAreOne};
 
-use cert_verdict::cert_check::valid_certificates_end;
+use cert_check::valid_certificates_end;
 
 /// Want of memory aside, a certificate, a description and class files have one answer.
 pub fn answers_are_one()

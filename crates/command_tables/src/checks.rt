@@ -1,7 +1,7 @@
 //! `check`, `check-2`, `check-int`, `check-2-int`, and two tables of hostile input (`hostile`, `prefixes`): the bytes of a certificate, of a
 //! description and of class files; the line that is said of the certificate, or why there is none.
 use anyhow::Result;
-use cert_calls::check_call::check_line;
+use check_call::check_line;
 use std::alloc::Global;
 use table_cases::Case;
 use table_cases::line_cases::{files_from, refused_line, without_newline};

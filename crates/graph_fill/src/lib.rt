@@ -6,7 +6,5 @@ mod laws;
 mod source;
 
 pub use expansions::Expansions;
-pub use graph_check;
-pub use graph_check::abs_expand;
 pub use laws::{filled_graphs_are_one, good_graphs_fill_themselves};
 pub use source::filled;

@@ -4,7 +4,7 @@ use Rattle.std.proofs.Common.{None, subst, ap, ◌∙◌, arith, inl, inr}
 use Rattle.std.proofs.lemmas.List.{length-map}
 use Rattle.list_views.proofs.Items.{take_length}
 use Rattle.input_steps.specs.declared.refused.Refused.{Refused}
-use Rattle.cert_calls.specs.check_call.declared.outcome.Outcome.{Outcome}
+use Rattle.check_call.specs.declared.outcome.Outcome.{Outcome}
 use Rattle.cert_calls.specs.migrate_call.Answers as migrate
 use Rattle.cert_calls.specs.migrate_call.Headline.{IsMigratedIfDone}
 use Rattle.cert_calls.specs.loop_call.Answers as looping

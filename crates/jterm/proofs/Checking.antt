@@ -2,14 +2,14 @@
 use Rattle.std.proofs.Common.{◌≡◌, ◌⊎◌, ◌≤◌, ◌++◌, ℕ, List, [], ◌∷◌, Option, None, Result, Ok, Err, IfOk, get_or, refl, sym, ap}
 use Rattle.std.proofs.Common.{◌∙◌, subst, inl, inr, arith}
 use Rattle.input_steps.specs.declared.refused.Refused.{Refused}
-use Rattle.cert_calls.specs.cert_check.Valid.{Case, IsValid}
+use Rattle.cert_check.specs.Valid.{Case, IsValid}
 use Rattle.desc_steps.specs.Headline.{AllEnd}
-use Rattle.cert_calls.specs.check_call.declared.outcome.Outcome.{Outcome}
-use Rattle.cert_calls.specs.check_call.Answers as check
-use Rattle.cert_calls.specs.check_call.Answers.{SayingValid, OfBytes, SaysAccepted}
-use Rattle.cert_calls.specs.check_call.Lines as lines
-use Rattle.cert_calls.specs.check_call.Headline.{AllEndIfAccepted}
-use Rattle.cert_calls.proofs.check_call.Outcomes.{IsRefusal, bytes_outcome}
+use Rattle.check_call.specs.declared.outcome.Outcome.{Outcome}
+use Rattle.check_call.specs.Answers as check
+use Rattle.check_call.specs.Answers.{SayingValid, OfBytes, SaysAccepted}
+use Rattle.check_call.specs.Lines as lines
+use Rattle.check_call.specs.Headline.{AllEndIfAccepted}
+use Rattle.check_call.proofs.Outcomes.{IsRefusal, bytes_outcome}
 use Rattle.cert_calls.specs.migrate_call.Answers as migrate
 use Rattle.cert_calls.specs.loop_call.Answers as looping
 use Rattle.cert_calls.specs.bound_call.Answers as bounding

@@ -10,9 +10,9 @@ use Rattle.prove_call.specs.Headline.{AllEndIfYes}
 use Rattle.its_call.specs.Answers.{IsEnding}
 use Rattle.its_call.specs.Lines as its
 use Rattle.class_calls.specs.run_call.Answers as run
-use Rattle.cert_calls.specs.check_call.declared.outcome.Outcome.{Outcome}
-use Rattle.cert_calls.specs.check_call.Answers as check
-use Rattle.cert_calls.specs.check_call.Headline.{AllEndIfAccepted}
+use Rattle.check_call.specs.declared.outcome.Outcome.{Outcome}
+use Rattle.check_call.specs.Answers as check
+use Rattle.check_call.specs.Headline.{AllEndIfAccepted}
 use Rattle.class_calls.specs.declared.command_rows.table.Request.{Request}
 use Rattle.class_calls.specs.declared.command_rows.table.Request.TheVariants.{Prove, Check, Run, Asm, Generate, Its}
 use Rattle.class_calls.specs.command_rows.Rows.{Takes, least_files, row_at}

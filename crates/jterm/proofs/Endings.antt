@@ -25,10 +25,10 @@ use Rattle.jterm.specs.Words.{IsProve, IsCheck, IsIts}
 use Rattle.input_steps.specs.Lines.{refusal_line}
 use Rattle.jterm.specs.Lines.{memory_line, read_line}
 use Rattle.abs_cells.specs.declared.packed.PackedPairs.{PackedPairs}
-use Rattle.prove_call.specs.prove_core.declared.found.Reason.{Reason}
+use Rattle.prove_core.specs.declared.found.Reason.{Reason}
 use Rattle.prove_call.specs.Lines.{yes_line, yes_text}
-use Rattle.cert_calls.specs.check_call.Answers as check
-use Rattle.cert_calls.specs.check_call.Lines.{accepted_line}
+use Rattle.check_call.specs.Answers as check
+use Rattle.check_call.specs.Lines.{accepted_line}
 use Rattle.cert_calls.specs.migrate_call.Answers as migrate
 use Rattle.cert_calls.specs.loop_call.Answers as looping
 use Rattle.cert_calls.specs.bound_call.Answers as bounding

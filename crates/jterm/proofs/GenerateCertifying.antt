@@ -4,14 +4,14 @@ use Rattle.abs_cells.specs.declared.packed.PackedPairs.{PackedPairs}
 use Rattle.cert_form.specs.Limits.{most_certificate_bytes}
 use Rattle.class_program.specs.Programs.{Program}
 use Rattle.desc_steps.proofs.Said.{Given, given, said_of_files}
-use Rattle.prove_call.specs.prove_core.declared.found.Reason.{Reason}
-use Rattle.prove_call.specs.prove_core.declared.found.Reason.TheVariants.{Nodes, Ids, Paths, Bytes, Component}
+use Rattle.prove_core.specs.declared.found.Reason.{Reason}
+use Rattle.prove_core.specs.declared.found.Reason.TheVariants.{Nodes, Ids, Paths, Bytes, Component}
 use Rattle.prove_call.specs.declared.answer.Answer.{Answer}
 use Rattle.prove_call.specs.Answers as prove
 use Rattle.prove_call.specs.Lines.{yes_text, reason_text}
 use Rattle.prove_call.specs.Answers.{yes_with}
-use Rattle.cert_calls.specs.check_call.Answers as check
-use Rattle.cert_calls.specs.check_call.Lines as lines
+use Rattle.check_call.specs.Answers as check
+use Rattle.check_call.specs.Lines as lines
 use Rattle.jterm.specs.GenerateAnswers.{maybe_of}
 use Rattle.jterm.specs.GenerateLines.{first_line}
 

@@ -15,10 +15,10 @@ use Rattle.prove_call.specs.Answers as proving
 use Rattle.prove_call.specs.Headline as prove
 use Rattle.prove_call.specs.Lines.{yes_text}
 use Rattle.prove_call.specs.Answers.{yes_with}
-use Rattle.cert_calls.specs.check_call.declared.outcome.Outcome.{Outcome}
-use Rattle.cert_calls.specs.check_call.Answers as check
-use Rattle.cert_calls.specs.check_call.Lines.{accepted}
-use Rattle.cert_calls.proofs.check_call.OneAnswer as checking
+use Rattle.check_call.specs.declared.outcome.Outcome.{Outcome}
+use Rattle.check_call.specs.Answers as check
+use Rattle.check_call.specs.Lines.{accepted}
+use Rattle.check_call.proofs.OneAnswer as checking
 use Rattle.generate_text.specs.Descriptions.{description}
 use Rattle.jterm.specs.declared.generate.Generated.{Generated}
 use Rattle.jterm.specs.GenerateAnswers.{Proves, maybe_of, IsYes, IsMaybe, AnswersFiles}

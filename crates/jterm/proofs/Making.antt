@@ -5,7 +5,7 @@ use Rattle.std.specs.Prelude.{◌↔◌}
 use Rattle.abs_cells.specs.declared.packed.PackedPairs.{PackedPairs}
 use Rattle.input_steps.specs.declared.refused.Refused.{Refused}
 use Rattle.its_call.specs.declared.its_search.searching.ItsFound.{ItsFound}
-use Rattle.prove_call.specs.prove_core.declared.found.Reason.{Reason}
+use Rattle.prove_core.specs.declared.found.Reason.{Reason}
 use Rattle.jterm.specs.declared.generate.Generated.{Generated}
 use Rattle.jterm.specs.GenerateAnswers as generate
 use Rattle.jterm.specs.GenerateHeadline.{SaysYes, AllEndIfYes}

@@ -18,9 +18,9 @@ use Rattle.prove_call.specs.Answers as prove
 use Rattle.prove_call.specs.declared.answer.Answer.{Answer}
 use Rattle.prove_call.specs.Laws.{refusal_of}
 use Rattle.prove_call.proofs.OneAnswer as proving
-use Rattle.cert_calls.specs.check_call.declared.outcome.Outcome.{Outcome}
-use Rattle.cert_calls.specs.check_call.Answers as check
-use Rattle.cert_calls.proofs.check_call.OneAnswer as checking
+use Rattle.check_call.specs.declared.outcome.Outcome.{Outcome}
+use Rattle.check_call.specs.Answers as check
+use Rattle.check_call.proofs.OneAnswer as checking
 use Rattle.cert_calls.specs.migrate_call.Answers as migrate
 use Rattle.cert_calls.proofs.MigrateOneAnswer as migrating
 use Rattle.cert_calls.specs.loop_call.Answers as looping

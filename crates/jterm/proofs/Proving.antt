@@ -5,14 +5,14 @@ use Rattle.std.specs.Prelude.{◌↔◌}
 use Rattle.abs_cells.specs.declared.packed.PackedPairs.{PackedPairs}
 use Rattle.input_steps.specs.declared.refused.Refused.{Refused}
 use Rattle.desc_steps.specs.Headline.{AllEnd}
-use Rattle.prove_call.specs.prove_core.declared.found.Reason.{Reason}
+use Rattle.prove_core.specs.declared.found.Reason.{Reason}
 use Rattle.prove_call.specs.declared.answer.Answer.{Answer}
 use Rattle.prove_call.specs.Answers as prove
 use Rattle.prove_call.specs.Headline.{AllEndIfYes}
 use Rattle.prove_call.specs.Lines.{yes_line, yes_text}
 use Rattle.jterm.proofs.GenerateCertifying.{Certifies, Reasons, certifies_or_reasons}
-use Rattle.cert_calls.specs.check_call.Answers as check
-use Rattle.cert_calls.specs.check_call.Lines as lines
+use Rattle.check_call.specs.Answers as check
+use Rattle.check_call.specs.Lines as lines
 use Rattle.jterm.specs.declared.verdict.Verdict.{Verdict}
 use Rattle.jterm.specs.Decision.{Says, not_proved_for, Proved}
 use Rattle.jterm.specs.Laws.{CertificatesAreAccepted}

@@ -3,7 +3,7 @@ use Rattle.std.proofs.Common.{◌≡◌, ◌∙◌, ◌⊎◌, inl, inr, ◌≤�
 use Rattle.std.proofs.Common.{subst, arith}
 use Rattle.std.specs.Prelude.{◌↔◌}
 use Rattle.abs_cells.specs.declared.packed.PackedPairs.{PackedPairs}
-use Rattle.prove_call.specs.prove_core.declared.found.Reason.{Reason}
+use Rattle.prove_core.specs.declared.found.Reason.{Reason}
 use Rattle.its_front.specs.declared.fault.ItsFault.{ItsFault}
 use Rattle.its_front.specs.declared.fault.ItsFault.TheVariants as ruled_faults
 use Rattle.its_front.specs.declared.reading.Its.{Its}

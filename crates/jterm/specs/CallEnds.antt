@@ -14,7 +14,7 @@ use Rattle.input_steps.specs.declared.refused.Fault.{Fault}
 use Rattle.input_steps.specs.declared.refused.Refused.TheVariants.{At}
 use Rattle.input_steps.specs.Lines.{refusal_line}
 use Rattle.abs_cells.specs.declared.packed.PackedPairs.{PackedPairs}
-use Rattle.prove_call.specs.prove_core.declared.found.Reason.{Reason}
+use Rattle.prove_core.specs.declared.found.Reason.{Reason}
 use Rattle.its_call.specs.declared.its_search.searching.ItsFound.{ItsFound}
 use Rattle.prove_call.specs.Lines.{yes_text}
 use Rattle.class_calls.specs.command_rows.Usage.{usage_lines}

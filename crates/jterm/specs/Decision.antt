@@ -19,9 +19,9 @@ use Rattle.input_steps.specs.declared.refused.Place.TheVariants as places
 use Rattle.input_steps.specs.declared.refused.Fault.{Fault}
 use Rattle.input_steps.specs.declared.refused.Fault.TheVariants as faults
 use Rattle.input_steps.specs.Steps.{IsAt}
-use Rattle.cert_calls.specs.check_call.declared.outcome.Outcome.{Outcome}
-use Rattle.cert_calls.specs.check_call.Answers as check
-use Rattle.cert_calls.specs.check_call.Lines.{accepted_line, refused_line}
+use Rattle.check_call.specs.declared.outcome.Outcome.{Outcome}
+use Rattle.check_call.specs.Answers as check
+use Rattle.check_call.specs.Lines.{accepted_line, refused_line}
 use Rattle.cert_calls.specs.migrate_call.Answers as migrate
 use Rattle.cert_calls.specs.migrate_call.Headline.{IsMigrated}
 use Rattle.cert_calls.specs.loop_call.Answers as looping
@@ -32,7 +32,7 @@ use Rattle.cert_calls.specs.bound_call.Answers as bounding
 use Rattle.cert_calls.specs.bound_call.Headline.{AllEndWithin}
 use Rattle.cert_calls.specs.bound_call.Lines as bounds
 use Rattle.cert_calls.specs.throws_call.Headline.{AllEndAsSaid}
-use Rattle.prove_call.specs.prove_core.declared.found.Reason.{Reason}
+use Rattle.prove_core.specs.declared.found.Reason.{Reason}
 use Rattle.prove_call.specs.declared.answer.Answer.{Answer}
 use Rattle.prove_call.specs.Answers as prove
 use Rattle.prove_call.specs.Lines.{yes_line}

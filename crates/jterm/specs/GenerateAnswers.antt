@@ -6,12 +6,12 @@ use Rattle.input_steps.specs.declared.refused.Refused.{Refused}
 use Rattle.input_steps.specs.declared.refused.Refused.TheVariants.{At, Memory}
 use Rattle.input_steps.specs.Steps.{Then}
 use Rattle.class_calls.specs.asm_call.Answers.{IsClassFile, RefusesListing}
-use Rattle.prove_call.specs.prove_core.declared.found.Reason.{Reason}
+use Rattle.prove_core.specs.declared.found.Reason.{Reason}
 use Rattle.prove_call.specs.declared.answer.Answer.{Answer}
 use Rattle.prove_call.specs.Answers as prove
 use Rattle.prove_call.specs.Answers.{yes_with}
-use Rattle.cert_calls.specs.check_call.Answers as check
-use Rattle.cert_calls.specs.check_call.Lines.{accepted}
+use Rattle.check_call.specs.Answers as check
+use Rattle.check_call.specs.Lines.{accepted}
 use Rattle.generate_text.specs.Descriptions.{description}
 use Rattle.generate_text.specs.Listings.{listing_of}
 use Rattle.jterm.specs.declared.generate.Generated.{Generated}

@@ -7,7 +7,7 @@ use crate::certs::{bounded, looped, migrated, reported};
 use crate::generate::{Generated, generate_line};
 use crate::rules::rules_verdict;
 use crate::verdict::Verdict;
-use cert_calls::check_call::{Outcome, check_line};
+use check_call::{Outcome, check_line};
 use class_calls::asm_call::class_file;
 use class_calls::command_rows::Request;
 use class_calls::run_call::run_line;

@@ -15,8 +15,8 @@ use class_calls::asm_call::class_file;
 use generate_text::{description, listing};
 use input_steps::Refused;
 use list_views::Seq;
-use prove_call::prove_core::Reason;
 use prove_call::{Answer, prove_line};
+use prove_core::Reason;
 use std::alloc::Global;
 use term_graph::MOST_NODES;
 

@@ -5,7 +5,7 @@ ghost use Rattle.desc_steps.specs.Answers.{AnswersAs};
 ghost use Rattle.prove_call.specs.Lines.{yes_text};
 ghost use Rattle.jterm.specs.inner.GenerateSaid.{HasAccepted};
 
-use cert_calls::check_call::check_line;
+use check_call::check_line;
 use generate_text::description;
 use input_steps::Refused;
 use std::alloc::Global;

@@ -6,7 +6,7 @@ ghost use Rattle.its_call.specs.Lines as its;
 ghost use Rattle.class_calls.specs.declared.command_rows.table.Request.TheVariants.{Generate};
 ghost use Rattle.class_calls.specs.command_rows.Words.{IsCommand};
 ghost use Rattle.jterm.specs.Words.{IsProve, IsCheck, IsMigrate, IsBound, IsLoop, IsIts, IsThrows};
-ghost use Rattle.cert_calls.specs.check_call.Lines.{accepted_line};
+ghost use Rattle.check_call.specs.Lines.{accepted_line};
 ghost use Rattle.cert_calls.specs.migrate_call.Headline.{IsMigrated};
 ghost use Rattle.cert_calls.specs.loop_call.Headline.{AllGoOnForEver};
 ghost use Rattle.cert_calls.specs.loop_call.Lines.{no_line};

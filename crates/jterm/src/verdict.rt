@@ -2,7 +2,7 @@
 use abs_cells::PackedPairs;
 use its_call::ItsFound;
 use list_views::Seq;
-use prove_call::prove_core::Reason;
+use prove_core::Reason;
 
 /// The answer of a command whose input is not refused.
 #[derive(Drop)]

@@ -9,7 +9,7 @@ use Rattle.input_desc.specs.declared.desc.Desc.{Desc}
 use Rattle.input_desc.specs.Descs.{IsOwnDesc}
 use Rattle.input_steps.specs.declared.refused.Refused.{Refused}
 use Rattle.input_steps.specs.declared.refused.Refused.TheVariants.{At, Memory}
-use Rattle.prove_core.specs.cert_check.Laws.{CertifiedRunsEnd}
+use Rattle.cert_check.specs.Laws.{CertifiedRunsEnd}
 use Rattle.desc_steps.specs.Answers.{AnswersAs}
 use Rattle.desc_steps.specs.Headline.{AllFittingEnd}
 use Rattle.desc_steps.specs.Names.{names_of}

@@ -14,9 +14,9 @@ ghost use Rattle.prove_call.specs.Answers.{SaysOf, Answers};
 ghost use Rattle.prove_call.specs.Headline.{IsProved, AllEndIfYes};
 
 use crate::answer::{Answer, told};
+use cert_check::certified_runs_end;
 use desc_steps::{DescribedProgram, class_names, described_program};
 use input_steps::Refused;
-use prove_core::cert_check::certified_runs_end;
 use prove_core::{SearchFault, search};
 use std::alloc::Global;
 

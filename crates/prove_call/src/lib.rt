@@ -11,4 +11,3 @@ mod lines;
 pub use answer::Answer;
 pub use call::prove_line;
 pub use laws::refusals_are_one;
-pub use prove_core;

@@ -10,8 +10,8 @@ use Rattle.term_graph.specs.declared.links.Link.{Link}
 use Rattle.term_graph.specs.declared.nodes.By.{By}
 use Rattle.term_graph.specs.declared.nodes.By.TheVariants.{Expand, Instance, End, Todo}
 use Rattle.term_graph.specs.Graphs.{GraphNode, GraphChild}
-use Rattle.cert_verdict.specs.graph_check.Good.{IsLeftBy, IsGoodNode}
-use Rattle.cert_verdict.proofs.cert_check.Bounded.{all_bounded}
+use Rattle.graph_check.specs.Good.{IsLeftBy, IsGoodNode}
+use Rattle.cert_check.proofs.Bounded.{all_bounded}
 use Rattle.path_rules.specs.Conditions.{AreBounded}
 use Rattle.prove_core.specs.ShortLinks.{IsShortLink}
 use Rattle.prove_core.specs.PlainRules.{GoodGraphRulesArePlain}

@@ -4,7 +4,7 @@ use Rattle.std.proofs.Common.{slice_get, sym, ap, subst, arith}
 use Rattle.std.specs.List.{AllByRecursion, AllZip}
 use Rattle.std.proofs.lemmas.Option.{none-some, same_Some}
 use Rattle.abs_cells.specs.AbstractStates.{AbstractState}
-use Rattle.abs_expand.proofs.abs_plans.GoodPlans.{plan_is_good}
+use Rattle.abs_plans.proofs.GoodPlans.{plan_is_good}
 use Rattle.abs_expand.specs.Expansions.{plan_of}
 use Rattle.abs_widen.specs.Widening.{IsWidening}
 use Rattle.class_program.specs.Good.{IsGood}
@@ -13,7 +13,7 @@ use Rattle.class_world.specs.WorldTypes.{types_of}
 use Rattle.frame_types.specs.Tables.{CodeTypes}
 use Rattle.graph_build.specs.Disciplined.{IsNode, IsStateAt, IsDisciplinedBy, IsLeftAsDue, IsMatched, IsWidened, IsFirstMatch, Names}
 use Rattle.graph_build.specs.Rules.{GrowthRules}
-use Rattle.cert_verdict.specs.graph_check.Good.{HasChildren}
+use Rattle.graph_check.specs.Good.{HasChildren}
 use Rattle.graph_laws.proofs.Growing.{GrowsBy, grows_by, above_low, not_before}
 use Rattle.graph_laws.specs.Growth.{growth_by}
 use Rattle.term_graph.specs.declared.nodes.By.{By}

@@ -14,14 +14,14 @@ use Rattle.code_verify.specs.Typings.{IsTypingOf}
 use Rattle.abs_cells.specs.AbstractStates.{AbstractState}
 use Rattle.descent.specs.declared.proof.ProofStep.{ProofStep}
 use Rattle.term_graph.specs.Graphs.{GraphNode}
-use Rattle.cert_verdict.specs.plan_links.Laws.{LinksFit}
-use Rattle.cert_verdict.specs.graph_fill.ChildrenOfStates.{IsFilledGraph}
-use Rattle.cert_verdict.proofs.graph_fill.Once.{good_fills}
+use Rattle.plan_links.specs.Laws.{LinksFit}
+use Rattle.graph_fill.specs.ChildrenOfStates.{IsFilledGraph}
+use Rattle.graph_fill.proofs.Once.{good_fills}
 use Rattle.cert_form.specs.declared.fault.CertFault.{CertFault}
 use Rattle.cert_form.specs.Certificates.{CertContent, cert_of, SaysOf}
-use Rattle.cert_verdict.specs.cert_check.declared.refusal.Cause.{Cause}
-use Rattle.cert_verdict.specs.cert_check.Parts.{case_of}
-use Rattle.cert_verdict.specs.cert_check.Valid.{IsFirstFault}
+use Rattle.cert_check.specs.declared.refusal.Cause.{Cause}
+use Rattle.cert_check.specs.Parts.{case_of}
+use Rattle.cert_check.specs.Valid.{IsFirstFault}
 use Rattle.cert_form.specs.cert_write.Data.{content_of}
 use Rattle.cert_form.specs.cert_write.Readable.{IsNumber, IsReadableGraph}
 use Rattle.cert_verdict.specs.declared.verdict.CertVerdict.{CertVerdict}

@@ -13,16 +13,16 @@ use Rattle.term_graph.specs.declared.nodes.By.TheVariants.{Instance}
 use Rattle.term_graph.specs.Graphs.{GraphNode}
 use Rattle.code_verify.specs.Typings.{IsTypingOf}
 use Rattle.graph_build.specs.Disciplined.{IsLeftAsDue}
-use Rattle.cert_verdict.specs.graph_check.Good.{GraphOk, IsFault}
-use Rattle.cert_verdict.specs.graph_check.declared.fault.What.{What}
-use Rattle.cert_verdict.proofs.graph_check.OneGraph.{good_or_fault}
+use Rattle.graph_check.specs.Good.{GraphOk, IsFault}
+use Rattle.graph_check.specs.declared.fault.What.{What}
+use Rattle.graph_check.proofs.OneGraph.{good_or_fault}
 use Rattle.graph_laws.specs.Laws.{DisciplinedGraphsAreGood, TreesAreCut, HasTargetsCut}
-use Rattle.cert_verdict.specs.plan_links.Laws.{LinksFit}
+use Rattle.plan_links.specs.Laws.{LinksFit}
 use Rattle.path_rules.specs.Conditions.{CutsRise, IsReady}
 use Rattle.path_rules.specs.Paths.{is_cut}
-use Rattle.cert_verdict.proofs.cert_check.Preparing.{prepared}
-use Rattle.cert_verdict.specs.cert_check.Parts.{case_of}
-use Rattle.cert_verdict.specs.cert_check.Valid.{IsValid}
+use Rattle.cert_check.proofs.Preparing.{prepared}
+use Rattle.cert_check.specs.Parts.{case_of}
+use Rattle.cert_check.specs.Valid.{IsValid}
 use Rattle.chain_proofs.specs.declared.proving.LeftRule.{LeftRule}
 use Rattle.chain_proofs.specs.Answers.{LeavesStuck}
 use Rattle.chain_proofs.specs.Lean.{AreLean}

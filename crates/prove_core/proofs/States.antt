@@ -24,7 +24,7 @@ use Rattle.term_graph.specs.declared.links.Link.{Link}
 use Rattle.term_graph.specs.declared.nodes.By.{By}
 use Rattle.term_graph.specs.declared.nodes.By.TheVariants.{Expand, Instance, End, Todo}
 use Rattle.term_graph.specs.Graphs.{GraphNode, GraphChild}
-use Rattle.cert_verdict.specs.graph_check.Good.{NamesChild, IsLeftBy, IsGoodNode}
+use Rattle.graph_check.specs.Good.{NamesChild, IsLeftBy, IsGoodNode}
 use Rattle.cert_form.specs.cert_write.Readable.{IsNumber, IsId, IsMaybe, IsCell, IsFrame, IsState, IsWay, IsNode}
 use Rattle.prove_core.specs.TextLaws.{GoodGraphsAreReadable}
 use Rattle.prove_core.specs.Stored.{IsStoredCell, IsStoredFrame, IsStored}

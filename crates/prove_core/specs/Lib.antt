@@ -9,5 +9,3 @@ pub mod ReadableRules
 pub mod Stored
 pub mod TextLaws
 pub mod inner
--- libraries below, given again for the crates above
-pub use Rattle.cert_verdict.specs.cert_check

@@ -9,7 +9,7 @@ use Rattle.frame_types.specs.Tables.{CodeTypes}
 use Rattle.term_graph.specs.declared.links.Link.{Link}
 use Rattle.term_graph.specs.Graphs.{GraphNode, GraphChild}
 use Rattle.abs_expand.specs.Expansions.{plan_of, AreExpanded}
-use Rattle.cert_verdict.specs.graph_check.Good.{GraphOk}
+use Rattle.graph_check.specs.Good.{GraphOk}
 use Rattle.path_rules.specs.Answers.{Answers}
 use Rattle.path_rules.specs.Conditions.{AreBounded, IsReady}
 use Rattle.rank_forms.specs.Graphs.{ArePlainRules}

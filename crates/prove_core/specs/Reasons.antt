@@ -10,14 +10,14 @@ use Rattle.term_graph.specs.declared.links.Link.{Link}
 use Rattle.term_graph.specs.Graphs.{GraphNode}
 use Rattle.graph_build.specs.Disciplined.{IsDisciplined}
 use Rattle.graph_build.specs.Answers.{IsClosed, IsStopped, PassesLimit, HasLarge}
-use Rattle.cert_verdict.specs.graph_check.Good.{GraphOk}
+use Rattle.graph_check.specs.Good.{GraphOk}
 use Rattle.path_rules.specs.declared.fault.PathFault.{PathFault}
 use Rattle.path_rules.specs.declared.fault.PathFault.TheVariants.{Uncut, TooManyPaths, TooManyRows, Memory}
 use Rattle.path_rules.specs.Answers.{Answers as PathAnswers}
 use Rattle.serde_json.specs.Written.{compact_text}
 use Rattle.cert_form.specs.cert_write.Data.{certificate, content_of}
-use Rattle.cert_verdict.specs.cert_check.Valid.{IsValid}
-use Rattle.cert_verdict.specs.cert_check.Parts.{case_of}
+use Rattle.cert_check.specs.Valid.{IsValid}
+use Rattle.cert_check.specs.Parts.{case_of}
 use Rattle.chain_proofs.specs.declared.proving.LeftRule.{LeftRule}
 use Rattle.chain_proofs.specs.Answers.{LeavesStuck}
 use Rattle.chain_proofs.specs.Lean.{AreLean}

@@ -15,10 +15,10 @@ use crate::stored::graph_is_stored;
 use abs_cells::{AbsState, Pairs};
 use cert_form::cert_write::encode;
 use cert_form::{ClassNames, MOST_CERTIFICATE_BYTES};
-use cert_verdict::plan_links::links_fit;
 use cert_verdict::{CertVerdict, judged};
 use class_program::Program;
 use code_verify::Typing;
+use plan_links::links_fit;
 use std::alloc::Global;
 
 /// The bytes of a valid certificate, on which there was the verdict that they say one; or the certificate, where they are too many. There

@@ -14,9 +14,6 @@ mod stored;
 mod text_laws;
 mod tries;
 
-pub use abs_expand::abs_plans;
-pub use cert_verdict;
-pub use cert_verdict::cert_check;
 pub use chain_proofs::LeftRule;
 pub use found::{Cert, Found, Reason, SearchFault};
 pub use plain_rules::{

@@ -1,8 +1,8 @@
 -- The outcomes of `loop`, with their lines.
 use Rattle.std.specs.Prelude.{ℕ, List, [], ◌∷◌, codes}
 use Rattle.list_views.specs.FaultWords.{joined}
-use Rattle.prove_core.specs.cert_check.declared.refusal.Cause.TheVariants as causes
-use Rattle.prove_core.specs.cert_check.Valid.{graph_item}
+use Rattle.cert_check.specs.declared.refusal.Cause.TheVariants as causes
+use Rattle.cert_check.specs.Valid.{graph_item}
 use Rattle.loop_check.specs.declared.fault.LoopFault.{LoopFault}
 use Rattle.loop_check.specs.declared.fault.LoopFault.TheVariants.{Graph}
 use Rattle.loop_check.specs.Lines.{cause_text as loop_cause}

@@ -2,7 +2,7 @@
 use Rattle.std.specs.Prelude.{ℕ, List, ◌++◌, codes}
 use Rattle.serde_json.specs.Written.{compact_text}
 use Rattle.desc_steps.specs.Names.{names_of}
-use Rattle.prove_core.specs.cert_check.Valid.{Case}
+use Rattle.cert_check.specs.Valid.{Case}
 use Rattle.cert_form.specs.cert_write.Data.{content_of, certificate}
 use Rattle.check_call.specs.declared.outcome.Outcome.{Outcome}
 

@@ -5,7 +5,7 @@ ghost use Rattle.code_verify.specs.Typings.{IsTypingOf, typing_at};
 ghost use Rattle.descent.specs.Conditions.{AreSteps};
 ghost use Rattle.input_desc.specs.Descs.{IsOwnDesc};
 ghost use Rattle.cert_form.specs.Certificates.{LackingAreNamed};
-ghost use Rattle.prove_core.specs.cert_check.Parts.{case_of};
+ghost use Rattle.cert_check.specs.Parts.{case_of};
 ghost use Rattle.term_graph.specs.Limits.{most_nodes};
 ghost use Rattle.check_call.specs.Answers.{OfCase, OfContent, OfCert};
 ghost use Rattle.cert_calls.specs.bound_call.Answers.{SaysBound};
@@ -14,6 +14,7 @@ ghost use Rattle.cert_calls.specs.bound_call.inner.Words.{EndWithin, EndAsDescri
 use crate::bound_call::outcome::{bounded, refused};
 use abs_cells::{AbsState, PackedPairs, Pairs};
 use bound_check::checked_bound;
+use cert_check::Refusal;
 use cert_form::CertText;
 use check_call::{Outcome, refuse_item, refuse_text};
 use class_program::Program;
@@ -23,7 +24,6 @@ use descent::Proof;
 use graph_fill::filled;
 use input_desc::{Desc, initial};
 use input_steps::Refused;
-use prove_core::cert_check::Refusal;
 use std::alloc::Global;
 use term_graph::NodeSource;
 

@@ -12,6 +12,7 @@ use crate::bound_search::finding::find;
 use crate::bound_search::writing::text_of;
 use abs_cells::{AbsState, PackedPairs, Pairs};
 use bound_check::valid_parts;
+use cert_check::Refusal;
 use cert_form::{CertFault, CertText};
 use class_program::Program;
 use code_verify::Typing;
@@ -21,7 +22,6 @@ use graph_fill::filled;
 use input_desc::{Desc, initial};
 use input_steps::Refused;
 use list_views::Seq;
-use prove_core::cert_check::Refusal;
 use std::alloc::{AllocError, Global};
 use term_graph::NodeSource;
 

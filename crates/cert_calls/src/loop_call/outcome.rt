@@ -1,17 +1,17 @@
 //! The outcomes in words.
 ghost use Rattle.std.specs.Prelude.{◌≡◌, IfOk};
-ghost use Rattle.prove_core.specs.cert_check.Valid.{graph_item};
+ghost use Rattle.cert_check.specs.Valid.{graph_item};
 ghost use Rattle.desc_steps.specs.Answers.{AnswersAs};
 ghost use Rattle.cert_calls.specs.loop_call.Lines.{refused_line, never_ends};
 ghost use Rattle.cert_calls.specs.loop_call.inner.Words.{IsSaidOf};
 
+use cert_check::Cause;
 use check_call::{Outcome, refuse_item};
-use graph_fill::graph_check::What;
+use graph_check::What;
 use input_steps::Refused;
 use list_views::Seq;
 use list_views::fault_words::joined;
 use loop_check::{LoopFault, cause_text};
-use prove_core::cert_check::Cause;
 use std::alloc::{AllocError, Global};
 
 /// The graph shows that no run ends.

@@ -2,8 +2,8 @@
 use Rattle.std.specs.Prelude.{◌≡◌, ℕ, Bool, List, Ok}
 use Rattle.prove_call.specs.declared.answer.Answer.{Answer}
 use Rattle.prove_call.specs.Lines.{yes_text}
-use Rattle.cert_calls.specs.check_call.Answers as check
-use Rattle.cert_calls.specs.check_call.Lines.{accepted}
+use Rattle.check_call.specs.Answers as check
+use Rattle.check_call.specs.Lines.{accepted}
 use Rattle.generate_text.specs.Descriptions.{description}
 use Rattle.jterm.specs.declared.generate.Generated.{Generated}
 use Rattle.jterm.specs.GenerateLines.{first_line, check_word, blocks_line}

@@ -8,7 +8,7 @@ use abs_cells::PackedPairs;
 use chain_proofs::LeftRule;
 use class_program::Program;
 use list_views::Seq;
-use prove_call::prove_core::{Cert, Reason};
+use prove_core::{Cert, Reason};
 use std::alloc::{AllocError, Global};
 
 /// The most rules of which something is told.

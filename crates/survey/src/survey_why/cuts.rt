@@ -4,7 +4,7 @@ use crate::survey_notes::{CodePlace, Places, Sources};
 use abs_cells::{AbsFrame, PackedPairs};
 use class_program::{Method, Program};
 use list_views::Seq;
-use prove_call::prove_core::Reason;
+use prove_core::Reason;
 use std::alloc::{AllocError, Global};
 use term_graph::Graph;
 

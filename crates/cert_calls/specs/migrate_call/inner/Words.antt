@@ -13,8 +13,8 @@ use Rattle.descent.specs.declared.proof.ProofStep.{ProofStep}
 use Rattle.term_graph.specs.Graphs.{GraphNode}
 use Rattle.graph_fill.specs.ChildrenOfStates.{IsFilledGraph}
 use Rattle.cert_form.specs.Certificates.{CertContent, cert_of, SaysOf}
-use Rattle.prove_core.specs.cert_check.Parts.{case_of}
-use Rattle.prove_core.specs.cert_check.Valid.{Case, IsValid}
+use Rattle.cert_check.specs.Parts.{case_of}
+use Rattle.cert_check.specs.Valid.{Case, IsValid}
 use Rattle.cert_form.specs.cert_write.Data.{content_of}
 use Rattle.cert_form.specs.cert_write.Readable.{IsStep}
 use Rattle.check_call.specs.declared.outcome.Outcome.{Outcome}

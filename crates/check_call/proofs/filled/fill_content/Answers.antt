@@ -1,4 +1,4 @@
-use Rattle.cert_verdict.proofs.graph_fill.Lacking.{can_be_filled}
+use Rattle.graph_fill.proofs.Lacking.{can_be_filled}
 use Rattle.check_call.proofs.filled.fill_content.Goals as goal
 
 pub filled-requires : goal.filled-requires

@@ -1,6 +1,6 @@
 use Rattle.std.proofs.Common.{map, subst}
 use Rattle.desc_steps.specs.Answers.{AnswersAs}
-use Rattle.cert_calls.specs.check_call.Lines.{accepted}
+use Rattle.check_call.specs.Lines.{accepted}
 use Rattle.jterm.proofs.GenerateSaying.{accepts_cut, accepted_status, accepted_refused}
 use Rattle.jterm.proofs.made_cert.is_accepted.Goals as goal
 

@@ -1,6 +1,6 @@
 use Rattle.std.proofs.Common.{arith}
 use Rattle.prove_call.specs.Lines.{yes_line}
-use Rattle.cert_calls.specs.check_call.Lines.{accepted_line}
+use Rattle.check_call.specs.Lines.{accepted_line}
 use Rattle.its_call.specs.Lines as its
 use Rattle.jterm.specs.GenerateLines.{yes_begin}
 use Rattle.jterm.proofs.Endings.{unclaimed, unbegun, not_low, headline, headline_of_check, headline_of_generate, headline_of_its}

@@ -1,8 +1,8 @@
 use Rattle.std.proofs.Common.{Err, subst}
 use Rattle.class_program.specs.Views.{program_of}
 use Rattle.code_verify.specs.Typings.{typing_at}
-use Rattle.cert_verdict.specs.graph_check.declared.fault.CheckFault.{CheckFault}
-use Rattle.cert_verdict.specs.graph_check.Good.{Tells}
+use Rattle.graph_check.specs.declared.fault.CheckFault.{CheckFault}
+use Rattle.graph_check.specs.Good.{Tells}
 use Rattle.prove_core.proofs.Readying.{never_faulty}
 use Rattle.prove_core.proofs.searching.links_of.Goals as goal
 
