@@ -10,5 +10,6 @@ mod lines;
 
 pub use answer::Answer;
 pub use call::prove_line;
+pub use desc_steps;
 pub use laws::refusals_are_one;
 pub use prove_core;
