@@ -37,7 +37,8 @@ use Rattle.input_desc.specs.declared.desc.Input.TheVariants.{Int, Ref}
 use Rattle.input_desc.specs.declared.desc.Desc.{Desc}
 use Rattle.input_desc.specs.Entries.{entry_of}
 use Rattle.input_desc.specs.Given.{params_of, statics_of, argument_slot, arguments_of, slots_in}
-use Rattle.input_desc.specs.Descs.{has_receiver, desc_fault, IsDescribed}
+use Rattle.input_desc.specs.Constants.{DescribesInputs}
+use Rattle.input_desc.specs.Descs.{has_receiver}
 use Rattle.input_desc.specs.Fitting.{FitsInput, IsListed, FitsDescription}
 use Rattle.input_desc.proofs.Unfit.{all_fitting}
 use Rattle.input_desc.proofs.Wider.{Laws, has_wider, erased_twice}
@@ -231,15 +232,14 @@ whole_fits narrow p desc state laws whole start =
 
 pub is_template : (narrow : Bool) (lines : List WorldLine) (p : Program) (bytes : List ℕ) (said : DescText) (desc : Desc) → IsClosed p
     → SaysOf description_of bytes (Ok said) → said.world ≡ lines → entry_of p.world said.entry ≡ Ok p.entry
-    → (desc_fault p said ≡ None) × IsDescribed p said desc → IsWhole p.world (has_receiver p) (slots_in narrow p) desc
+    → DescribesInputs p said (Ok desc) → IsWhole p.world (has_receiver p) (slots_in narrow p) desc
     → IsTemplate narrow lines p bytes
 is_template narrow lines p bytes said desc closed says lines_are entry described whole = record {
   text = said;
   says = says;
   lines_are = lines_are;
   entry = entry;
-  fits = described.0;
   desc = desc;
-  described = described.1;
+  described = described;
   whole = λ state start. whole_fits narrow p desc state (world_laws p.world closed.known.linked) whole start;
 }

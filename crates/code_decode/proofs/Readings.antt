@@ -136,7 +136,7 @@ high_rows = (
                                   refl,
                                   (
                                     refl,
-                                    (refl, (refl, (refl, (refl, (refl, (refl, (refl, (refl, (refl, (refl, (refl, tt))))))))))),
+                                    (refl, (refl, (refl, (refl, (refl, (refl, (refl, (refl, (refl, (refl, (refl, (refl, (refl, tt))))))))))))),
                                   ),
                                 ),
                               ),

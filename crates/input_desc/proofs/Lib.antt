@@ -1,3 +1,4 @@
+pub mod Completed
 pub mod Faultless
 pub mod Fitted
 pub mod GoodDescs

@@ -2,6 +2,7 @@
 #![tactic(auto)]
 
 mod beginning;
+mod constants;
 mod desc;
 mod entries;
 mod fit;

@@ -1,11 +1,12 @@
 //! A description's text, read back.
-ghost use Rattle.std.specs.Prelude.{◌≡◌, IfOk, OnOk, None, Ok};
+ghost use Rattle.std.specs.Prelude.{◌≡◌, IfOk, OnOk, Ok};
 ghost use Rattle.class_world.specs.Worlds.{classes_of};
 ghost use Rattle.class_program.specs.Views.{program_of};
 ghost use Rattle.input_text.specs.Answers.{SaysOf};
 ghost use Rattle.input_text.specs.Descriptions.{description_of};
 ghost use Rattle.input_desc.specs.Entries.{entry_of};
-ghost use Rattle.input_desc.specs.Descs.{desc_fault, has_receiver, IsDescribed};
+ghost use Rattle.input_desc.specs.Constants.{DescribesInputs};
+ghost use Rattle.input_desc.specs.Descs.{has_receiver};
 ghost use Rattle.input_desc.specs.Given.{slots_in};
 ghost use Rattle.class_calls.specs.describe.Whole.{IsWhole};
 ghost use Rattle.class_calls.specs.describe.Templates.{IsTemplate};
@@ -18,7 +19,7 @@ use input_desc::{Desc, DescFault, DescText, entry, has_receiver, inputs_in};
 use input_text::{WorldLine, are_same_lines};
 use std::alloc::Global;
 
-/// What a fault of the text means: only names that aren't UTF-8 can make one.
+/// What a fault of the text means: only names that aren't UTF-8 can make one, and string constants, which no text describes.
 fn unwritable(fault: DescFault) -> DescribeFault {
     match fault {
         DescFault::Memory => DescribeFault::Memory,
@@ -63,13 +64,12 @@ fn fitted(
     narrow: bool,
     said: DescText,
 ) -> Result<Desc, DescribeFault>
-    ensures described { IfOk result (λ desc. (desc_fault (program_of program.now) said ≡ None)
-        × IsDescribed (program_of program.now) said desc) }
+    ensures described { IfOk result (λ desc. DescribesInputs (program_of program.now) said (Ok desc)) }
     ensures whole { IfOk result (λ desc. IsWhole (classes_of program.now.world) (has_receiver (program_of program.now))
         (slots_in narrow (program_of program.now)) desc) }
 {
     let slots = inputs_in(alloc, program, narrow)?;
-    let desc = match Desc::fit(alloc, said, program) {
+    let desc = match Desc::of(alloc, said, program) {
         Ok(desc) => desc,
         Err(fault) => return Err(unwritable(fault)),
     };
@@ -111,7 +111,7 @@ fn read_back(
 ///
 /// # Errors
 ///
-/// `Unwritable` where a name isn't UTF-8. Want of memory.
+/// `Unwritable` where a name isn't UTF-8, and where the program loads a string constant. Want of memory.
 pub fn template(
     alloc: Global,
     program: &Program<'_>,

@@ -25,6 +25,8 @@ pub fn line_again(alloc: Global, line: &WorldLine) -> Result<WorldLine, AllocErr
             alloc,
             interface.as_slice(),
         )?)),
+        WorldLine::Strings => Ok(WorldLine::Strings),
+        WorldLine::Monitors => Ok(WorldLine::Monitors),
     }
 }
 
@@ -32,15 +34,15 @@ pub fn line_again(alloc: Global, line: &WorldLine) -> Result<WorldLine, AllocErr
 fn initialises(line: &WorldLine, name: &[u8]) -> bool {
     match line {
         WorldLine::Initialised(class) => class.as_slice() == name,
-        WorldLine::Passed(_) => false,
+        _ => false,
     }
 }
 
 /// Whether a line says that the interface of a name is passed over.
 fn passes(line: &WorldLine, name: &[u8]) -> bool {
     match line {
-        WorldLine::Initialised(_) => false,
         WorldLine::Passed(interface) => interface.as_slice() == name,
+        _ => false,
     }
 }
 

@@ -25,6 +25,8 @@ fn put_line(text: &mut Vec<u8>, line: &WorldLine) -> Result<(), AllocError> {
             class.as_slice(),
         )?,
         WorldLine::Passed(interface) => put_string(text, b"[\"passed\",\"", interface.as_slice())?,
+        WorldLine::Strings => put(text, b"[\"strings\"")?,
+        WorldLine::Monitors => put(text, b"[\"monitors\"")?,
     }
     put(text, b"]")
 }
