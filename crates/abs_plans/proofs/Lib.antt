@@ -9,3 +9,6 @@ pub mod PlannedStates
 pub mod RangesTaken
 pub mod Taking
 pub mod WellFormed
+pub mod FirstCases
+pub mod Narrowed
+pub mod StoredItems

@@ -11,8 +11,8 @@ ghost use Rattle.class_program.specs.Programs.{insn_at};
 ghost use Rattle.abs_turns.specs.jvm_step.Effects.{answer_of};
 ghost use Rattle.abs_turns.specs.PlansSeen.{plan_seen};
 
+use crate::abs_rows::{access_stop, no_child, one_step, receiver_stop, step_if};
 use abs_cells::{AbsFrame, Cell, Id, Pairs, copied_frames};
-use abs_rows::{access_stop, no_child, one_step, receiver_stop, step_if};
 use abs_turns::{Plan, Spot, moves, throws};
 use class_program::{Call, Method, Op, Selected};
 use class_world::built_ins::{ABSTRACT_METHOD_ERROR, INCOMPATIBLE_CLASS_CHANGE_ERROR};

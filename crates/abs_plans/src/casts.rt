@@ -7,8 +7,8 @@ ghost use Rattle.abs_turns.specs.Table.{may_be_below, is_known_cell, bounded, ca
 ghost use Rattle.abs_plans.specs.inner.Casts.{cast_of, asks, verdict_of, verdict_plan};
 ghost use Rattle.abs_turns.specs.PlansSeen.{turn_seen, plan_seen};
 
+use crate::abs_rows::{no_child, one_step};
 use abs_cells::{Cell, Id, Pairs};
-use abs_rows::{no_child, one_step};
 use abs_turns::{Plan, Spot, Turn, goes_on, just, pushes, put, throws};
 use class_world::built_ins::CLASS_CAST_EXCEPTION;
 use jvm_values::{Ty, Types, array_of, array_of_numbers, class_type};

@@ -13,6 +13,12 @@ ghost use Rattle.abs_plans.specs.Planning.{plan_here, plan_in, plan_of};
 ghost use Rattle.abs_turns.specs.GoodPlans.{IsGoodPlan};
 ghost use Rattle.abs_turns.specs.PlansSeen.{plan_seen};
 
+use crate::abs_rows::{
+    arithmetic, array_length, compare_null, compare_references, compare_two, compare_zero,
+    constant, goes_to, increment, load, load_item, load_number, lookup_switch, narrowing, negation,
+    new_array, new_object, no_child, push_null, read_field, read_static, reorder, store,
+    store_item, store_number, table_switch, write_field, write_static,
+};
 use crate::calls::{
     call_selecting, call_special, call_static, return_nothing, return_value, throw_object,
 };
@@ -20,12 +26,6 @@ use crate::casts::{check_cast, test_type};
 use crate::testing::{first_stop, taken_by};
 use crate::throwing::thrown;
 use abs_cells::{AbsFrame, AbsState, Id, Pairs};
-use abs_rows::{
-    arithmetic, array_length, compare_null, compare_references, compare_two, compare_zero,
-    constant, goes_to, increment, load, load_item, load_number, lookup_switch, narrowing, negation,
-    new_array, new_object, no_child, push_null, read_field, read_static, reorder, store,
-    store_item, store_number, table_switch, write_field, write_static,
-};
 use abs_turns::code_verify::Typing;
 use abs_turns::{Plan, Spot};
 use class_program::{CatchRange, Op, Program};

@@ -8,8 +8,8 @@ ghost use Rattle.abs_plans.specs.inner.TestsSeen.{passing_seen};
 ghost use Rattle.op_forms.specs.Forms.{form_seen};
 ghost use Rattle.abs_turns.specs.PlansSeen.{plan_seen};
 
+use crate::abs_rows::no_child;
 use abs_cells::{Cell, Id, Pairs};
-use abs_rows::no_child;
 use abs_turns::{Plan, Spot};
 use jvm_values::{PlaceType, Ty, Types, array_of, array_of_numbers, class_type};
 use list_views::Stack;

@@ -7,10 +7,10 @@ ghost use Rattle.abs_turns.specs.Throwing.{takes_type, takes, is_below_bound, ma
 ghost use Rattle.abs_turns.specs.Stops.{taker_of, may_of};
 ghost use Rattle.abs_turns.specs.PlansSeen.{plan_seen};
 
+use crate::abs_rows::{no_child, one_step, split_below};
 use crate::casts::bound_of;
 use crate::testing::{Passing, passing_id};
 use abs_cells::{AbsFrame, Id, Pairs, copied_frames};
-use abs_rows::{no_child, one_step, split_below};
 use abs_turns::{Plan, Spot, moves};
 use class_program::CatchRange;
 use class_world::built_ins::THROWABLE;

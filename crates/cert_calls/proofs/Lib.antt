@@ -9,13 +9,3 @@ pub mod Stepping
 pub mod BoundOneAnswer
 pub mod OneBound
 pub mod BoundSaying
-pub mod Again
-pub mod MigrateClaiming
-pub mod FewIds
-pub mod FirstNames
-pub mod MigrateOneAnswer
-pub mod SameAsCheck
-pub mod MigrateSaying
-pub mod SelfFilled
-pub mod Taken
-pub mod Weightless

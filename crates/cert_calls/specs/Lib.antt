@@ -1,5 +1,3 @@
 pub mod throws_call
 pub mod loop_call
 pub mod bound_call
-pub mod migrate_call
-pub mod loop_search

@@ -1,6 +1,6 @@
 //! `migrate`: the bytes of a certificate, of a description and of class files; the certificate in form 2, or why there is none.
 use anyhow::Result;
-use cert_calls::migrate_call::migrate_line;
+use cert_making::migrate_call::migrate_line;
 use std::alloc::Global;
 use table_cases::Case;
 use table_cases::line_cases::{files_from, refused_line, without_newline};

@@ -16,7 +16,7 @@ use Rattle.jterm.specs.Outside.{AreContents}
 use Rattle.jterm.specs.inner.Failure.{AreOfCommand, IsAnswered, HasCause}
 use Rattle.jterm.proofs.ReadingOrder.{contents_length}
 use Rattle.check_call.specs.Answers as check
-use Rattle.cert_calls.specs.migrate_call.Answers as migrate
+use Rattle.cert_making.specs.migrate_call.Answers as migrate
 use Rattle.cert_calls.specs.loop_call.Answers as looping
 use Rattle.cert_calls.specs.bound_call.Answers as bounding
 use Rattle.cert_calls.specs.throws_call.Answers as throws

@@ -5,8 +5,8 @@ use Rattle.std.proofs.lemmas.List.{length-map}
 use Rattle.list_views.proofs.Items.{take_length}
 use Rattle.input_steps.specs.declared.refused.Refused.{Refused}
 use Rattle.check_call.specs.declared.outcome.Outcome.{Outcome}
-use Rattle.cert_calls.specs.migrate_call.Answers as migrate
-use Rattle.cert_calls.specs.migrate_call.Headline.{IsMigratedIfDone}
+use Rattle.cert_making.specs.migrate_call.Answers as migrate
+use Rattle.cert_making.specs.migrate_call.Headline.{IsMigratedIfDone}
 use Rattle.cert_calls.specs.loop_call.Answers as looping
 use Rattle.cert_calls.specs.bound_call.Answers as bounding
 use Rattle.cert_calls.specs.bound_call.Headline.{AllEndWithinIfDone}

@@ -10,7 +10,7 @@ use Rattle.check_call.specs.Answers.{SayingValid, OfBytes, SaysAccepted}
 use Rattle.check_call.specs.Lines as lines
 use Rattle.check_call.specs.Headline.{AllEndIfAccepted}
 use Rattle.check_call.proofs.Outcomes.{IsRefusal, bytes_outcome}
-use Rattle.cert_calls.specs.migrate_call.Answers as migrate
+use Rattle.cert_making.specs.migrate_call.Answers as migrate
 use Rattle.cert_calls.specs.loop_call.Answers as looping
 use Rattle.cert_calls.specs.bound_call.Answers as bounding
 use Rattle.cert_calls.proofs.Outcomes.{IsLoopOutcome, loop_outcome}

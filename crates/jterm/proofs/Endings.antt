@@ -29,7 +29,7 @@ use Rattle.prove_core.specs.declared.found.Reason.{Reason}
 use Rattle.prove_call.specs.Lines.{yes_line, yes_text}
 use Rattle.check_call.specs.Answers as check
 use Rattle.check_call.specs.Lines.{accepted_line}
-use Rattle.cert_calls.specs.migrate_call.Answers as migrate
+use Rattle.cert_making.specs.migrate_call.Answers as migrate
 use Rattle.cert_calls.specs.loop_call.Answers as looping
 use Rattle.cert_calls.specs.bound_call.Answers as bounding
 use Rattle.cert_calls.specs.throws_call.Answers as throws

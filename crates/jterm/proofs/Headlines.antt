@@ -2,7 +2,7 @@
 use Rattle.std.proofs.Common.{◌≡◌, ℕ, List, ◌∷◌, Option, sym, ◌∙◌, inl, inr, arith}
 use Rattle.std.specs.Io.KnownBytes.{Appends}
 use Rattle.io_ports.specs.Told.{Told}
-use Rattle.cert_calls.specs.migrate_call.Headline.{IsMigrated}
+use Rattle.cert_making.specs.migrate_call.Headline.{IsMigrated}
 use Rattle.cert_calls.specs.loop_call.Headline.{AllGoOnForEver}
 use Rattle.cert_calls.specs.loop_call.Lines.{no_line}
 use Rattle.cert_calls.specs.throws_call.Headline.{AllEndAsSaid}

@@ -1,6 +1,6 @@
 -- A certificate is migrated exactly where it is accepted.
 use Rattle.std.proofs.Common.{None, refl}
-use Rattle.cert_calls.specs.migrate_call.Laws.{MigratesWhatIsAccepted}
+use Rattle.cert_making.specs.migrate_call.Laws.{MigratesWhatIsAccepted}
 use Rattle.jterm.specs.Laws.{AcceptedMigrate}
 
 pub accepted_migrate : MigratesWhatIsAccepted → AcceptedMigrate

@@ -21,8 +21,8 @@ use Rattle.prove_call.proofs.OneAnswer as proving
 use Rattle.check_call.specs.declared.outcome.Outcome.{Outcome}
 use Rattle.check_call.specs.Answers as check
 use Rattle.check_call.proofs.OneAnswer as checking
-use Rattle.cert_calls.specs.migrate_call.Answers as migrate
-use Rattle.cert_calls.proofs.MigrateOneAnswer as migrating
+use Rattle.cert_making.specs.migrate_call.Answers as migrate
+use Rattle.cert_making.proofs.MigrateOneAnswer as migrating
 use Rattle.cert_calls.specs.loop_call.Answers as looping
 use Rattle.cert_calls.specs.bound_call.Answers as bounding
 use Rattle.cert_calls.proofs.LoopOneAnswer as loops

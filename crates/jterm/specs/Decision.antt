@@ -22,8 +22,8 @@ use Rattle.input_steps.specs.Steps.{IsAt}
 use Rattle.check_call.specs.declared.outcome.Outcome.{Outcome}
 use Rattle.check_call.specs.Answers as check
 use Rattle.check_call.specs.Lines.{accepted_line, refused_line}
-use Rattle.cert_calls.specs.migrate_call.Answers as migrate
-use Rattle.cert_calls.specs.migrate_call.Headline.{IsMigrated}
+use Rattle.cert_making.specs.migrate_call.Answers as migrate
+use Rattle.cert_making.specs.migrate_call.Headline.{IsMigrated}
 use Rattle.cert_calls.specs.loop_call.Answers as looping
 use Rattle.cert_calls.specs.loop_call.Headline.{AllGoOnForEver}
 use Rattle.cert_calls.specs.loop_call.Lines as loops

@@ -8,8 +8,8 @@ use crate::decision::judged;
 use crate::verdict::Verdict;
 use cert_calls::bound_call::bound_line;
 use cert_calls::loop_call::loop_line;
-use cert_calls::migrate_call::migrate_line;
 use cert_calls::throws_call::throws_line;
+use cert_making::migrate_call::migrate_line;
 use input_steps::Refused;
 use std::alloc::Global;
 

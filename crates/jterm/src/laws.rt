@@ -1,7 +1,7 @@
 //! Laws about the answers, for the proofs of other crates and for readers. They run nothing.
 ghost use Rattle.jterm.specs.Laws.{AcceptedMigrate, AnswersAreOne, CertificatesAreAccepted, ReasonsAreKept};
 
-use cert_calls::migrate_call::what_is_accepted_migrates;
+use cert_making::migrate_call::what_is_accepted_migrates;
 
 /// For given contents it is determined, up to want of memory, whether a request is refused, with which place and fault,
 /// and, but for the commands that search for a proof, else what its verdict is.

@@ -7,7 +7,7 @@ ghost use Rattle.class_calls.specs.declared.command_rows.table.Request.TheVarian
 ghost use Rattle.class_calls.specs.command_rows.Words.{IsCommand};
 ghost use Rattle.jterm.specs.Words.{IsProve, IsCheck, IsMigrate, IsBound, IsLoop, IsIts, IsThrows};
 ghost use Rattle.check_call.specs.Lines.{accepted_line};
-ghost use Rattle.cert_calls.specs.migrate_call.Headline.{IsMigrated};
+ghost use Rattle.cert_making.specs.migrate_call.Headline.{IsMigrated};
 ghost use Rattle.cert_calls.specs.loop_call.Headline.{AllGoOnForEver};
 ghost use Rattle.cert_calls.specs.loop_call.Lines.{no_line};
 ghost use Rattle.cert_calls.specs.throws_call.Headline.{AllEndAsSaid};

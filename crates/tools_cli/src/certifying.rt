@@ -7,9 +7,9 @@ ghost use Rattle.std.specs.Prelude.{◌+◌, ◌≤◌, ◌^◌, length, IfOk};
 ghost use Rattle.class_base.specs.Limits.{most_classes};
 
 use crate::failures::{Failure, told};
-use cert_calls::bound_search::{Found, bound_for};
-use cert_calls::loop_search::loop_line;
 use cert_form::MOST_CERTIFICATE_BYTES;
+use cert_making::bound_search::{Found, bound_for};
+use cert_making::loop_search::loop_line;
 use check_call::{Outcome, check_line, fill_line};
 use class_base::{MOST_CLASSES, MOST_FILE_BYTES};
 use input_steps::{Refused, refusal_text};

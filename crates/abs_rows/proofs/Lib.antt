@@ -1,3 +1,0 @@
-pub mod FirstCases
-pub mod Narrowed
-pub mod StoredItems

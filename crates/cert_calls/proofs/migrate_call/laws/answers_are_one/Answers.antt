@@ -1,5 +1,0 @@
-use Rattle.cert_calls.proofs.MigrateOneAnswer.{answers_one}
-use Rattle.cert_calls.proofs.migrate_call.laws.answers_are_one.Goals as goal
-
-pub returns : goal.returns
-returns c = answers_one

@@ -1,5 +1,0 @@
-use Rattle.cert_calls.proofs.SameAsCheck.{what_is_accepted}
-use Rattle.cert_calls.proofs.migrate_call.laws.what_is_accepted_migrates.Goals as goal
-
-pub returns : goal.returns
-returns c = what_is_accepted

@@ -1,0 +1,10 @@
+pub mod Again
+pub mod MigrateClaiming
+pub mod FewIds
+pub mod FirstNames
+pub mod MigrateOneAnswer
+pub mod SameAsCheck
+pub mod MigrateSaying
+pub mod SelfFilled
+pub mod Taken
+pub mod Weightless

@@ -1,0 +1,2 @@
+pub mod migrate_call
+pub mod loop_search
