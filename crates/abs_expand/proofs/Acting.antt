@@ -15,9 +15,9 @@ use Rattle.abs_cells.specs.Sound.{IsWellFormed}
 use Rattle.abs_heap.specs.Answers.{IsLoaded}
 use Rattle.abs_heap.specs.Given.{IsGiven, first_cell, with_cells}
 use Rattle.abs_heap.specs.Writing.{Write, is_array_of_references}
-use Rattle.abs_turns.specs.Plans.{Act, nothing, makes, writes, item, object, array, Goal, nowhere, on_stack, in_local, in_bottom}
-use Rattle.abs_turns.specs.Plans.{in_field, is_thrown, ids_made}
-use Rattle.abs_turns.specs.GoodPlans.{IsThere, IsGoodAct}
+use Rattle.abs_plans.specs.abs_turns.Plans.{Act, nothing, makes, writes, item, object, array, Goal, nowhere, on_stack, in_local, in_bottom}
+use Rattle.abs_plans.specs.abs_turns.Plans.{in_field, is_thrown, ids_made}
+use Rattle.abs_plans.specs.abs_turns.GoodPlans.{IsThere, IsGoodAct}
 use Rattle.abs_expand.specs.inner.Making.{GoesSomewhere}
 use Rattle.abs_plans.proofs.WellFormed.{still_in}
 use Rattle.abs_expand.proofs.HeapChildren.{well_item}

@@ -17,7 +17,7 @@ use Rattle.abs_cells.specs.declared.cells.Cell.TheVariants as cells
 use Rattle.abs_reach.proofs.Finding.{stands, none}
 use Rattle.abs_heap.specs.Given.{first_cell}
 use Rattle.abs_expand.specs.inner.Making.{IsLeastFree, changed_cell, changed_cells}
-use Rattle.abs_turns.specs.GoodPlans.{IsChange}
+use Rattle.abs_plans.specs.abs_turns.GoodPlans.{IsChange}
 
 -- ---- cells that become others
 

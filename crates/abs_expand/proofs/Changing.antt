@@ -20,7 +20,7 @@ use Rattle.abs_cells.specs.Sound.{AreIdsRising, given_ids, ids_of_frame, may_joi
 use Rattle.abs_cells.proofs.KeepLaws.{has_filter}
 use Rattle.abs_cells.proofs.PairLaws.{has_swapped, same_is}
 use Rattle.abs_heap.specs.Given.{IsPair, IsGiven, AreFresh, first_cell, with_cells}
-use Rattle.abs_turns.specs.GoodPlans.{IsThere, HoldsIds, may_become, IsChange}
+use Rattle.abs_plans.specs.abs_turns.GoodPlans.{IsThere, HoldsIds, may_become, IsChange}
 use Rattle.abs_expand.specs.inner.Making.{IsLeastFree, changed_cells, inserted}
 use Rattle.abs_expand.proofs.CellLists.{changed_at, changed_rising, inserted_rising, free_after, inserted_at}
 use Rattle.abs_plans.proofs.WellFormed.{IsIn, well_with, well_new, all_still}

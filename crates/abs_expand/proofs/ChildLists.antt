@@ -9,10 +9,10 @@ use Rattle.std.proofs.lemmas.List.Elements.{All-more, All-same}
 use Rattle.jvm_values.specs.TypedHeaps.{WorldTypes}
 use Rattle.abs_cells.specs.AbstractStates.{AbstractState}
 use Rattle.term_graph.specs.Graphs.{GraphChild}
-use Rattle.class_world.specs.WorldTypes.{types_of}
+use Rattle.class_program.specs.class_world.WorldTypes.{types_of}
 use Rattle.class_program.specs.Programs.{Program}
-use Rattle.frame_types.specs.Tables.{CodeTypes}
-use Rattle.abs_turns.specs.Plans.{Turn, Plan, steps, ids_made}
+use Rattle.abs_plans.specs.FrameTypesTables.{CodeTypes}
+use Rattle.abs_plans.specs.abs_turns.Plans.{Turn, Plan, steps, ids_made}
 use Rattle.abs_expand.specs.BadStates.{IsGoodState}
 use Rattle.abs_expand.specs.Answers.{Answers, HasPlanChildren}
 use Rattle.abs_expand.specs.declared.fault.ExpandFault.{ExpandFault}
@@ -20,8 +20,8 @@ use Rattle.abs_expand.specs.declared.fault.ExpandFault.TheVariants.{BadState, To
 use Rattle.abs_expand.specs.Children.{IsTurnChild, IsLean}
 use Rattle.abs_expand.specs.Expansions.{plan_of, counts_of, AreFew, IsFirstTooMany, AreExpanded}
 use Rattle.abs_expand.specs.inner.Building.{IsChildOf, turn_counts}
-use Rattle.abs_turns.specs.declared.plans.Turn.{Turn as TurnSeen}
-use Rattle.abs_turns.specs.PlansSeen.{turn_seen}
+use Rattle.abs_plans.specs.abs_turns.declared.plans.Turn.{Turn as TurnSeen}
+use Rattle.abs_plans.specs.abs_turns.PlansSeen.{turn_seen}
 
 -- ---- lists
 

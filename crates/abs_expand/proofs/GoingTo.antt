@@ -16,8 +16,8 @@ use Rattle.abs_cells.specs.AbstractStates.{AbstractFrame, AbstractState}
 use Rattle.abs_cells.specs.Cells.{is_reference, is_known, ids_in, cell_in, HasCell, Share}
 use Rattle.abs_cells.specs.PairLists.{has}
 use Rattle.abs_cells.specs.Sound.{AreIdsRising, given_ids, ids_of_frame, ids_used, IsWellFormed}
-use Rattle.abs_turns.specs.Plans.{Goal, nowhere, on_stack, in_local, in_bottom, in_field, is_thrown}
-use Rattle.abs_turns.specs.Table.{bottom_with}
+use Rattle.abs_plans.specs.abs_turns.Plans.{Goal, nowhere, on_stack, in_local, in_bottom, in_field, is_thrown}
+use Rattle.abs_plans.specs.abs_turns.Table.{bottom_with}
 use Rattle.abs_expand.specs.Children.{gone_to, top_with, set_field, field_with}
 use Rattle.abs_expand.specs.inner.Making.{frames_to, thrown_to, cells_to}
 use Rattle.abs_plans.proofs.WellFormed.{flat_to, frames_there, thrown_there, cells_there}

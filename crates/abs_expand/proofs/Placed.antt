@@ -30,7 +30,7 @@ use Rattle.abs_reach.proofs.Zipped.{zip_apart, zip_gives, zip_given}
 use Rattle.class_program.specs.declared.program.Method.{Method}
 use Rattle.class_program.specs.declared.program.StaticField.{StaticField}
 use Rattle.class_program.specs.Programs.{Program}
-use Rattle.frame_types.specs.Tables.{CodeTypes}
+use Rattle.abs_plans.specs.FrameTypesTables.{CodeTypes}
 use Rattle.abs_expand.specs.BadStates.{IsOfPlace, IsOfField, HasStackOf, IsPlaced, statics_under, call_at, HasCallersStack}
 use Rattle.abs_expand.specs.BadStates.{IsCallerPlaced, AreCallersPlaced, HasRunningStack, IsRunningPlaced, ArePlaced, below_running}
 use Rattle.abs_expand.specs.BadStates.{AreAtCalls}

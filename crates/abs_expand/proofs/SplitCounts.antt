@@ -20,7 +20,7 @@ use Rattle.abs_heap.specs.declared.fault.SplitFault.TheVariants.{TooManyIds, Mem
 use Rattle.abs_heap.specs.Refining.{IsEqualChild, cases_of}
 use Rattle.abs_heap.specs.Refining.IsEqualChild.{both, alone}
 use Rattle.term_graph.specs.Graphs.{GraphChild}
-use Rattle.abs_turns.specs.Plans.{by_null, by_class, by_equal}
+use Rattle.abs_plans.specs.abs_turns.Plans.{by_null, by_class, by_equal}
 use Rattle.abs_expand.specs.Answers.{HasPlanChildren}
 use Rattle.abs_expand.specs.inner.Building.{fault_of_split}
 use Rattle.abs_expand.specs.Children.{IsLean}

@@ -8,10 +8,10 @@ use Rattle.abs_cells.specs.declared.cells.Cell.{Cell}
 use Rattle.abs_cells.specs.AbstractStates.{AbstractState}
 use Rattle.term_graph.specs.declared.links.LinkRow.{LinkRow}
 use Rattle.term_graph.specs.Graphs.{GraphChild}
-use Rattle.abs_turns.specs.declared.plans.Turn.{Turn as TurnSeen}
-use Rattle.abs_turns.specs.GoodPlans.{IsGoodAct}
-use Rattle.abs_turns.specs.Plans.{Act, object, Goal, nowhere, on_stack, in_local, in_bottom, in_field, is_thrown, Turn, ids_made}
-use Rattle.abs_turns.specs.PlansSeen.{turn_seen}
+use Rattle.abs_plans.specs.abs_turns.declared.plans.Turn.{Turn as TurnSeen}
+use Rattle.abs_plans.specs.abs_turns.GoodPlans.{IsGoodAct}
+use Rattle.abs_plans.specs.abs_turns.Plans.{Act, object, Goal, nowhere, on_stack, in_local, in_bottom, in_field, is_thrown, Turn, ids_made}
+use Rattle.abs_plans.specs.abs_turns.PlansSeen.{turn_seen}
 use Rattle.abs_expand.specs.inner.Building.{IsLeanState, IsChildOf, turn_counts}
 use Rattle.abs_expand.specs.Expansions.{AreFew}
 use Rattle.abs_expand.specs.inner.Making.{IsTurnState}

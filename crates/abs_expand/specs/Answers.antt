@@ -1,12 +1,12 @@
 -- What the expansion of a state answers.
 use Rattle.std.specs.Prelude.{◌≡◌, ℕ, List, Option, Some, None, Result, Ok, Err}
 use Rattle.abs_cells.specs.AbstractStates.{AbstractState}
-use Rattle.class_world.specs.WorldTypes.{types_of}
+use Rattle.class_program.specs.class_world.WorldTypes.{types_of}
 use Rattle.class_program.specs.Programs.{Program}
-use Rattle.frame_types.specs.Tables.{CodeTypes}
+use Rattle.abs_plans.specs.FrameTypesTables.{CodeTypes}
 use Rattle.term_graph.specs.Graphs.{GraphChild}
 use Rattle.jvm_values.specs.TypedHeaps.{WorldTypes}
-use Rattle.abs_turns.specs.Plans.{Plan, ends}
+use Rattle.abs_plans.specs.abs_turns.Plans.{Plan, ends}
 use Rattle.abs_expand.specs.BadStates.{IsGoodState, IsBadState}
 use Rattle.abs_expand.specs.Expansions.{plan_of, counts_of, IsFirstTooMany, AreExpanded}
 use Rattle.abs_expand.specs.declared.fault.ExpandFault.{ExpandFault}

@@ -11,13 +11,13 @@ use Rattle.abs_cells.specs.AbstractStates.{AbstractFrame, AbstractState}
 use Rattle.abs_cells.specs.Cells.{is_int, HasCell}
 use Rattle.abs_cells.specs.Sound.{IsSound}
 use Rattle.abs_reach.specs.Instances.{is_no_int}
-use Rattle.class_world.specs.WorldTypes.{types_of}
+use Rattle.class_program.specs.class_world.WorldTypes.{types_of}
 use Rattle.class_program.specs.declared.op.Op.{Op}
 use Rattle.class_program.specs.declared.op.Op.TheVariants as ops
 use Rattle.class_program.specs.declared.program.Method.{Method}
 use Rattle.class_program.specs.Programs.{Program, op_at}
-use Rattle.frame_types.specs.Tables.{CodeTypes}
-use Rattle.abs_turns.specs.code_verify.TypedStates.{argument_count}
+use Rattle.abs_plans.specs.FrameTypesTables.{CodeTypes}
+use Rattle.abs_plans.specs.abs_turns.code_verify.TypedStates.{argument_count}
 
 -- ---- places
 

@@ -14,9 +14,9 @@ use Rattle.abs_reach.specs.Reached.{IsDropped}
 use Rattle.term_graph.specs.Graphs.{GraphChild}
 use Rattle.abs_heap.specs.Given.{IsGiven, AreFresh, with_cells}
 use Rattle.abs_heap.specs.Writing.{IsWriteChild, IsItemChild, IsObjectChild, IsNewArrayChild}
-use Rattle.abs_turns.specs.Plans.{Act, nothing, makes, writes, item, object, array, Goal, nowhere, on_stack, in_local, in_bottom}
-use Rattle.abs_turns.specs.Plans.{in_field, is_thrown, Turn}
-use Rattle.abs_turns.specs.Table.{bottom_with}
+use Rattle.abs_plans.specs.abs_turns.Plans.{Act, nothing, makes, writes, item, object, array, Goal, nowhere, on_stack, in_local, in_bottom}
+use Rattle.abs_plans.specs.abs_turns.Plans.{in_field, is_thrown, Turn}
+use Rattle.abs_plans.specs.abs_turns.Table.{bottom_with}
 
 -- an act leads from one abstract state to another, with the id that it makes; an act that makes none may have any number for it
 abbrev pub IsActed : WorldTypes → Act → ℕ → AbstractState → AbstractState → Type 0

@@ -13,7 +13,7 @@ use Rattle.abs_heap.specs.Refining.{cases_of}
 use Rattle.abs_heap.specs.Counts.{case_counts}
 pub use Rattle.abs_heap.specs.Counts.{AreFew, IsFirstTooMany}
 use Rattle.abs_heap.specs.Answers.{AreNullChildren, AreClassChildren, AreEqualAnswers}
-use Rattle.abs_turns.specs.Plans.{Turn, Plan, ends, steps, by_null, by_class, by_equal, ids_made}
+use Rattle.abs_plans.specs.abs_turns.Plans.{Turn, Plan, ends, steps, by_null, by_class, by_equal, ids_made}
 pub use Rattle.abs_plans.specs.Planning.{plan_here, plan_in, plan_of}
 use Rattle.abs_expand.specs.Children.{IsTurnChild, IsLean}
 

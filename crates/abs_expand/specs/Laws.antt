@@ -4,17 +4,17 @@ use Rattle.std.specs.Prelude.{◌≡◌, ℕ, Bool, true, false, List, Some, sli
 use Rattle.jvm_values.specs.States.{MachineState}
 use Rattle.abs_cells.specs.AbstractStates.{AbstractState}
 use Rattle.abs_cells.specs.Fits.{Meaning, Fits}
-use Rattle.class_world.specs.WorldTypes.{types_of}
+use Rattle.class_program.specs.class_world.WorldTypes.{types_of}
 use Rattle.class_program.specs.Programs.{Program, IsClosed}
 use Rattle.class_program.specs.Good.{IsGood}
-use Rattle.frame_types.specs.Tables.{CodeTypes}
-use Rattle.abs_turns.specs.code_verify.Typings.{IsTypingOf}
-use Rattle.abs_turns.specs.code_verify.TypedStates.{IsTypedState}
-use Rattle.abs_turns.specs.jvm_step.Running.{step, IsEnd}
-use Rattle.abs_turns.specs.jvm_step.Running.Step.{Going}
+use Rattle.abs_plans.specs.FrameTypesTables.{CodeTypes}
+use Rattle.abs_plans.specs.abs_turns.code_verify.Typings.{IsTypingOf}
+use Rattle.abs_plans.specs.abs_turns.code_verify.TypedStates.{IsTypedState}
+use Rattle.abs_plans.specs.abs_turns.jvm_step.Running.{step, IsEnd}
+use Rattle.abs_plans.specs.abs_turns.jvm_step.Running.Step.{Going}
 use Rattle.term_graph.specs.Graphs.{GraphChild}
 use Rattle.term_graph.specs.Edges.{Edge}
-use Rattle.abs_turns.specs.Plans.{ends}
+use Rattle.abs_plans.specs.abs_turns.Plans.{ends}
 use Rattle.abs_expand.specs.BadStates.{IsGoodState}
 use Rattle.class_program.specs.Widths.{HasWidths}
 use Rattle.abs_expand.specs.Expansions.{plan_of, AreExpanded}

@@ -1,13 +1,13 @@
 //! The clause that an abstract state breaks.
 ghost use Rattle.std.specs.Prelude.{MatchOption};
 ghost use Rattle.class_program.specs.Views.{program_of};
-ghost use Rattle.abs_turns.specs.code_verify.Typings.{typing_at};
+ghost use Rattle.abs_plans.specs.abs_turns.code_verify.Typings.{typing_at};
 ghost use Rattle.abs_expand.specs.BadStates.{IsGoodState, IsBadState};
 
 use crate::places::{are_below_at_calls, are_placed};
 use abs_cells::{AbsState, Pairs};
+use abs_plans::abs_turns::code_verify::Typing;
 use abs_reach::abs_sound::is_sound;
-use abs_turns::code_verify::Typing;
 use class_program::Program;
 
 /// The first clause that a state breaks, or None where it has an expansion. It takes no memory, and as many steps as the state

@@ -7,14 +7,14 @@ ghost use Rattle.abs_cells.specs.AbstractStates.{AbstractFrame};
 ghost use Rattle.abs_cells.specs.Sound.{AreIdsRising};
 ghost use Rattle.abs_reach.specs.abs_sound.Zips.{all_zip};
 ghost use Rattle.class_program.specs.Views.{program_of};
-ghost use Rattle.abs_turns.specs.code_verify.Typings.{typing_at};
+ghost use Rattle.abs_plans.specs.abs_turns.code_verify.Typings.{typing_at};
 ghost use Rattle.abs_expand.specs.BadStates.{call_takes, call_at, below_running};
 ghost use Rattle.abs_expand.specs.inner.PlaceTests.{is_of_place, is_entry_of, is_of_field, are_of_fields, has_locals, placed_at};
 ghost use Rattle.abs_expand.specs.inner.PlaceTests.{is_stack_at, caller_test, running_test, fields_under, callers_test, placed_test};
 
 use abs_cells::{AbsFrame, AbsState, Cell, Id, Pairs};
+use abs_plans::abs_turns::code_verify::Typing;
 use abs_reach::abs_sound::{has_int, has_no_int};
-use abs_turns::code_verify::Typing;
 use class_program::{Op, Program, StaticField};
 use jvm_values::{FrameType, PlaceType, Slot};
 

@@ -7,7 +7,7 @@ use Rattle.std.specs.Int.{int_min, int_max, int_bit_and, int_bit_or, int_bit_xor
 use Rattle.std.proofs.lemmas.Nat.{and_le_l, and_le_r, or_lt, xor_lt, le_or_l, le_or_r, leading_length}
 use Rattle.std.proofs.lemmas.Int.{ints, clamps}
 use Rattle.std.proofs.lemmas.Bool.{and_parts}
-use Rattle.list_views.proofs.Orders.{int_through}
+use Rattle.jvm_values.proofs.list_views.Orders.{int_through}
 use Rattle.lin_core.specs.Intervals.{Bounds, IsIn, interval_of}
 use Rattle.jvm_values.specs.declared.ints.IntOp.TheVariants.{And, Or, Xor}
 use Rattle.abs_ints.specs.Bits.{is_natural, below_left, below_right, and_case, and_cases, ones_over, or_case, or_cases, xor_case}

@@ -7,7 +7,7 @@ use Rattle.std.specs.Int.{int_max, int_min}
 use Rattle.std.proofs.lemmas.Int.{ints, clamps, by_lt_z}
 use Rattle.std.proofs.lemmas.Bool.Decides.{Decides-int_eq}
 use Rattle.std.proofs.lemmas.Bool.{false_from_ne_true}
-use Rattle.list_views.proofs.Orders.{int_le_from, int_eq_from}
+use Rattle.jvm_values.proofs.list_views.Orders.{int_le_from, int_eq_from}
 use Rattle.lin_core.specs.Intervals.{Bounds, IsIn}
 use Rattle.jvm_values.specs.Ints.{cond_holds}
 use Rattle.jvm_values.specs.declared.ints.Cond.{Cond}

@@ -14,9 +14,9 @@ use Rattle.std.proofs.lemmas.Bool.{cases_lt, and_parts}
 use Rattle.std.proofs.lemmas.Bool.Decides.{Decides-int_eq}
 use Rattle.jvm_values.proofs.IntLaws.{abs_quotient}
 use Rattle.jvm_values.proofs.IntRanges.{remainder_near}
-use Rattle.list_views.proofs.Orders.{int_le_from}
+use Rattle.jvm_values.proofs.list_views.Orders.{int_le_from}
 use borrow.Author.Differences.{product_is}
-use Rattle.list_views.proofs.Ring.{neg_times}
+use Rattle.jvm_values.proofs.list_views.Ring.{neg_times}
 use Rattle.lin_core.specs.Intervals.{Bounds, IsIn, interval_of}
 use Rattle.jvm_values.specs.Ints.{int_result}
 use Rattle.jvm_values.specs.declared.ints.IntOp.{IntOp}

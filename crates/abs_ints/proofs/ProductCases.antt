@@ -8,7 +8,7 @@ use Rattle.std.proofs.Math.Nat.{mul-le-mul_left}
 use Rattle.std.proofs.lemmas.Int.{ints, clamps}
 use lib.IntN.{*ℤ_comm}
 use borrow.Author.Differences.{up, down, product_is}
-use Rattle.list_views.proofs.Ring.{neg_times}
+use Rattle.jvm_values.proofs.list_views.Ring.{neg_times}
 use Rattle.lin_core.specs.Intervals.{Bounds, IsIn}
 use Rattle.jvm_values.specs.declared.ints.IntOp.TheVariants.{Mul}
 use Rattle.abs_ints.specs.Cases.{AllTrueOf, inside}

@@ -11,7 +11,7 @@ use Rattle.std.proofs.lemmas.Int.{ints, clamps}
 use Rattle.std.proofs.lemmas.Bool.Decides.{Decides-eqb}
 use Rattle.jvm_values.proofs.IntRanges.{shift_near}
 use lib.IntN.{*ℤ_comm}
-use Rattle.list_views.proofs.Ring.{neg_times}
+use Rattle.jvm_values.proofs.list_views.Ring.{neg_times}
 use Rattle.lin_core.specs.Intervals.{Bounds, IsIn, interval_of}
 use Rattle.jvm_values.specs.Ints.{int_result, shift_count, int_shifted_left, int_shifted_right_with_zeros}
 use Rattle.jvm_values.specs.declared.ints.IntOp.{IntOp}

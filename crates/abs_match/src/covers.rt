@@ -10,10 +10,10 @@ ghost use Rattle.abs_reach.specs.Keys.{AreKeysRising};
 ghost use Rattle.abs_match.specs.inner.Matching.{image_is, over_int, is_type_below, over_unknown};
 
 use crate::maps::image_of;
+use abs_cells::lin_core::Interval;
 use abs_cells::{AbsState, Cell, Id, Ids, Pairs};
 use abs_reach::cell_of;
 use jvm_values::{Kind, Ty, Types, array_of_numbers, class_type};
-use lin_core::Interval;
 
 /// Whether an id's image is this one.
 fn has_image(entries: &[(Id, Id)], id: Id, image: Id) -> bool

@@ -12,7 +12,7 @@ use Rattle.class_program.specs.declared.program.Method.{Method}
 use Rattle.class_program.specs.declared.selected.Selected.{Selected}
 use Rattle.class_program.specs.Programs.{Program, refs_of, insn_at}
 use Rattle.class_program.specs.Selected.{selection_at, selected_in, selected_for}
-use Rattle.op_forms.specs.Forms.{Form, form_of}
+use Rattle.abs_turns.specs.op_forms.Forms.{Form, form_of}
 use Rattle.abs_turns.specs.jvm_step.Effects.{answer_of}
 use Rattle.abs_turns.proofs.jvm_step.CallOps.{virtual_op, interface_op}
 use Rattle.abs_turns.specs.declared.plans.Plan.{Plan as PlanSeen}

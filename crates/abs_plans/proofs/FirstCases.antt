@@ -5,7 +5,7 @@ use Rattle.std.specs.List.{cons_option}
 use Rattle.std.specs.Option.{option_and_then, option_map}
 use Rattle.std.proofs.lemmas.Option.{none-some}
 use Rattle.jvm_values.proofs.Options.{some_is}
-use Rattle.lin_core.specs.Intervals.{Bounds}
+use Rattle.abs_cells.specs.lin_core.Intervals.{Bounds}
 use Rattle.abs_ints.specs.Cases.{case_between}
 use Rattle.abs_ints.specs.Comparing.{related, both_of, row_of, standing_so, exchanged}
 use Rattle.abs_ints.specs.declared.cases.IntCase.{IntCase}

@@ -9,17 +9,17 @@ use Rattle.jvm_values.specs.States.{PlaceTypes}
 use Rattle.jvm_values.specs.TypedHeaps.{WorldTypes}
 use Rattle.abs_cells.specs.AbstractStates.{AbstractFrame, AbstractState}
 use Rattle.abs_cells.specs.Sound.{given_ids, ids_of_frame, IsWellFormed, IsSound}
-use Rattle.class_world.specs.WorldTypes.{types_of}
-use Rattle.code_forms.specs.declared.insn.Insn.{Insn}
-use Rattle.code_forms.specs.declared.insn.Insn.TheVariants as insns
+use Rattle.abs_turns.specs.class_world.WorldTypes.{types_of}
+use Rattle.class_program.specs.code_forms.declared.insn.Insn.{Insn}
+use Rattle.class_program.specs.code_forms.declared.insn.Insn.TheVariants as insns
 use Rattle.class_program.specs.declared.op.Op.{Op}
 use Rattle.class_program.specs.declared.op.Op.TheVariants as ops
 use Rattle.class_program.specs.declared.program.Method.{Method}
 use Rattle.class_program.specs.Programs.{Program, insn_at}
 use Rattle.class_program.specs.Good.{IsGood, IsGoodName}
 use Rattle.class_program.proofs.GoodInstructions.{good_at}
-use Rattle.op_forms.specs.Forms.{Form, form_of, form_of_insn}
-use Rattle.op_forms.specs.Forms.Form.{Newarray}
+use Rattle.abs_turns.specs.op_forms.Forms.{Form, form_of, form_of_insn}
+use Rattle.abs_turns.specs.op_forms.Forms.Form.{Newarray}
 use Rattle.frame_types.specs.Tables.{CodeTypes}
 use Rattle.abs_plans.specs.Planning.{plan_here, plan_in, plan_of}
 use Rattle.abs_turns.specs.Turns.{Here}

@@ -9,7 +9,7 @@ use Rattle.std.proofs.lemmas.Bool.{false≢true, and_parts, ne_eqb, eqb-false}
 use Rattle.std.proofs.lemmas.Option.{none-some}
 use Rattle.list_views.proofs.Quantified.{all_joined}
 use Rattle.list_views.proofs.Options.{map_some, then_some}
-use Rattle.lin_core.specs.Intervals.{Bounds}
+use Rattle.abs_cells.specs.lin_core.Intervals.{Bounds}
 use Rattle.jvm_values.specs.declared.ints.IntOp.TheVariants.{Add, Sub}
 use Rattle.jvm_values.specs.declared.types.Kind.{Kind}
 use Rattle.jvm_values.specs.declared.types.Ty.{Ty}
@@ -32,7 +32,7 @@ use Rattle.abs_ints.specs.Comparing.{related}
 use Rattle.abs_ints.specs.declared.cases.IntCase.{IntCase}
 use Rattle.abs_ints.specs.declared.cases.Way.TheVariants.{Taken}
 use Rattle.abs_ints.specs.declared.relations.Relation.TheVariants.{Below, AtLeast}
-use Rattle.class_world.specs.BuiltIns.{throwable, array_index_out_of_bounds_exception, negative_array_size_exception}
+use Rattle.abs_turns.specs.class_world.BuiltIns.{throwable, array_index_out_of_bounds_exception, negative_array_size_exception}
 use Rattle.class_program.specs.declared.op.Op.{Op}
 use Rattle.class_program.specs.declared.op.Call.{Call}
 use Rattle.class_program.specs.declared.op.FieldUse.{FieldUse}
@@ -41,13 +41,13 @@ use Rattle.class_program.specs.declared.program.CatchRange.{CatchRange}
 use Rattle.class_program.specs.declared.selected.Selected.{Selected}
 use Rattle.class_program.specs.declared.selected.Selected.TheVariants as answers
 use Rattle.class_program.specs.Programs.{insn_at}
-use Rattle.op_forms.specs.declared.form.Shuffle.{Shuffle as StackShuffle}
-use Rattle.op_forms.specs.Forms.{Form, shuffled}
-use Rattle.op_forms.specs.Forms.Form.{Nop, AconstNull, Iconst, Iload, Aload, Istore, Astore, Iinc, Shuffle, Arith, Ineg, Narrow, If}
-use Rattle.op_forms.specs.Forms.Form.{IfIcmp, IfAcmpeq, IfAcmpne, Ifnull, Ifnonnull, Goto, Tableswitch, Lookupswitch, Ireturn}
-use Rattle.op_forms.specs.Forms.Form.{Areturn, Return, Getstatic, Putstatic, Getfield, Putfield, Invokevirtual, Invokespecial}
-use Rattle.op_forms.specs.Forms.Form.{Invokestatic, Invokeinterface, New, Newarray, Anewarray, Arraylength, NumberLoad, Aaload}
-use Rattle.op_forms.specs.Forms.Form.{NumberStore, Aastore, Athrow, Checkcast, Instanceof}
+use Rattle.abs_turns.specs.op_forms.declared.form.Shuffle.{Shuffle as StackShuffle}
+use Rattle.abs_turns.specs.op_forms.Forms.{Form, shuffled}
+use Rattle.abs_turns.specs.op_forms.Forms.Form.{Nop, AconstNull, Iconst, Iload, Aload, Istore, Astore, Iinc, Shuffle, Arith, Ineg, Narrow, If}
+use Rattle.abs_turns.specs.op_forms.Forms.Form.{IfIcmp, IfAcmpeq, IfAcmpne, Ifnull, Ifnonnull, Goto, Tableswitch, Lookupswitch, Ireturn}
+use Rattle.abs_turns.specs.op_forms.Forms.Form.{Areturn, Return, Getstatic, Putstatic, Getfield, Putfield, Invokevirtual, Invokespecial}
+use Rattle.abs_turns.specs.op_forms.Forms.Form.{Invokestatic, Invokeinterface, New, Newarray, Anewarray, Arraylength, NumberLoad, Aaload}
+use Rattle.abs_turns.specs.op_forms.Forms.Form.{NumberStore, Aastore, Athrow, Checkcast, Instanceof}
 use Rattle.abs_turns.specs.term_graph.declared.links.LinkRow.{LinkRow}
 use Rattle.abs_turns.specs.Plans.{on_stack, in_local, in_bottom, in_field, Turn, Plan, steps, by_equal, no_rows}
 use Rattle.abs_turns.specs.Needs.{Passing, passes, fails, splits, passing, operands_of}

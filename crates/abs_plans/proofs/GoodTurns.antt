@@ -5,7 +5,7 @@ use Rattle.std.specs.Option.{option_map, option_and_then}
 use Rattle.std.proofs.lemmas.Option.{none-some}
 use Rattle.list_views.proofs.Quantified.{all_filtered}
 use Rattle.list_views.proofs.Options.{map_some}
-use Rattle.lin_core.specs.Intervals.{Bounds}
+use Rattle.abs_cells.specs.lin_core.Intervals.{Bounds}
 use Rattle.jvm_values.specs.declared.ints.IntOp.{IntOp}
 use Rattle.jvm_values.specs.declared.ints.IntOp.TheVariants.{Narrow as NarrowOp}
 use Rattle.jvm_values.specs.declared.ints.Cond.{Cond}

@@ -5,9 +5,9 @@ use Rattle.std.specs.List.{AllByRecursion}
 use Rattle.std.proofs.lemmas.Option.{none-some}
 use Rattle.jvm_values.proofs.Options.{some_is}
 use Rattle.abs_cells.specs.Sound.{given_ids}
-use Rattle.op_forms.specs.declared.form.Shuffle.{Shuffle as StackShuffle}
-use Rattle.op_forms.specs.declared.form.Shuffle.TheVariants.{Pop, Pop2, Dup, DupX1, DupX2, Dup2, Dup2X1, Dup2X2, Swap}
-use Rattle.op_forms.specs.Forms.{shuffled}
+use Rattle.abs_turns.specs.op_forms.declared.form.Shuffle.{Shuffle as StackShuffle}
+use Rattle.abs_turns.specs.op_forms.declared.form.Shuffle.TheVariants.{Pop, Pop2, Dup, DupX1, DupX2, Dup2, Dup2X1, Dup2X2, Swap}
+use Rattle.abs_turns.specs.op_forms.Forms.{shuffled}
 
 -- ---- locals
 

@@ -6,8 +6,8 @@ use Rattle.jvm_values.specs.declared.typing.PlaceType.{PlaceType}
 use Rattle.jvm_values.specs.TypedHeaps.{WorldTypes}
 use Rattle.jvm_values.proofs.Options.{some_is}
 use Rattle.abs_cells.specs.AbstractStates.{AbstractState}
-use Rattle.op_forms.specs.declared.form.Form.{Form as FormSeen}
-use Rattle.op_forms.specs.Forms.{Form, form_seen}
+use Rattle.abs_turns.specs.op_forms.declared.form.Form.{Form as FormSeen}
+use Rattle.abs_turns.specs.op_forms.Forms.{Form, form_seen}
 use Rattle.abs_turns.specs.declared.plans.Plan.{Plan as PlanSeen}
 use Rattle.abs_turns.specs.Plans.{Plan}
 use Rattle.abs_turns.specs.PlansSeen.{plan_seen}

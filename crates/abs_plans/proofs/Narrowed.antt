@@ -1,7 +1,7 @@
 -- The steps of a narrowing that changes its int.
 use Rattle.std.proofs.Common.{◌≡◌, ℕ, Bool, true, false, if◌then◌else◌, List, [], ◌∷◌, map, Option, Some, None, ap}
 use Rattle.std.proofs.lemmas.Option.{none-some}
-use Rattle.lin_core.specs.Intervals.{Bounds, interval_of}
+use Rattle.abs_cells.specs.lin_core.Intervals.{Bounds, interval_of}
 use Rattle.jvm_values.specs.declared.types.Kind.{Kind}
 use Rattle.jvm_values.specs.Kinds.{least_of, greatest_of}
 use Rattle.jvm_values.proofs.Options.{some_is}

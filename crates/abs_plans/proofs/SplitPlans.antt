@@ -21,8 +21,8 @@ use Rattle.abs_cells.specs.Cells.{is_known, is_of_sort, cell_at}
 use Rattle.abs_cells.specs.PairLists.{has}
 use Rattle.abs_cells.specs.Sound.{given_ids}
 use Rattle.abs_turns.specs.abs_heap.Answers.{IsNullable, IsObjectBelow}
-use Rattle.op_forms.specs.Forms.{Form}
-use Rattle.op_forms.specs.Forms.Form.{New}
+use Rattle.abs_turns.specs.op_forms.Forms.{Form}
+use Rattle.abs_turns.specs.op_forms.Forms.Form.{New}
 use Rattle.abs_turns.specs.Plans.{Plan, by_null, no_child}
 use Rattle.abs_turns.specs.Needs.{Passing, passes, fails, splits, passes_if, passing, passing_id, after_test, tested}
 use Rattle.abs_turns.specs.Needs.{may_be_null, need_null, is_unknown, known_partner, split_unknown, split_below, need_class}

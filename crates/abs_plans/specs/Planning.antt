@@ -3,10 +3,10 @@ use Rattle.std.specs.Prelude.{ℕ, List, [], ◌∷◌, Option, Some, None, slic
 use Rattle.std.specs.Option.{option_map_or}
 use Rattle.jvm_values.specs.States.{PlaceTypes}
 use Rattle.abs_cells.specs.AbstractStates.{AbstractFrame, AbstractState}
-use Rattle.class_world.specs.WorldTypes.{types_of}
+use Rattle.abs_turns.specs.class_world.WorldTypes.{types_of}
 use Rattle.class_program.specs.declared.program.Method.{Method}
 use Rattle.class_program.specs.Programs.{Program, insn_at}
-use Rattle.op_forms.specs.Forms.{Form, form_of}
+use Rattle.abs_turns.specs.op_forms.Forms.{Form, form_of}
 use Rattle.frame_types.specs.Tables.{CodeTypes}
 use Rattle.abs_turns.specs.Plans.{Plan, no_child}
 use Rattle.abs_turns.specs.Table.{plan_of_form}

@@ -13,9 +13,9 @@ ghost use Rattle.abs_turns.specs.PlansSeen.{plan_seen};
 
 use crate::abs_rows::{access_stop, no_child, one_step, receiver_stop, step_if};
 use abs_cells::{AbsFrame, Cell, Id, Pairs, copied_frames};
+use abs_turns::class_world::built_ins::{ABSTRACT_METHOD_ERROR, INCOMPATIBLE_CLASS_CHANGE_ERROR};
 use abs_turns::{Plan, Spot, moves, throws};
 use class_program::{Call, Method, Op, Selected};
-use class_world::built_ins::{ABSTRACT_METHOD_ERROR, INCOMPATIBLE_CLASS_CHANGE_ERROR};
 use list_views::{Seq, Stack};
 use std::alloc::{AllocError, Global};
 

@@ -9,8 +9,8 @@ ghost use Rattle.abs_turns.specs.PlansSeen.{turn_seen, plan_seen};
 
 use crate::abs_rows::{no_child, one_step};
 use abs_cells::{Cell, Id, Pairs};
+use abs_turns::class_world::built_ins::CLASS_CAST_EXCEPTION;
 use abs_turns::{Plan, Spot, Turn, goes_on, just, pushes, put, throws};
-use class_world::built_ins::CLASS_CAST_EXCEPTION;
 use jvm_values::{Ty, Types, array_of, array_of_numbers, class_type};
 use list_views::{Seq, Stack};
 use std::alloc::{AllocError, Global};

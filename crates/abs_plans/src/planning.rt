@@ -2,12 +2,12 @@
 ghost use Rattle.std.specs.Prelude.{◌≡◌, ◌∷◌, [], ℕ, reverse, slice_get, IfOk, Some, None};
 ghost use Rattle.std.specs.Option.{option_map_or};
 ghost use Rattle.abs_cells.specs.Sound.{IsSound};
-ghost use Rattle.class_world.specs.WorldTypes.{types_of};
+ghost use Rattle.abs_turns.specs.class_world.WorldTypes.{types_of};
 ghost use Rattle.class_program.specs.declared.program.Method.{Method as MethodSeen};
 ghost use Rattle.class_program.specs.Views.{program_of};
 ghost use Rattle.frame_types.specs.Tables.{CodeTypes};
 ghost use Rattle.abs_turns.specs.code_verify.Typings.{typing_at};
-ghost use Rattle.op_forms.specs.Forms.{form_of, form_seen};
+ghost use Rattle.abs_turns.specs.op_forms.Forms.{form_of, form_seen};
 ghost use Rattle.abs_turns.specs.Table.{row_of, plan_of_form};
 ghost use Rattle.abs_plans.specs.Planning.{plan_here, plan_in, plan_of};
 ghost use Rattle.abs_turns.specs.GoodPlans.{IsGoodPlan};
@@ -27,11 +27,11 @@ use crate::testing::{first_stop, taken_by};
 use crate::throwing::thrown;
 use abs_cells::{AbsFrame, AbsState, Id, Pairs};
 use abs_turns::code_verify::Typing;
+use abs_turns::op_forms::{Form, form_of};
 use abs_turns::{Plan, Spot};
 use class_program::{CatchRange, Op, Program};
 use jvm_values::{FrameType, Slot};
 use list_views::{Seq, Stack};
-use op_forms::{Form, form_of};
 use std::alloc::{AllocError, Global};
 
 /// The row of the form of an instruction.

@@ -5,15 +5,15 @@ ghost use Rattle.abs_turns.specs.Needs.{is_below_place, is_comparable_place, pas
 ghost use Rattle.abs_turns.specs.Table.{types_here, taken_by, shuffle_count};
 ghost use Rattle.abs_turns.specs.Stops.{stop_of, first_stop};
 ghost use Rattle.abs_plans.specs.inner.TestsSeen.{passing_seen};
-ghost use Rattle.op_forms.specs.Forms.{form_seen};
+ghost use Rattle.abs_turns.specs.op_forms.Forms.{form_seen};
 ghost use Rattle.abs_turns.specs.PlansSeen.{plan_seen};
 
 use crate::abs_rows::no_child;
 use abs_cells::{Cell, Id, Pairs};
+use abs_turns::op_forms::{Form, Shuffle};
 use abs_turns::{Plan, Spot};
 use jvm_values::{PlaceType, Ty, Types, array_of, array_of_numbers, class_type};
 use list_views::Stack;
-use op_forms::{Form, Shuffle};
 use std::alloc::Global;
 
 /// Whether an operand can be what its place's type says.

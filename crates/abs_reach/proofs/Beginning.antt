@@ -5,7 +5,7 @@ use Rattle.std.specs.Prelude.{◌↔◌}
 use Rattle.std.specs.List.{list_any}
 use Rattle.std.proofs.lemmas.Bool.{false≢true, cases_eq, and_parts, and_from}
 use Rattle.abs_reach.proofs.Answering.{none_hazy}
-use Rattle.list_views.proofs.Truths.{or_false, and_true, and_false, or_swapped}
+use Rattle.abs_cells.proofs.list_views.Truths.{or_false, and_true, and_false, or_swapped}
 use Rattle.jvm_values.specs.Paths.{Steps, Reaches}
 use Rattle.abs_cells.specs.declared.cells.Cell.{Cell}
 use Rattle.abs_cells.specs.IdSets.{has_id}

@@ -10,8 +10,8 @@ use Rattle.std.proofs.lemmas.List.{reverse-append, drop_all}
 use Rattle.std.proofs.lemmas.List.Folds.{list_any-append}
 use Rattle.std.proofs.lemmas.List.Elements.{All-append}
 use Rattle.std.proofs.lemmas.Option.{slice_get-get_or, none-some}
-use Rattle.list_views.proofs.Quantified.{all_at, every_front}
-use Rattle.list_views.proofs.Truths.{or_false, or_assoc, or_swapped}
+use Rattle.abs_cells.proofs.list_views.Quantified.{all_at, every_front}
+use Rattle.abs_cells.proofs.list_views.Truths.{or_false, or_assoc, or_swapped}
 use Rattle.jvm_values.proofs.Options.{some_is}
 use Rattle.jvm_values.proofs.PathLaws.{here, one_more, onward}
 use Rattle.abs_cells.specs.declared.cells.Cell.{Cell}

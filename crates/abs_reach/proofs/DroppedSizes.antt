@@ -3,7 +3,7 @@ use Rattle.std.proofs.Common.{◌≡◌, ℕ, zero, suc, List, [], ◌∷◌, Op
 use Rattle.std.specs.Prelude.{slice_get}
 use Rattle.std.specs.Option.{option_map, option_and_then}
 use Rattle.std.proofs.lemmas.Option.{none-some}
-use Rattle.list_views.proofs.Options.{same_answer, then_some}
+use Rattle.abs_cells.proofs.list_views.Options.{same_answer, then_some}
 use Rattle.jvm_values.proofs.Options.{some_is}
 use Rattle.jvm_values.specs.Paths.{follow, IsDagFrom}
 use Rattle.jvm_values.proofs.PathLaws.{here, one_more, onward}

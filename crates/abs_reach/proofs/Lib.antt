@@ -17,3 +17,8 @@ pub mod Thrown
 pub mod Zipped
 pub mod Lists
 pub mod Same
+-- files of crates below, given again for the crates above
+pub use Rattle.jvm_heaps.proofs.DagPaths as JvmHeapsDagPaths
+pub use Rattle.jvm_heaps.proofs.MarkLaws as JvmHeapsMarkLaws
+pub use Rattle.jvm_heaps.proofs.MarkTurns as JvmHeapsMarkTurns
+pub use Rattle.jvm_heaps.proofs.TermLaws as JvmHeapsTermLaws

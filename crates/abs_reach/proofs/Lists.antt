@@ -2,7 +2,7 @@
 use Rattle.std.proofs.Common.{◌≡◌, ◌≢◌, ◌<◌, ◌≤◌, ◌+◌, ◌∙◌, ℕ, zero, suc, List, [], ◌∷◌, length, slice_index_or, take, refl, sym}
 use Rattle.std.proofs.Common.{ap, arith}
 use Rattle.std.proofs.lemmas.List.{take_all, take_more_same}
-use Rattle.list_views.proofs.Items.{any_default}
+use Rattle.abs_cells.proofs.list_views.Items.{any_default}
 
 pub more_same : {X : Type 0} (xs ys : List X) (n : ℕ) (x y : X) → n < length xs → length xs ≡ length ys → x ≡ slice_index_or xs n x
     → y ≡ slice_index_or ys n y → x ≡ y → take n xs ≡ take n ys → take (n + 1) xs ≡ take (n + 1) ys

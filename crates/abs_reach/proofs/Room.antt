@@ -5,7 +5,7 @@ use Rattle.std.specs.Option.{option_and_then}
 use Rattle.std.specs.Prelude.{slice_get}
 use Rattle.std.proofs.lemmas.Bool.{false≢true, cases_Bool, eqb-true, cond-true, cond-false}
 use Rattle.std.proofs.lemmas.Option.{slice_get_within, none-some}
-use Rattle.list_views.proofs.Options.{then_some}
+use Rattle.abs_cells.proofs.list_views.Options.{then_some}
 use Rattle.jvm_values.proofs.Options.{some_is}
 use Rattle.jvm_values.specs.Paths.{follow}
 use Rattle.abs_cells.specs.declared.cells.Cell.{Cell}

@@ -2,7 +2,7 @@
 use Rattle.std.proofs.Common.{◌≡◌, ◌<◌, ◌∙◌, ℕ, max, Bool, true, false, List, refl, sym, ap, arith}
 use Rattle.std.specs.Prelude.{reverse}
 use Rattle.std.proofs.lemmas.List.{reverse-reverse}
-use Rattle.list_views.proofs.Truths.{same_truth}
+use Rattle.abs_cells.proofs.list_views.Truths.{same_truth}
 use Rattle.abs_cells.proofs.Checking.{low_pair}
 use Rattle.abs_cells.specs.AbstractStates.{AbstractFrame, AbstractState}
 use Rattle.abs_cells.specs.PairLists.{pair_of, IsRising, has_pair, AreAmong}

@@ -6,7 +6,7 @@ use Rattle.std.specs.Option.{option_and_then}
 use Rattle.std.proofs.lemmas.Bool.{false≢true, cases_lt, or_cases, or_left, or_right, eqb-true}
 use Rattle.std.proofs.lemmas.List.{same_from_push}
 use Rattle.std.proofs.lemmas.Option.{none-some}
-use Rattle.list_views.proofs.Options.{then_some}
+use Rattle.abs_cells.proofs.list_views.Options.{then_some}
 use Rattle.jvm_values.specs.Paths.{Steps, follow, Reaches, IsDagFrom, IsTreeFrom}
 use Rattle.jvm_values.proofs.Options.{some_is}
 use Rattle.jvm_values.proofs.PathLaws.{here, one_more, onward, joined}

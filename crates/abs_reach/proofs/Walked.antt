@@ -5,7 +5,7 @@ use Rattle.std.specs.Prelude.{◌↔◌, slice_get}
 use Rattle.std.specs.Option.{option_and_then}
 use Rattle.std.proofs.lemmas.Bool.{false≢true, cases_Bool, or_cases, or_parts, not-true, not-false}
 use Rattle.std.proofs.lemmas.Option.{none-some}
-use Rattle.list_views.proofs.Options.{then_some}
+use Rattle.abs_cells.proofs.list_views.Options.{then_some}
 use Rattle.jvm_values.specs.Paths.{follow, Reaches, IsDagFrom, IsTreeFrom}
 use Rattle.jvm_values.proofs.Options.{some_is}
 use Rattle.abs_cells.specs.declared.cells.Cell.{Cell}

@@ -4,7 +4,7 @@ use Rattle.std.proofs.Common.{slice_index_or, drop, inl, inr, refl, sym, ap, sub
 use Rattle.std.proofs.lemmas.Bool.{false≢true, and_parts, and_from, cases_eq}
 use Rattle.std.proofs.lemmas.List.{drop_all, drop_more}
 use Rattle.std.specs.List.{AllZip}
-use Rattle.list_views.proofs.Items.{any_default}
+use Rattle.abs_cells.proofs.list_views.Items.{any_default}
 use Rattle.abs_reach.specs.abs_sound.Zips.{all_zip}
 
 -- one place more

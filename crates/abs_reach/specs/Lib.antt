@@ -14,3 +14,6 @@ pub mod Keys
 pub mod inner
 pub mod abs_sound
 pub mod abs_equal
+-- files of crates below, given again for the crates above
+pub use Rattle.jvm_heaps.specs.AcyclicTerms as JvmHeapsAcyclicTerms
+pub use Rattle.jvm_heaps.specs.Marks as JvmHeapsMarks

@@ -11,8 +11,8 @@ ghost use Rattle.abs_reach.specs.declared.find.Names.TheVariants.{All};
 
 use crate::find::Names;
 use crate::walk::{Found, Trail, walk, walk_all};
+use abs_cells::list_views::Stack;
 use abs_cells::{AbsState, Id, IdSet, Pairs};
-use list_views::Stack;
 use std::alloc::{AllocError, Global};
 use std::marker::Model;
 

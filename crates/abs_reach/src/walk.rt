@@ -8,8 +8,8 @@ ghost use Rattle.abs_reach.specs.inner.Steps.{steps_in, counted_steps_in, AreNam
 ghost use Rattle.abs_reach.specs.inner.Turns.{IsWith, IsBegun, Leaves, Meets, Enters};
 
 use crate::find::{Names, is_reference_in, step};
+use abs_cells::list_views::Stack;
 use abs_cells::{Cell, Id, IdSet};
-use list_views::Stack;
 
 /// The ids from which a walk has not come back yet, each with the place of its next step. The top is the one from which
 /// it goes on.

@@ -7,7 +7,7 @@ use Rattle.std.proofs.lemmas.Int.{ints}
 use Rattle.std.proofs.lemmas.List.{drop_more, drop_all}
 use Rattle.std.proofs.lemmas.List.Elements.{filter_map-append}
 use Rattle.jvm_step.specs.code_forms.declared.insn.Case.{Case}
-use Rattle.lin_core.specs.Intervals.{Bounds, interval_of}
+use Rattle.abs_cells.specs.lin_core.Intervals.{Bounds, interval_of}
 use Rattle.abs_ints.specs.IntIntervals.{all_ints, just}
 use Rattle.abs_turns.specs.Switches.{table_keys, lookup_keys, parts_from, parts_of}
 

@@ -1,7 +1,7 @@
 -- What comes in the place of a form's row, if anything does: a split, a throw, or no child. The code asks for it before it makes a row.
 use Rattle.std.specs.Prelude.{ℕ, Bool, true, false, ◌&&◌, ◌||◌, if◌then◌else◌, List, [], ◌∷◌, filter, Option, Some, None}
 use Rattle.std.specs.List.{find, list_any}
-use Rattle.lin_core.specs.Intervals.{Bounds, interval_of}
+use Rattle.abs_cells.specs.lin_core.Intervals.{Bounds, interval_of}
 use Rattle.jvm_values.specs.declared.types.Kind.{Kind}
 use Rattle.jvm_values.specs.Kinds.{least_of, greatest_of}
 use Rattle.jvm_values.specs.declared.typing.PlaceType.{PlaceType}

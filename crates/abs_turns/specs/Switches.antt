@@ -1,6 +1,6 @@
 -- The numbers of a switch's operand: keys rising, with the gaps before, between and after them, which lead to the default.
 use Rattle.std.specs.Prelude.{ℕ, ℤ, pos, ◌+ℤ◌, ◌-ℤ◌, List, [], ◌∷◌, map, Option, Some}
-use Rattle.lin_core.specs.Intervals.{Bounds, interval_of}
+use Rattle.abs_cells.specs.lin_core.Intervals.{Bounds, interval_of}
 use Rattle.jvm_step.specs.code_forms.declared.insn.Case.{Case}
 use Rattle.abs_ints.specs.IntIntervals.{all_ints, just}
 

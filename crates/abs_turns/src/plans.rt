@@ -1,8 +1,8 @@
 //! What becomes of an abstract state, as data.
 use crate::short_rows::RowsOver;
+use abs_cells::list_views::Seq;
 use abs_cells::{AbsFrame, Cell, Id};
 use jvm_values::{Slot, Ty};
-use list_views::Seq;
 
 /// A write of a reference.
 #[derive(Clone, Copy)]

@@ -4,8 +4,8 @@ ghost use Rattle.jvm_step.specs.op_forms.declared.form.Shuffle.TheVariants as sh
 ghost use Rattle.jvm_step.specs.op_forms.Forms.{shuffled};
 
 use abs_cells::Id;
+use abs_cells::list_views::Stack;
 use jvm_step::op_forms::Shuffle;
-use list_views::Stack;
 use std::alloc::AllocError;
 
 /// Takes so many ids from the top.

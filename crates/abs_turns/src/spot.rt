@@ -13,12 +13,12 @@ ghost use Rattle.abs_turns.specs.Turns.{frames_at, with_stack, interval_in, inte
 ghost use Rattle.abs_turns.specs.Needs.{may_be_null, is_unknown, known_partner};
 ghost use Rattle.abs_turns.specs.Table.{local_here, is_null_here, place_under, bottom_of, locals_of_method, static_local};
 
+use abs_cells::lin_core::Interval;
+use abs_cells::list_views::{Seq, Stack};
 use abs_cells::{AbsFrame, AbsState, Cell, Id, Pairs, copied_frames, is_pair};
 use abs_heap::abs_reach::cell_of;
 use jvm_step::class_program::Program;
 use jvm_values::{FrameType, PlaceType};
-use lin_core::Interval;
-use list_views::{Seq, Stack};
 use std::alloc::{AllocError, Global};
 use std::marker::Model;
 

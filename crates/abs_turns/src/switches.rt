@@ -2,7 +2,7 @@
 ghost use Rattle.std.specs.Prelude.{◌≡◌, ◌≤ℤ◌, ◌-ℤ◌, ◌++◌, ◌∷◌, [], ℤ, pos, negsuc, map, IfOk, Some};
 ghost use Rattle.std.specs.Option.{option_map, option_and_then, option_to_list};
 ghost use Rattle.std.specs.List.{filter_map};
-ghost use Rattle.lin_core.specs.Intervals.{interval_of};
+ghost use Rattle.abs_cells.specs.lin_core.Intervals.{interval_of};
 ghost use Rattle.abs_cells.specs.declared.cells.Cell.TheVariants as cells;
 ghost use Rattle.abs_ints.specs.IntIntervals.{just, meet_of};
 ghost use Rattle.abs_turns.specs.Plans.{no_rows};
@@ -13,10 +13,10 @@ ghost use Rattle.abs_turns.specs.PlansSeen.{turn_seen};
 use crate::plans::{Rows, Turn};
 use crate::spot::Spot;
 use crate::turns::{narrows, one_narrowed, put};
+use abs_cells::lin_core::Interval;
+use abs_cells::list_views::{Seq, Stack};
 use abs_cells::{Id, Pairs};
 use jvm_step::code_forms::Case;
-use lin_core::Interval;
-use list_views::{Seq, Stack};
 use std::alloc::{AllocError, Global};
 
 /// The numbers of an interval from one number to another one, if any.

@@ -17,12 +17,12 @@ use crate::operands::Operand;
 use crate::plans::{Act, Goal, Rows, Turn};
 use crate::short_rows::RowsOver;
 use crate::spot::{Spot, stacked};
+use abs_cells::lin_core::Interval;
+use abs_cells::list_views::{Seq, Stack};
 use abs_cells::{AbsFrame, Cell, Id, Ids, Pairs};
 use abs_ints::{Few, IntCase, ShortRow, Way, compare, operate};
 use jvm_step::class_world::built_ins::ARITHMETIC_EXCEPTION;
 use jvm_values::{Cond, IntOp, Kind};
-use lin_core::Interval;
-use list_views::{Seq, Stack};
 use std::alloc::{AllocError, Global};
 
 /// Frames change, and nothing else.

@@ -9,7 +9,7 @@ ghost use Rattle.asm_lines.specs.Statements.{sizes_of, make_method, method_line,
 
 use crate::fault::AsmFault;
 use crate::number::{Number, hex_bytes, read_number};
-use class_base::{ABSTRACT, NATIVE, PRIVATE, STATIC, SYNCHRONIZED};
+use code_forms::class_base::{ABSTRACT, NATIVE, PRIVATE, STATIC, SYNCHRONIZED};
 use list_views::Seq;
 use std::alloc::{AllocError, Global};
 

@@ -14,7 +14,7 @@ use Rattle.class_program.specs.Programs.{Program}
 use Rattle.class_program.specs.Widths.{HasWidths}
 use Rattle.code_verify.specs.Typings.{IsTypingOf}
 use Rattle.jvm_values.specs.States.{MachineState}
-use Rattle.jvm_step.specs.Running.{run, IsEnd}
+use Rattle.jvm_run.specs.jvm_step.Running.{run, IsEnd}
 use Rattle.jvm_run.specs.Laws.{StepsAreTyped}
 use Rattle.input_desc.specs.declared.desc.Desc.{Desc}
 use Rattle.input_desc.specs.Fitting.{FitsDescription}

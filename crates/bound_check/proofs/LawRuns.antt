@@ -15,7 +15,7 @@ use Rattle.class_program.specs.Programs.{Program, IsClosed}
 use Rattle.class_program.specs.Widths.{HasWidths}
 use Rattle.frame_types.specs.Tables.{CodeTypes}
 use Rattle.code_verify.specs.Typings.{IsTypingOf}
-use Rattle.jvm_step.specs.Running.{step, step_on, run, IsEnd}
+use Rattle.jvm_run.specs.jvm_step.Running.{step, step_on, run, IsEnd}
 use Rattle.jvm_run.specs.Laws.{StepsAreTyped}
 use Rattle.descent.specs.declared.rules.PathRule.{PathRule}
 use Rattle.descent.specs.Chains.{Turn}

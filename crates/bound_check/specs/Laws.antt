@@ -6,7 +6,7 @@ use Rattle.class_program.specs.Programs.{Program, IsClosed}
 use Rattle.class_program.specs.Widths.{HasWidths}
 use Rattle.frame_types.specs.Tables.{CodeTypes}
 use Rattle.code_verify.specs.Typings.{IsTypingOf}
-use Rattle.jvm_step.specs.Running.{run, IsEnd}
+use Rattle.jvm_run.specs.jvm_step.Running.{run, IsEnd}
 use Rattle.input_desc.specs.declared.desc.Desc.{Desc}
 use Rattle.input_desc.specs.Descs.{IsOwnDesc}
 use Rattle.input_desc.specs.Fitting.{FitsDescription}

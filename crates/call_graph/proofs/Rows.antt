@@ -7,7 +7,7 @@ use Rattle.std.specs.List.{filter_map, flat_map, range_with_len, cons_option}
 use Rattle.std.specs.Option.{option_to_list}
 use Rattle.std.proofs.lemmas.Option.{slice_get_within, slice_get-get_or}
 use Rattle.class_program.specs.declared.program.Method.{Method}
-use Rattle.class_read.specs.Content.{ClassContent}
+use Rattle.class_program.specs.class_read.Content.{ClassContent}
 use Rattle.class_world.specs.declared.fault.MethodName.{MethodName}
 use Rattle.class_program.specs.Good.{IsGood, IsGoodMethod}
 use Rattle.number_graphs.specs.Graphs.{IsOnCycle, IsLeastOnCycle}

@@ -1,7 +1,7 @@
 -- Which methods of a program can call which (JVM specification, SE 8, section 6.5: invokestatic, invokespecial,
 -- invokevirtual and invokeinterface).
 use Rattle.std.specs.Prelude.{◌≡◌, ℕ, List, Result, Ok, Err, Some, slice_get}
-use Rattle.class_read.specs.Content.{ClassContent}
+use Rattle.class_program.specs.class_read.Content.{ClassContent}
 use Rattle.class_world.specs.declared.fault.MethodName.{MethodName}
 use Rattle.class_program.specs.declared.op.Op.{Op}
 use Rattle.class_program.specs.declared.program.Method.{Method}

@@ -7,7 +7,7 @@ use Rattle.frame_types.specs.Tables.{CodeTypes}
 use Rattle.input_desc.specs.declared.desc.Desc.{Desc}
 use Rattle.input_desc.specs.declared.states.StateInput.{StateInput}
 use Rattle.input_desc.specs.Entries.{entry_of}
-use Rattle.input_fits.specs.Givens.{IsFitting}
+use Rattle.loop_check.specs.InputFitsGivens.{IsFitting}
 use Rattle.input_steps.specs.declared.refused.Refused.{Refused}
 use Rattle.input_steps.specs.Classes.{IsWorldOf}
 use Rattle.check_call.specs.declared.outcome.Outcome.{Outcome}

@@ -12,10 +12,10 @@ use Rattle.json_view.specs.declared.fault.JsonFault.TheVariants as json
 use Rattle.input_text.specs.Answers.{Reader, SaysOf}
 use Rattle.descent.specs.declared.rules.PathRule.{PathRule}
 use Rattle.term_graph.specs.declared.links.Link.{Link}
-use Rattle.graph_check.proofs.OneGraph.{links_one}
+use Rattle.cert_check.proofs.graph_check.OneGraph.{links_one}
 use Rattle.path_rules.specs.Answers.{Answers as HasRulesOr}
 use Rattle.cert_check.specs.Valid.{Case, IsValid}
-use Rattle.cert_verdict.proofs.Rules.{path_rules_one}
+use Rattle.check_call.proofs.CertVerdictRules.{path_rules_one}
 use Rattle.bound_text.specs.declared.texts.BoundText.{BoundText}
 use Rattle.bound_text.specs.Texts.{bound_text_of}
 use Rattle.bound_check.specs.declared.bound.Bound.{Bound}

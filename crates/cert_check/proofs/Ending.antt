@@ -23,7 +23,7 @@ use Rattle.jvm_heaps.proofs.TermLaws.{ComesTo, one_step, step_more, fewer_open}
 use Rattle.abs_cells.specs.AbstractStates.{AbstractState}
 use Rattle.abs_cells.specs.Fits.{Meaning, Fits}
 use Rattle.abs_cells.specs.Patterns.{Pattern}
-use Rattle.class_world.specs.WorldTypes.{types_of}
+use Rattle.class_program.specs.class_world.WorldTypes.{types_of}
 use Rattle.class_program.specs.Programs.{Program, IsClosed}
 use Rattle.class_program.specs.Widths.{HasWidths}
 use Rattle.class_program.proofs.GoodPrograms.{good_program}
@@ -32,7 +32,7 @@ use Rattle.code_verify.specs.Typings.{IsTypingOf}
 use Rattle.code_verify.specs.TypedStates.{IsTypedState}
 use Rattle.jvm_step.specs.Running.{Ends}
 use Rattle.plan_links.specs.jvm_run.Laws.{GoesTyped, StepsAreTyped, RunsAreNeverStuck}
-use Rattle.input_desc.specs.Initial.{initial_of}
+use Rattle.input_root.specs.InputDescInitial.{initial_of}
 use Rattle.input_root.specs.Roots.{input_values, FittingStatesAreTyped, FittingStatesAreDescribed}
 use Rattle.descent.specs.declared.rules.PathRule.{PathRule}
 use Rattle.descent.specs.declared.rules.SlotForm.{SlotForm}
@@ -47,7 +47,7 @@ use Rattle.path_rules.specs.Paths.{Path, edges, is_cut, inner_edges, only_last, 
 use Rattle.path_rules.specs.Stops.{Stop, Leg, child, instance, AreSizes, LinkedGraph, leg_by, stop_at, leg_at, ride_at, rides_from}
 use Rattle.path_rules.specs.Rules.{IsRuleOf}
 use Rattle.graph_check.proofs.step_laws.Meeting.{closed_state}
-use Rattle.term_enc.specs.Sizes.{weight_of}
+use Rattle.path_rules.specs.TermEncSizes.{weight_of}
 use Rattle.path_rules.specs.Walks.{Spot, FitsStop, Crosses, IsWalk, last_of, SlotIs, SlotsAre, WalksMeetRules}
 use Rattle.graph_check.specs.abs_expand.Laws.{IsAfter, IsMet}
 use Rattle.graph_check.specs.Good.{IsGoodNode}

@@ -13,8 +13,8 @@ use Rattle.abs_cells.specs.AbstractStates.{AbstractState}
 use Rattle.abs_cells.specs.Cells.{is_int, type_of_cell, HasCell}
 use Rattle.abs_cells.specs.Sound.{IsWellFormed}
 use Rattle.jvm_values.specs.declared.types.Ty.{Ty}
-use Rattle.abs_reach.specs.Instances.{IsOver, IsNullOrBelow, InstanceOf, whole_map, cells}
-use Rattle.class_world.specs.WorldTypes.{types_of}
+use Rattle.graph_check.specs.AbsReachInstances.{IsOver, IsNullOrBelow, InstanceOf, whole_map, cells}
+use Rattle.class_program.specs.class_world.WorldTypes.{types_of}
 use Rattle.class_program.specs.Programs.{Program}
 use Rattle.frame_types.specs.Tables.{CodeTypes}
 use Rattle.term_graph.specs.declared.links.Link.{Link}

@@ -6,10 +6,10 @@ use Rattle.class_program.specs.Widths.{HasWidths}
 use Rattle.frame_types.specs.Tables.{CodeTypes}
 use Rattle.code_verify.specs.Typings.{IsTypingOf}
 use Rattle.jvm_step.specs.Running.{Ends, IsNeverStuck}
-use Rattle.input_desc.specs.declared.desc.Desc.{Desc}
-use Rattle.input_desc.specs.Descs.{IsOwnDesc}
-use Rattle.input_desc.specs.Fitting.{FitsDescription}
-use Rattle.input_desc.specs.Initial.{initial_of}
+use Rattle.input_root.specs.InputDescDesc.{Desc}
+use Rattle.input_root.specs.InputDescDescs.{IsOwnDesc}
+use Rattle.input_root.specs.InputDescFitting.{FitsDescription}
+use Rattle.input_root.specs.InputDescInitial.{initial_of}
 use Rattle.abs_cells.specs.AbstractStates.{AbstractState}
 use Rattle.term_graph.specs.declared.nodes.By.TheVariants.{End}
 use Rattle.term_graph.specs.Graphs.{GraphNode}

@@ -6,13 +6,13 @@ use Rattle.std.proofs.Props.{props}
 use Rattle.std.proofs.lemmas.List.Elements.{All-from_recursion}
 use Rattle.list_views.proofs.Quantified.{all_at, all_places}
 use Rattle.abs_cells.specs.AbstractStates.{AbstractState}
-use Rattle.abs_plans.proofs.GoodPlans.{plan_is_good}
-use Rattle.abs_expand.specs.Expansions.{plan_of}
+use Rattle.prove_core.proofs.AbsPlansGoodPlans.{plan_is_good}
+use Rattle.cert_check.specs.abs_expand.Expansions.{plan_of}
 use Rattle.class_program.specs.Good.{IsGood}
 use Rattle.class_program.specs.Programs.{Program}
 use Rattle.class_world.specs.WorldTypes.{types_of}
 use Rattle.frame_types.specs.Tables.{CodeTypes}
-use Rattle.graph_check.specs.Good.{HasChildren}
+use Rattle.cert_check.specs.graph_check.Good.{HasChildren}
 use Rattle.term_graph.specs.Graphs.{GraphNode, GraphPart, GraphChild}
 use Rattle.filled_graphs.specs.Filling.{Takes, HasStateOf, IsFilled, ways_of}
 use Rattle.graph_fill.specs.ChildrenOfStates.{child_rules, IsFilledGraph}

@@ -15,8 +15,8 @@ use Rattle.term_graph.specs.declared.nodes.By.TheVariants.{Expand}
 use Rattle.term_graph.specs.Graphs.{GraphNode, GraphPart, GraphChild}
 use Rattle.filled_graphs.specs.Filling.{IsChildAt, HasStateOf, IsNodeOf, CanBeFilled, ways_of}
 use Rattle.filled_graphs.specs.lemmas.Lists.{image_at, mapped_of}
-use Rattle.graph_check.specs.Good.{NamesChild, IsExpanded, IsLeftBy, IsGoodNode, GraphOk}
-use Rattle.abs_expand.proofs.ZipLists.{beside}
+use Rattle.cert_check.specs.graph_check.Good.{NamesChild, IsExpanded, IsLeftBy, IsGoodNode, GraphOk}
+use Rattle.cert_check.proofs.abs_expand.ZipLists.{beside}
 use Rattle.graph_fill.specs.ChildrenOfStates.{child_rules, IsFilledGraph}
 use Rattle.graph_fill.specs.Laws.{ArePartsOf, IsStateOrNone}
 use Rattle.cert_making.proofs.FirstNames.{first_below}

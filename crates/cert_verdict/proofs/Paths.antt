@@ -8,7 +8,7 @@ use Rattle.std.proofs.lemmas.Option.{slice_get_within, get_or_from_slice_get, no
 use Rattle.list_views.proofs.Quantified.{all_at}
 use Rattle.jvm_values.proofs.Options.{some_is}
 use Rattle.term_graph.specs.Graphs.{GraphNode}
-use Rattle.path_rules.specs.Paths.{Path, IsPath, is_earlier, is_before, Rise, AreAllPaths, HasTooManyPaths}
+use Rattle.cert_check.specs.PathRulesPaths.{Path, IsPath, is_earlier, is_before, Rise, AreAllPaths, HasTooManyPaths}
 
 -- ---- the order of paths
 

@@ -15,13 +15,13 @@ use Rattle.abs_cells.proofs.PatternLaws.{one_pattern}
 use Rattle.descent.specs.declared.rules.PathRule.{PathRule}
 use Rattle.term_graph.specs.declared.links.Link.{Link}
 use Rattle.term_graph.specs.Graphs.{GraphNode}
-use Rattle.path_rules.specs.Answers.{AreRulesOf, HaveFewRows, HasRules, IsFirstTooLong, Answers as HasRulesOr}
-use Rattle.path_rules.specs.Paths.{Path, IsLeastUncut}
-use Rattle.path_rules.specs.Rules.{IsRuleOf, rule_over}
-use Rattle.abs_reach.specs.Keys.{AreKeysRising}
-use Rattle.path_rules.specs.Stops.{pattern_in, AreSizes, LinkedGraph}
-use Rattle.path_rules.specs.declared.fault.PathFault.{PathFault}
-use Rattle.path_rules.specs.declared.fault.PathFault.TheVariants.{Uncut, TooManyPaths, TooManyRows, Memory}
+use Rattle.cert_check.specs.PathRulesAnswers.{AreRulesOf, HaveFewRows, HasRules, IsFirstTooLong, Answers as HasRulesOr}
+use Rattle.cert_check.specs.PathRulesPaths.{Path, IsLeastUncut}
+use Rattle.cert_check.specs.PathRulesRules.{IsRuleOf, rule_over}
+use Rattle.cert_check.specs.AbsReachKeys.{AreKeysRising}
+use Rattle.cert_check.specs.PathRulesStops.{pattern_in, AreSizes, LinkedGraph}
+use Rattle.cert_check.specs.PathRulesPathFault.{PathFault}
+use Rattle.cert_check.specs.PathRulesPathFault.TheVariants.{Uncut, TooManyPaths, TooManyRows, Memory}
 use Rattle.cert_verdict.proofs.Paths.{paths_one, few_or_many}
 
 -- ---- lists of patterns

@@ -8,18 +8,18 @@ use Rattle.descent.specs.declared.faults.StepFault.TheVariants as proofs
 use Rattle.descent.specs.declared.rules.PathRule.{PathRule}
 use Rattle.descent.specs.Steps.{proof_fault}
 use Rattle.term_graph.specs.declared.links.Link.{Link}
-use Rattle.path_rules.specs.declared.fault.PathFault.{PathFault}
-use Rattle.path_rules.specs.declared.fault.PathFault.TheVariants as paths
-use Rattle.path_rules.specs.Answers.{Answers as HasRulesOr}
-use Rattle.graph_check.specs.declared.fault.What.{What}
-use Rattle.graph_check.specs.Good.{IsFault}
+use Rattle.cert_check.specs.PathRulesPathFault.{PathFault}
+use Rattle.cert_check.specs.PathRulesPathFault.TheVariants as paths
+use Rattle.cert_check.specs.PathRulesAnswers.{Answers as HasRulesOr}
+use Rattle.cert_check.specs.graph_check.declared.fault.What.{What}
+use Rattle.cert_check.specs.graph_check.Good.{IsFault}
 use Rattle.cert_check.specs.declared.refusal.Cause.{Cause}
 use Rattle.cert_check.specs.declared.refusal.Cause.TheVariants.{Graph, Cuts, Path, Proof}
 use Rattle.cert_check.specs.declared.refusal.Refusal.{Refusal}
 use Rattle.cert_check.specs.declared.refusal.Refusal.TheVariants.{Item, Memory}
 use Rattle.cert_check.specs.Valid.{Case, HasGoodGraph, AreCuts, HasPathRules, graph_item, Tells}
 use Rattle.cert_verdict.specs.OneVerdict.{VerdictsAreOne}
-use Rattle.graph_check.proofs.OneGraph.{links_one, fault_one, good_or_fault}
+use Rattle.cert_check.proofs.graph_check.OneGraph.{links_one, fault_one, good_or_fault}
 use Rattle.cert_verdict.proofs.Rules.{path_rules_one, path_rules_or_fault, path_fault_one}
 
 abbrev Verdict : Type 0

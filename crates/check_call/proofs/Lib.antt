@@ -7,3 +7,5 @@ pub mod Outcomes
 pub mod ProgramNumbers
 pub mod Reading
 pub mod Saying
+-- files of crates below, given again for the crates above
+pub use Rattle.cert_verdict.proofs.Rules as CertVerdictRules

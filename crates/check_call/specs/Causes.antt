@@ -7,8 +7,8 @@ use Rattle.descent.specs.declared.faults.DescentFault.{DescentFault}
 use Rattle.descent.specs.declared.faults.DescentFault.TheVariants as proofs
 use Rattle.path_rules.specs.declared.fault.PathFault.{PathFault}
 use Rattle.path_rules.specs.declared.fault.PathFault.TheVariants as paths
-use Rattle.graph_check.specs.declared.fault.What.{What}
-use Rattle.graph_check.specs.declared.fault.What.TheVariants as graphs
+use Rattle.cert_check.specs.graph_check.declared.fault.What.{What}
+use Rattle.cert_check.specs.graph_check.declared.fault.What.TheVariants as graphs
 use Rattle.cert_check.specs.declared.refusal.Cause.{Cause}
 use Rattle.cert_check.specs.declared.refusal.Cause.TheVariants.{Graph, Cuts, Path, Proof}
 

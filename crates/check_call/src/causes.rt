@@ -4,8 +4,8 @@ ghost use Rattle.check_call.specs.Causes.{two_fields, lin_name, lin_fields, what
 ghost use Rattle.check_call.specs.Causes.{proof_name, proof_fields, cause_name, cause_fields, cause_text};
 
 use cert_check::Cause;
+use cert_check::graph_check::What;
 use descent::{DescentFault, LinFault};
-use graph_check::What;
 use list_views::Seq;
 use list_views::fault_words::{joined, number_field};
 use path_rules::PathFault;

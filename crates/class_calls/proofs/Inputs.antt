@@ -14,8 +14,8 @@ use Rattle.class_world.specs.WorldTypes.{types_of}
 use Rattle.class_program.specs.declared.program.Method.{Method}
 use Rattle.class_program.specs.Programs.{Program, IsClosed}
 use Rattle.class_program.specs.Widths.{HasWidths}
-use Rattle.code_verify.specs.Operands.{place_of}
-use Rattle.code_verify.specs.TypedStates.{HasPlaceType}
+use Rattle.jvm_run.specs.code_verify.Operands.{place_of}
+use Rattle.jvm_run.specs.code_verify.TypedStates.{HasPlaceType}
 use Rattle.jvm_step.specs.Running.{entered, start, IsNeverStuck}
 use Rattle.jvm_run.specs.Laws.{AreInputs}
 use Rattle.jvm_run.proofs.TypedRuns.{never_stuck, starts_typed}

@@ -10,8 +10,8 @@ use Rattle.std.proofs.lemmas.Bool.{or_right, false_from_ne_true, not-true, not_f
 use Rattle.std.proofs.lemmas.Slice.Eq.{bytes_eq-Decides}
 use Rattle.std.proofs.lemmas.List.{append-nil, length-append, nil_from_length}
 use Rattle.std.proofs.lemmas.List.Concat.{flat_map-cons}
-use Rattle.list_views.proofs.Items.{length_mapped}
-use Rattle.list_views.proofs.Options.{none_from_is_none}
+use Rattle.class_base.proofs.list_views.Items.{length_mapped}
+use Rattle.class_base.proofs.list_views.Options.{none_from_is_none}
 use Rattle.class_pool.specs.declared.entry.PoolEntry.{PoolEntry}
 use Rattle.class_pool.specs.Text.{utf8_at, class_name_at}
 use Rattle.class_read.specs.declared.fault.ClassFault.TheVariants.{BadDescriptor, CodeLength, MissingCode, ExtraCode}

@@ -1,7 +1,7 @@
 -- One more step of a repeated reading.
 use Rattle.std.proofs.Common.{◌≡◌, ℕ, suc, ◌+◌, ◌-◌, ◌<◌, ◌≤◌, List, [], ◌∷◌, ◌++◌, Result, Ok, Err, refl, sym, ◌∙◌, arith}
 use Rattle.class_read.specs.declared.fault.ClassFault.{ClassFault}
-use Rattle.list_views.proofs.Steps.{handed_on}
+use Rattle.class_base.proofs.list_views.Steps.{handed_on}
 use Rattle.class_read.specs.Reading.{Read, repeated, collected, is_memory, Fails, Gives}
 
 -- a fault of a part is the fault of the whole

@@ -3,7 +3,7 @@ use Rattle.std.proofs.Common.{◌≡◌, ◌||◌, not, cond, Bool, true, false,
 use Rattle.std.specs.List.{list_any}
 use Rattle.std.proofs.lemmas.List.{map-append}
 use Rattle.std.proofs.lemmas.List.Folds.{list_any-append}
-use Rattle.list_views.proofs.Truths.{or_behind}
+use Rattle.class_base.proofs.list_views.Truths.{or_behind}
 use Rattle.class_pool.specs.declared.entry.PoolEntry.{PoolEntry}
 use Rattle.class_pool.specs.Text.{utf8_at}
 use Rattle.class_read.specs.declared.fault.ClassFault.{ClassFault}

@@ -18,8 +18,8 @@ use Rattle.std.proofs.lemmas.Bool.{cases_lt, false_from_ne_true, and_parts}
 use Rattle.std.specs.Cmp.{nat_cmp_is}
 use Rattle.std.proofs.lemmas.List.Sums.{position_or_len_is, passes_at_first}
 use Rattle.std.proofs.lemmas.Option.{same_Some}
-use Rattle.list_views.proofs.SameBytes.{bytes_eq_true, bytes_eq_self}
-use Rattle.list_views.proofs.Truths.{same_truth, or_twice, or_over}
+use Rattle.class_base.proofs.list_views.SameBytes.{bytes_eq_true, bytes_eq_self}
+use Rattle.class_base.proofs.list_views.Truths.{same_truth, or_twice, or_over}
 use Rattle.class_pool.specs.declared.entry.PoolEntry.{PoolEntry}
 use Rattle.class_pool.specs.Text.{places_of, utf8_at}
 use Rattle.class_read.specs.Rules.{Key, same_key, text_of}

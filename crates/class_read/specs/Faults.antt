@@ -1,6 +1,6 @@
 -- The faults of class files in words. A pool's fault stands for the class's.
 use Rattle.std.specs.Prelude.{ℕ, List, [], ◌∷◌, codes}
-use Rattle.list_views.specs.FaultWords.{joined, number_field}
+use Rattle.class_base.specs.list_views.FaultWords.{joined, number_field}
 use Rattle.class_pool.specs.Faults.{fault_name as pool_fault_name, fault_fields as pool_fault_fields}
 use Rattle.class_read.specs.declared.fault.ClassFault.{ClassFault}
 use Rattle.class_read.specs.declared.fault.ClassFault.TheVariants.{BadMagic, Version, Pool, Truncated, BadDescriptor}

@@ -2,8 +2,8 @@
 use Rattle.std.specs.Prelude.{ℕ, zero, suc, ◌-◌, Bool, true, false, List, [], ◌∷◌, ◌++◌, length, take, drop, Option, Some, None}
 use Rattle.std.specs.Prelude.{Result, Ok, Err, nat_lt, ◌==◌, if◌then◌else◌}
 use Rattle.std.specs.Int.{w16, w32, from_be_bytes}
-use Rattle.list_views.specs.Results as results
-use Rattle.list_views.specs.Results.{IsDue}
+use Rattle.class_base.specs.list_views.Results as results
+use Rattle.class_base.specs.list_views.Results.{IsDue}
 use Rattle.class_read.specs.declared.fault.ClassFault.{ClassFault}
 use Rattle.class_read.specs.declared.fault.ClassFault.TheVariants.{Truncated, BadDescriptor, CodeLength, Memory}
 

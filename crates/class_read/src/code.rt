@@ -11,7 +11,7 @@ use crate::field::{bytes_of, place, u2, u4};
 use crate::known::KnownPool;
 use crate::view::CodeView;
 use class_base::Handler;
-use list_views::Seq;
+use class_base::list_views::Seq;
 use std::alloc::Global;
 
 fn is_catch(pool: &KnownPool<'_>, index: u16) -> bool

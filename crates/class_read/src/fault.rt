@@ -4,9 +4,9 @@ ghost use Rattle.std.specs.Prelude.{◌≡◌, IfOk};
 ghost use Rattle.class_read.specs.declared.fault.ClassFault.TheVariants.{Memory};
 ghost use Rattle.class_read.specs.Faults.{fault_name, fault_fields, fault_text};
 
+use class_base::list_views::Seq;
+use class_base::list_views::fault_words::{joined, number_field};
 use class_pool::PoolFault;
-use list_views::Seq;
-use list_views::fault_words::{joined, number_field};
 use std::alloc::{AllocError, AllocFailed, Global};
 
 /// The first rule that a class file breaks.

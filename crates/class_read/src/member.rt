@@ -16,8 +16,8 @@ use crate::known::KnownPool;
 use crate::method;
 use crate::seen::SeenMembers;
 use crate::view::{FieldView, MethodView};
+use class_base::list_views::Seq;
 use class_base::{ABSTRACT, MemberKind, NATIVE, has_flag};
-use list_views::Seq;
 use std::alloc::Global;
 
 /// The descriptor of such a member: the index of its entry, and the text.

@@ -1,7 +1,7 @@
 //! A whole class file.
 
 ghost use Rattle.std.specs.Prelude.{◌≡◌, ℕ, List, [], map, length, IfOk, Ok};
-ghost use Rattle.list_views.specs.ByteLists.{IsBytes};
+ghost use Rattle.class_base.specs.list_views.ByteLists.{IsBytes};
 ghost use Rattle.class_read.specs.Reading.{Gives, repeated, collected};
 ghost use Rattle.class_read.specs.Content.{ClassContent};
 ghost use Rattle.class_read.specs.View.{class_content};
@@ -15,8 +15,8 @@ use crate::field::{place, u2, u4};
 use crate::known::KnownPool;
 use crate::member::{fields, methods};
 use crate::view::{ClassView, Front, Lists, class_view};
+use class_base::list_views::Seq;
 use class_pool::{Pool, PoolFault};
-use list_views::Seq;
 use std::alloc::Global;
 
 const MAGIC: u32 = 0xcafe_babe;

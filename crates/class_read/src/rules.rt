@@ -11,9 +11,9 @@ ghost use Rattle.class_read.specs.Rules.{IsOtherAttribute, is_code_attribute, co
 use crate::member::has_code;
 use crate::method::is_code_name;
 use crate::text::{AttrText, MemberText};
+use class_base::list_views::Seq;
 use class_base::{Handler, MemberKind, is_class_name, is_descriptor};
 use class_pool::Pool;
-use list_views::Seq;
 
 /// The text of the Utf8 entry `i`, or no bytes where there is none.
 pub(crate) fn text<'a>(pool: &Pool<'a>, i: u16) -> &'a [u8]

@@ -1,8 +1,8 @@
 //! The text of a class file: what its bytes say, with indexes where the file has indexes.
 
 use class_base::Handler;
+use class_base::list_views::Seq;
 use class_pool::PoolEntry;
-use list_views::Seq;
 
 /// A class file in all its parts. Names, descriptors, classes and entries are indexes of the pool.
 #[derive(Drop)]

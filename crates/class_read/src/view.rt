@@ -4,8 +4,8 @@ ghost use Rattle.std.specs.Prelude.{◌≡◌, []};
 ghost use Rattle.class_read.specs.View.{class_content};
 
 use class_base::Handler;
+use class_base::list_views::Seq;
 use class_pool::Pool;
-use list_views::Seq;
 use std::alloc::Global;
 use std::marker::Model;
 

@@ -8,8 +8,8 @@ ghost use Rattle.class_read.specs.Rules.{IsClass, IsOtherAttribute, IsField, IsM
 use crate::rules::{are_classes, are_fields, are_methods, are_other_attributes, is_class, text};
 use crate::text::{AttrText, ClassText, MemberText};
 use class_base::KeySet;
+use class_base::list_views::Seq;
 use class_pool::{Pool, PoolFault, has_texts, write_pool};
-use list_views::Seq;
 use std::alloc::{AllocError, Global};
 
 /// Whether no two members have the same name and descriptor.

@@ -9,8 +9,8 @@ ghost use Rattle.class_read.specs.declared.text.ClassText.{ClassText};
 
 use crate::text::{AttrText, ClassText, MemberText};
 use class_base::Handler;
+use class_base::list_views::Seq;
 use class_pool::write_pool;
-use list_views::Seq;
 use std::alloc::{AllocError, Global};
 
 const MAGIC: u32 = 0xcafe_babe;

@@ -9,7 +9,7 @@ use Rattle.class_read.specs.Rules.{field_of, method_of}
 use Rattle.class_world.specs.World.{World, built_ins, built_in_names, world_of}
 use Rattle.class_world.specs.Linking.{CanBeRead, has_few_members}
 use Rattle.std.proofs.lemmas.List.Quantifiers.{position-Some}
-use Rattle.list_views.proofs.Items.{length_mapped}
+use Rattle.code_forms.proofs.list_views.Items.{length_mapped}
 use Rattle.class_world.specs.Members.{is_method_named, declared_method}
 
 few_read : (c : ClassContent) → CanBeRead c → has_few_members c ≡ true

@@ -15,8 +15,8 @@ use Rattle.class_world.specs.Linking.{is_linked}
 use Rattle.class_world.specs.lemmas.Linked.{hierarchy, linked_from}
 use Rattle.class_world.specs.inner.Once.{interfaces_once, IsSought, AreSought}
 use Rattle.std.proofs.lemmas.Option.{slice_get_past}
-use Rattle.list_views.proofs.Marks.{unmarked}
-use Rattle.list_views.proofs.Options.{both_none}
+use Rattle.code_forms.proofs.list_views.Marks.{unmarked}
+use Rattle.code_forms.proofs.list_views.Options.{both_none}
 use Rattle.class_world.proofs.Indexes.{no_super}
 use Rattle.class_world.proofs.Onces.{In_once, sought_once}
 use Rattle.class_world.proofs.Seeking.{Seeking, Ordered, unfolds, interface_over, flat_In, found_append, found_here, entered}

@@ -5,7 +5,7 @@ use Rattle.std.proofs.Common.{add-one}
 use Rattle.std.specs.List.{list_any, range_with_len}
 use Rattle.std.proofs.Math.Seq.{drop-cons}
 use Rattle.std.proofs.lemmas.List.Folds.{list_any-append}
-use Rattle.list_views.proofs.Items.{drop_past}
+use Rattle.code_forms.proofs.list_views.Items.{drop_past}
 use Rattle.class_world.specs.World.{World, line_from, interfaces_of}
 use Rattle.class_world.specs.lemmas.Walks.{IsIn, AnyOf-here}
 use Rattle.class_world.specs.lemmas.Linked.{interface_of_world}

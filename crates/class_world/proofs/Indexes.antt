@@ -9,7 +9,7 @@ use Rattle.std.proofs.lemmas.Option.{slice_get_past}
 use Rattle.std.proofs.lemmas.Bool.{and_parts, ltb-true}
 use Rattle.std.proofs.lemmas.List.Quantifiers.{position-Some}
 use Rattle.std.proofs.lemmas.List.Elements.{filter_map-append}
-use Rattle.list_views.proofs.Items.{length_mapped, length_taken}
+use Rattle.code_forms.proofs.list_views.Items.{length_mapped, length_taken}
 use Rattle.class_read.specs.Content.{ClassContent, FieldContent}
 use Rattle.class_read.specs.Rules.{same_key, key_of, field_of, method_of}
 use Rattle.class_read.specs.View.{field_content, method_content}

@@ -3,7 +3,7 @@ use Rattle.std.proofs.Common.{◌≡◌, ◌+◌, ◌<◌, ◌≤◌, ◌^◌, �
 use Rattle.std.proofs.Common.{length-append}
 use Rattle.std.specs.Prelude.{is_none}
 use Rattle.std.proofs.lemmas.Bool.{and_from}
-use Rattle.list_views.specs.Results.{IsFault}
+use Rattle.code_forms.specs.list_views.Results.{IsFault}
 use Rattle.class_read.specs.Content.{ClassContent}
 use Rattle.class_world.specs.declared.fault.LinkFault.{LinkFault}
 use Rattle.class_world.specs.World.{World, built_ins, built_in_names, world_of}

@@ -5,10 +5,10 @@ use Rattle.std.proofs.Math.ListN.{length-set, length-replicate}
 use Rattle.std.proofs.lemmas.List.{get_or-set_same, get_or-set_other, get_or_past, get_or-replicate, get_or_default}
 use Rattle.std.proofs.lemmas.List.Sums.{sum_by-set}
 use Rattle.std.proofs.lemmas.Bool.{false≢true, eqb-true, cases_lt}
-use Rattle.list_views.proofs.Marks.{none_marked, mark_keeps, marked_within}
-use Rattle.list_views.proofs.Truths.{same_truth}
+use Rattle.code_forms.proofs.list_views.Marks.{none_marked, mark_keeps, marked_within}
+use Rattle.code_forms.proofs.list_views.Truths.{same_truth}
 use Rattle.class_world.specs.World.{leads_up}
-use Rattle.list_views.specs.Lists.{open_count}
+use Rattle.code_forms.specs.list_views.Lists.{open_count}
 use Rattle.class_world.specs.inner.Marking.{marks_after, todo_after, listed_at, IsRow, IsClosed}
 use Rattle.class_world.specs.lemmas.Walks.{IsIn, Walk, Walk-append, Walk-from_leads, leads-from_any_Walk}
 

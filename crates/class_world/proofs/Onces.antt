@@ -9,7 +9,7 @@ use Rattle.std.proofs.lemmas.Bool.{false≢true}
 use Rattle.std.proofs.lemmas.List.Folds.{list_any-append}
 use Rattle.std.proofs.lemmas.List.Concat.{flat_map-append}
 use Rattle.std.proofs.Math.Bool.{or-false}
-use Rattle.list_views.proofs.Truths.{or_assoc}
+use Rattle.code_forms.proofs.list_views.Truths.{or_assoc}
 use Rattle.class_world.specs.World.{World, super_of, interfaces_of, supers_of, listed, leads_up, line_of}
 use Rattle.class_world.specs.lemmas.Walks.{IsIn, IsIn-from_any, any-from_IsIn, AnyOf-here}
 use Rattle.class_world.specs.Resolve.{first_found, with_interfaces, superinterfaces_of}

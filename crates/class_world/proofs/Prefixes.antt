@@ -9,7 +9,7 @@ use Rattle.std.proofs.lemmas.Bool.{eqb-true}
 use Rattle.std.proofs.lemmas.List.{reverse-append}
 use Rattle.std.proofs.lemmas.List.Concat.{flat_map-append}
 use Rattle.std.proofs.lemmas.Option.{slice_get-get_or}
-use Rattle.list_views.proofs.Items.{get_before, get_behind}
+use Rattle.code_forms.proofs.list_views.Items.{get_before, get_behind}
 use Rattle.jvm_values.specs.declared.types.Slot.{Slot}
 use Rattle.class_read.specs.Content.{ClassContent, FieldContent}
 use Rattle.class_world.specs.declared.fault.LinkFault.TheVariants.{MissingClass}

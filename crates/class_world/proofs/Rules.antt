@@ -12,9 +12,9 @@ use Rattle.std.proofs.lemmas.Option.{slice_get-get_or, get_or_from_slice_get, sl
 use Rattle.std.proofs.lemmas.List.Sums.{position_or_len_is, fails_before_first}
 use Rattle.std.proofs.lemmas.Bool.{false≢true, cases_lt, lt-ltb, ne_eqb, or_parts}
 use Rattle.std.specs.Cmp.Lexicographic.{bytes_decides}
-use Rattle.list_views.proofs.Items.{drop_past}
-use Rattle.list_views.specs.Results.{IsFault}
-use Rattle.list_views.proofs.Steps.{found_by}
+use Rattle.code_forms.proofs.list_views.Items.{drop_past}
+use Rattle.code_forms.specs.list_views.Results.{IsFault}
+use Rattle.code_forms.proofs.list_views.Steps.{found_by}
 use Rattle.class_read.specs.Content.{ClassContent}
 use Rattle.class_world.specs.declared.fault.LinkFault.{LinkFault}
 use Rattle.class_world.specs.declared.fault.LinkFault.TheVariants.{DuplicateClass}

@@ -5,8 +5,8 @@ use Rattle.std.specs.Prelude.{option_and_then}
 use Rattle.std.specs.List.{list_any}
 use Rattle.std.specs.Option.{option_or, option_map_or}
 use Rattle.std.proofs.lemmas.Bool.{ne_eqb, eq-eqb}
-use Rattle.list_views.specs.Results.{IsFault}
-use Rattle.list_views.proofs.Steps.{found_by}
+use Rattle.code_forms.specs.list_views.Results.{IsFault}
+use Rattle.code_forms.proofs.list_views.Steps.{found_by}
 use Rattle.class_read.specs.Content.{ClassContent, MethodContent}
 use Rattle.class_world.specs.declared.fault.LinkFault.{LinkFault}
 use Rattle.class_world.specs.declared.fault.LinkFault.TheVariants.{CyclicHierarchy, BadSuper, DefaultMethod}

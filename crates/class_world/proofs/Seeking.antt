@@ -10,7 +10,7 @@ use Rattle.std.proofs.lemmas.List.{get_or-set_other, get_or_default, reverse-app
 use Rattle.std.proofs.lemmas.List.Concat.{flat_map-append}
 use Rattle.std.proofs.lemmas.Map.Steps.{length-le_from_distinct_below}
 use Rattle.std.proofs.lemmas.Bool.{false≢true, eqb-true, or_parts}
-use Rattle.list_views.proofs.Options.{both_none}
+use Rattle.code_forms.proofs.list_views.Options.{both_none}
 use Rattle.class_world.specs.World.{World, leads_up, super_of, supers_of, interfaces_of, listed}
 use Rattle.class_world.specs.lemmas.Walks.{IsIn, IsIn-from_any, Walk, leads-from_any_Walk}
 use Rattle.class_world.specs.Resolve.{first_found, with_interfaces}

@@ -4,7 +4,7 @@ use Rattle.std.specs.Prelude.{slice_get, map, option_and_then, nat_lt}
 use Rattle.std.specs.List.{list_all, AllByRecursion}
 use Rattle.std.specs.Option.{option_map_or}
 use Rattle.std.proofs.lemmas.Bool.{and_from, and_parts, lt-ltb, ltb-true}
-use Rattle.list_views.proofs.Quantified.{holds_at}
+use Rattle.code_forms.proofs.list_views.Quantified.{holds_at}
 use Rattle.class_read.specs.class_pool.declared.entry.PoolEntry.{PoolEntry}
 use Rattle.class_read.specs.Content.{ClassContent, MethodContent, CodeContent}
 use Rattle.class_read.specs.Rules.{IsMethod, IsMethodAttribute, codes_in, first_of, method_of}

@@ -1,6 +1,6 @@
 -- The faults of linking and closing in words. A fault of a method's code stands for the method's.
 use Rattle.std.specs.Prelude.{ℕ, List, [], ◌∷◌, codes}
-use Rattle.list_views.specs.FaultWords.{joined, bytes_field}
+use Rattle.code_forms.specs.list_views.FaultWords.{joined, bytes_field}
 use Rattle.code_forms.specs.Faults.{pc_field, fault_name as code_fault_name, fault_fields as code_fault_fields}
 use Rattle.class_world.specs.declared.fault.MethodName.{MethodName}
 use Rattle.class_world.specs.declared.fault.LinkFault.{LinkFault}

@@ -5,7 +5,7 @@ ghost use Rattle.class_world.specs.World.{built_in, built_in_init, built_ins, wo
 
 use class_read::class_pool::Pool;
 use class_read::{ClassView, CodeView, MethodView};
-use list_views::Seq;
+use code_forms::list_views::Seq;
 use std::alloc::{AllocError, Global};
 
 /// The names of the built-in classes by number, and of their superclasses; the first has none.

@@ -9,8 +9,8 @@ use crate::meaning::Meaning;
 use crate::world::World;
 use class_read::ClassView;
 use code_forms::class_base::FieldType;
+use code_forms::list_views::Seq;
 use jvm_values::Slot;
-use list_views::Seq;
 use std::alloc::{AllocError, Global};
 
 impl<'a> World<'a> {

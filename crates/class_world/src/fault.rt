@@ -3,7 +3,7 @@ ghost use Rattle.std.specs.Prelude.{◌≡◌, IfOk};
 ghost use Rattle.class_world.specs.declared.fault.LinkFault.TheVariants.{Memory};
 
 use code_forms::CodeFault;
-use list_views::Seq;
+use code_forms::list_views::Seq;
 use std::alloc::{AllocError, AllocFailed, Global};
 
 /// A method by its class, its name and its descriptor.

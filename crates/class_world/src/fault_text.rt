@@ -4,8 +4,8 @@ ghost use Rattle.code_forms.specs.Faults.{pc_field};
 ghost use Rattle.class_world.specs.Faults.{fault_name, name_field, method_fields, fault_fields, fault_text};
 
 use crate::fault::{LinkFault, MethodName};
-use list_views::Seq;
-use list_views::fault_words::{bytes_field, joined, number_field};
+use code_forms::list_views::Seq;
+use code_forms::list_views::fault_words::{bytes_field, joined, number_field};
 use std::alloc::{AllocError, Global};
 
 fn name_field(alloc: Global, name: &Seq<u8>) -> Result<Seq<u8>, AllocError>

@@ -10,8 +10,8 @@ use crate::meaning::Meaning;
 use crate::roster::Roster;
 use class_read::FieldView;
 use code_forms::class_base::{Element, FieldType, STATIC, has_flag, type_at};
+use code_forms::list_views::Seq;
 use jvm_values::{Base, Kind, Slot, Ty};
-use list_views::Seq;
 use std::alloc::{AllocError, Global};
 
 impl<'a> Roster<'a> {

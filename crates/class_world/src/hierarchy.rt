@@ -5,7 +5,7 @@ ghost use Rattle.class_world.specs.inner.Tables.{above_table, values_to};
 ghost use Rattle.class_world.specs.inner.Marking.{marks_after, todo_after, listed_at, IsRow, IsClosed};
 
 use crate::roster::Roster;
-use list_views::Seq;
+use code_forms::list_views::Seq;
 use std::alloc::{AllocError, Global};
 
 /// Marks the classes of `supers`, and puts those that were not marked on the list of what is to be gone through.

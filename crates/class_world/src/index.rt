@@ -13,7 +13,7 @@ use crate::members::{field_names, method_names};
 use crate::roster::Roster;
 use class_read::{FieldView, MethodView};
 use code_forms::class_base::KeySet;
-use list_views::Seq;
+use code_forms::list_views::Seq;
 use std::alloc::{AllocError, Global};
 
 /// Tables by the numbers of classes.

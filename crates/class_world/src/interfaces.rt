@@ -11,7 +11,7 @@ ghost use Rattle.class_world.specs.inner.Seeking.{place_in};
 use crate::resolve::Wanted;
 use crate::roster::Roster;
 use crate::world::World;
-use list_views::Seq;
+use code_forms::list_views::Seq;
 use std::alloc::{AllocError, Global};
 
 impl<'a> Roster<'a> {

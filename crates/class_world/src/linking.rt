@@ -14,7 +14,7 @@ use crate::named::is_array_interface;
 use crate::roster::Roster;
 use class_read::MethodView;
 use code_forms::class_base::{ABSTRACT, INTERFACE, STATIC, has_flag};
-use list_views::Seq;
+use code_forms::list_views::Seq;
 use std::alloc::Global;
 
 /// A rule of linking, beside that of the names.

@@ -1,6 +1,6 @@
 //! What types mean in a world.
+use code_forms::list_views::Bytes;
 use jvm_values::Slot;
-use list_views::Bytes;
 
 /// What a type is in a world.
 #[derive(Drop)]

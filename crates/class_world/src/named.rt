@@ -11,7 +11,7 @@ use crate::fault::LinkFault;
 use crate::once::once;
 use class_read::ClassView;
 use code_forms::class_base::NameSet;
-use list_views::Seq;
+use code_forms::list_views::Seq;
 use std::alloc::{AllocError, Global};
 
 /// The name is that of an interface that arrays implement in a JVM, which no class has here.

@@ -2,8 +2,8 @@
 ghost use Rattle.std.specs.Prelude.{◌≡◌, IfOk, OnOk};
 ghost use Rattle.class_world.specs.inner.Once.{with_number, once};
 
+use code_forms::list_views::Seq;
 use indexmap::IndexSet;
-use list_views::Seq;
 use std::alloc::{AllocError, Global};
 
 /// Puts a number at the end of a list and into the set of its numbers, unless it is there already.

@@ -11,7 +11,7 @@ use crate::fault::LinkFault;
 use crate::named::{Named, names_of};
 use class_read::ClassView;
 use code_forms::class_base::{ABSTRACT, INTERFACE, NameSet, has_flag};
-use list_views::Seq;
+use code_forms::list_views::Seq;
 use std::alloc::{AllocError, Global};
 
 /// Classes of different names, each under its number, with the numbers of what it extends and implements.

@@ -18,8 +18,8 @@ use crate::index::MemberIndex;
 use crate::linking::{Hierarchy, LinkRule};
 use crate::roster::Roster;
 use class_read::ClassView;
+use code_forms::list_views::Seq;
 use jvm_values::Slot;
-use list_views::Seq;
 use std::alloc::{AllocError, Global};
 
 /// A method by its class's number and its place among the class's methods, from 0.

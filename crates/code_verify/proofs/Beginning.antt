@@ -11,9 +11,9 @@ use Rattle.jvm_values.specs.declared.typing.FrameType.{FrameType}
 use Rattle.jvm_values.specs.declared.typing.PlaceType.{PlaceType}
 use Rattle.jvm_values.specs.States.{PlaceTypes, types_of as seen}
 use Rattle.jvm_values.specs.Subtyping.{class_type}
-use Rattle.class_world.specs.World.{World}
-use Rattle.class_world.specs.Types.{is_sub}
-use Rattle.class_world.specs.BuiltIns.{throwable}
+use Rattle.class_program.specs.class_world.World.{World}
+use Rattle.class_program.specs.class_world.Types.{is_sub}
+use Rattle.class_program.specs.class_world.BuiltIns.{throwable}
 use Rattle.class_program.specs.declared.program.CatchRange.{CatchRange}
 use Rattle.code_verify.specs.Flows.{CanCatch, caught_class}
 

@@ -8,7 +8,7 @@ use Rattle.std.proofs.lemmas.List.Elements.{filter-append}
 use Rattle.std.proofs.Math.Seq.{take-length}
 use Rattle.jvm_values.specs.States.{PlaceTypes}
 use Rattle.jvm_values.specs.TypedHeaps.{WorldTypes, AreLawful}
-use Rattle.class_world.specs.World.{World}
+use Rattle.class_program.specs.class_world.World.{World}
 use Rattle.class_program.specs.declared.program.CatchRange.{CatchRange}
 use Rattle.class_program.specs.code_forms.declared.insn.Case.{Case}
 use Rattle.frame_types.specs.declared.table.Table.{Table}

@@ -23,8 +23,8 @@ use Rattle.jvm_values.specs.States.{PlaceTypes}
 use Rattle.jvm_values.specs.Subtyping.{class_type, array_of, array_of_numbers, IsSlot, IsReference, IsReferenceBase}
 use Rattle.jvm_values.specs.TypedHeaps.{WorldTypes, AreLawful}
 use Rattle.jvm_values.proofs.Options.{some_is}
-use Rattle.class_world.specs.WorldTypes.{types_of}
-use Rattle.class_world.specs.BuiltIns.{throwable}
+use Rattle.class_program.specs.class_world.WorldTypes.{types_of}
+use Rattle.class_program.specs.class_world.BuiltIns.{throwable}
 use Rattle.class_program.specs.declared.program.Method.{Method}
 use Rattle.class_program.specs.Programs.{Program}
 use Rattle.op_forms.specs.declared.form.Shuffle.{Shuffle as StackShuffle}

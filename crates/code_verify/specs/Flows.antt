@@ -9,9 +9,9 @@ use Rattle.jvm_values.specs.declared.types.Ty.{Ty}
 use Rattle.jvm_values.specs.declared.typing.PlaceType.TheVariants as places
 use Rattle.jvm_values.specs.States.{PlaceTypes}
 use Rattle.jvm_values.specs.Subtyping.{class_type}
-use Rattle.class_world.specs.World.{World}
-use Rattle.class_world.specs.Types.{is_sub, erase}
-use Rattle.class_world.specs.BuiltIns.{throwable}
+use Rattle.class_program.specs.class_world.World.{World}
+use Rattle.class_program.specs.class_world.Types.{is_sub, erase}
+use Rattle.class_program.specs.class_world.BuiltIns.{throwable}
 use Rattle.class_program.specs.declared.op.Op.{Op}
 use Rattle.class_program.specs.declared.program.CatchRange.{CatchRange}
 use Rattle.class_program.specs.declared.program.Method.{Method}

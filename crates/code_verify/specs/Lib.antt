@@ -11,3 +11,6 @@ pub mod Flows
 pub mod Answers
 -- the words of private calls
 pub mod inner
+-- files of crates below, given again for the crates above
+pub use Rattle.frame_types.specs.Places as FrameTypesPlaces
+pub use Rattle.frame_types.specs.Tables as FrameTypesTables

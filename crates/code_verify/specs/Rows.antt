@@ -14,11 +14,11 @@ use Rattle.jvm_values.specs.declared.typing.PlaceType.TheVariants as places
 use Rattle.jvm_values.specs.States.{PlaceTypes}
 use Rattle.jvm_values.specs.Subtyping.{class_type, array_of, array_of_numbers}
 use Rattle.jvm_values.specs.TypedHeaps.{WorldTypes}
-use Rattle.class_world.specs.World.{World}
-use Rattle.class_world.specs.Types.{erase}
-use Rattle.class_world.specs.WorldTypes.{types_of}
-use Rattle.class_world.specs.Resolve.{method_at}
-use Rattle.class_world.specs.BuiltIns.{throwable}
+use Rattle.class_program.specs.class_world.World.{World}
+use Rattle.class_program.specs.class_world.Types.{erase}
+use Rattle.class_program.specs.class_world.WorldTypes.{types_of}
+use Rattle.class_program.specs.class_world.Resolve.{method_at}
+use Rattle.class_program.specs.class_world.BuiltIns.{throwable}
 use Rattle.class_program.specs.declared.op.Call.{Call}
 use Rattle.class_program.specs.declared.program.Method.{Method}
 use Rattle.class_program.specs.Ops.{constructor_name}

@@ -14,8 +14,8 @@ use Rattle.jvm_values.specs.Kinds.{IsOfKind}
 use Rattle.jvm_values.specs.Heaps.{IsInHeap}
 use Rattle.jvm_values.specs.Subtyping.{class_type}
 use Rattle.jvm_values.specs.TypedHeaps.{WorldTypes, HasType, Holds, IsTypedHeap}
-use Rattle.class_world.specs.WorldTypes.{types_of}
-use Rattle.class_world.specs.BuiltIns.{throwable}
+use Rattle.class_program.specs.class_world.WorldTypes.{types_of}
+use Rattle.class_program.specs.class_world.BuiltIns.{throwable}
 use Rattle.class_program.specs.declared.op.Op.{Op}
 use Rattle.class_program.specs.declared.op.Op.TheVariants as ops
 use Rattle.class_program.specs.declared.program.Method.{Method}

@@ -8,8 +8,8 @@ use Rattle.jvm_values.specs.TypedHeaps.{WorldTypes}
 use Rattle.class_program.specs.declared.program.Method.{Method}
 use Rattle.class_program.specs.Programs.{Program}
 use Rattle.class_program.specs.Good.{IsGood, IsGoodMethod}
-use Rattle.class_world.specs.Linking.{is_linked}
-use Rattle.class_world.specs.WorldTypes.{types_of}
+use Rattle.class_program.specs.class_world.Linking.{is_linked}
+use Rattle.class_program.specs.class_world.WorldTypes.{types_of}
 use Rattle.frame_types.specs.Places.{IsFrame}
 use Rattle.frame_types.specs.Tables.{CodeTypes, Flow, Takes, IsAtMost}
 use Rattle.code_verify.specs.declared.fault.VerifyFault.{VerifyFault}

@@ -1,5 +1,5 @@
 //! The types after an instruction.
-ghost use Rattle.class_world.specs.WorldTypes.{types_of};
+ghost use Rattle.class_program.specs.class_world.WorldTypes.{types_of};
 ghost use Rattle.std.specs.Prelude.{◌≡◌, Some, None, IfOk, MatchBool};
 ghost use Rattle.jvm_values.specs.States.{types_of as seen};
 ghost use Rattle.class_program.specs.Views.{program_of};

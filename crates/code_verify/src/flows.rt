@@ -1,6 +1,6 @@
 //! Where a method's code leads from a place, and what comes there.
-ghost use Rattle.class_world.specs.Worlds.{classes_of};
-ghost use Rattle.class_world.specs.WorldTypes.{types_of};
+ghost use Rattle.class_program.specs.class_world.Worlds.{classes_of};
+ghost use Rattle.class_program.specs.class_world.WorldTypes.{types_of};
 ghost use Rattle.std.specs.Prelude.{◌≡◌, ◌++◌, [], ◌∷◌, length, map, None, All, IfOk, OnOk, if◌then◌else◌};
 ghost use Rattle.std.specs.Option.{option_to_list};
 ghost use Rattle.jvm_values.specs.States.{types_of as seen, PlaceTypes};
@@ -13,8 +13,8 @@ ghost use Rattle.code_verify.specs.Flows.{onward, caught};
 
 use crate::rows::THROWABLE;
 use class_program::CatchRange;
+use class_program::class_world::World;
 use class_program::code_forms::Case;
-use class_world::World;
 use frame_types::Table;
 use jvm_values::{FrameType, PlaceType, Ty, Types, class_type};
 use op_forms::Form;

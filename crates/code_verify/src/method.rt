@@ -1,6 +1,6 @@
 //! The least typing of one method.
-ghost use Rattle.class_world.specs.Worlds.{classes_of};
-ghost use Rattle.class_world.specs.WorldTypes.{types_of};
+ghost use Rattle.class_program.specs.class_world.Worlds.{classes_of};
+ghost use Rattle.class_program.specs.class_world.WorldTypes.{types_of};
 ghost use Rattle.std.specs.Prelude.{◌≡◌, ◌↔◌, ◌<◌, ◌≤◌, length, Some, None, true, All, IfOk, MatchBool, MatchOption, IsTrue};
 ghost use Rattle.std.specs.Option.{option_map};
 ghost use Rattle.jvm_values.specs.States.{types_of as seen};
@@ -21,8 +21,8 @@ use crate::flows::{caught_class, enter_ways, falls};
 use crate::operands::place_of;
 use crate::passed::{Passed, pass_handlers};
 use crate::rows::THROWABLE;
+use class_program::class_world::World;
 use class_program::{CatchRange, Method, Program};
-use class_world::World;
 use frame_types::{Table, copy_of};
 use jvm_values::{FrameType, PlaceType, Types, class_type};
 use list_views::{Seq, Stack};

@@ -1,6 +1,6 @@
 //! Operands on the stack: whether they are what is asked for.
-ghost use Rattle.class_world.specs.Worlds.{classes_of};
-ghost use Rattle.class_world.specs.WorldTypes.{types_of};
+ghost use Rattle.class_program.specs.class_world.Worlds.{classes_of};
+ghost use Rattle.class_program.specs.class_world.WorldTypes.{types_of};
 ghost use Rattle.std.specs.Prelude.{◌≡◌, [], ◌∷◌, Some, None, MatchBool, map, reverse};
 ghost use Rattle.std.specs.Option.{is_some};
 ghost use Rattle.jvm_values.specs.Joins.{item_of};
@@ -9,7 +9,7 @@ ghost use Rattle.code_verify.specs.Operands.{is_references, fits, want_of, place
 ghost use Rattle.code_verify.specs.Rows.{taken};
 
 use crate::want::Want;
-use class_world::World;
+use class_program::class_world::World;
 use jvm_values::{Base, FrameType, Kind, PlaceType, Slot, Ty, Types};
 use op_forms::ItemKind;
 

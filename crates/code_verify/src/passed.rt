@@ -1,6 +1,6 @@
 //! What last came to the handlers of a method, so that it need not come again from the next place.
-ghost use Rattle.class_world.specs.Worlds.{classes_of};
-ghost use Rattle.class_world.specs.WorldTypes.{types_of};
+ghost use Rattle.class_program.specs.class_world.Worlds.{classes_of};
+ghost use Rattle.class_program.specs.class_world.WorldTypes.{types_of};
 ghost use Rattle.std.specs.Prelude.{◌≡◌, ◌≤◌, ◌<◌, ℕ, [], All, IfOk, filter, true, IsTrue};
 ghost use Rattle.jvm_values.specs.States.{types_of as seen};
 ghost use Rattle.frame_types.specs.Places.{IsProper};
@@ -12,7 +12,7 @@ ghost use Rattle.code_verify.specs.inner.Solving.{IsPassed, narrowed};
 
 use crate::flows::enter_handlers;
 use class_program::CatchRange;
-use class_world::World;
+use class_program::class_world::World;
 use frame_types::Table;
 use jvm_values::{FrameType, PlaceType};
 use list_views::Seq;

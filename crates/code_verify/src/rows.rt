@@ -1,7 +1,7 @@
 //! What becomes of the types of a frame by an instruction: one row of the table a call.
-ghost use Rattle.class_world.specs.Worlds.{classes_of};
-ghost use Rattle.class_world.specs.WorldTypes.{types_of};
-ghost use Rattle.class_world.specs.Types.{erase};
+ghost use Rattle.class_program.specs.class_world.Worlds.{classes_of};
+ghost use Rattle.class_program.specs.class_world.WorldTypes.{types_of};
+ghost use Rattle.class_program.specs.class_world.Types.{erase};
 ghost use Rattle.std.specs.Prelude.{◌≡◌, ◌<◌, ◌≤◌, [], ◌∷◌, ◌++◌, map, reverse, length, Some, None, IfOk, OnOk, MatchBool};
 ghost use Rattle.std.specs.Prelude.{slice_get, slice_set};
 ghost use Rattle.std.specs.Option.{option_map};
@@ -17,8 +17,8 @@ use crate::operands::{
     is_int, is_reference, item_place, place_of, take, take_all, take_arguments, want_of,
 };
 use crate::want::Want;
+use class_program::class_world::World;
 use class_program::{Call, Program};
-use class_world::World;
 use jvm_values::{FrameType, PlaceType, Slot, Ty, Types, array_of, class_type};
 use list_views::Seq;
 use std::alloc::AllocError;

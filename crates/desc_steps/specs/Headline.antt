@@ -3,7 +3,7 @@ use Rattle.std.specs.Prelude.{◌≡◌, ℕ, List, None, Ok}
 use Rattle.jvm_values.specs.States.{MachineState}
 use Rattle.class_read.specs.Content.{ClassContent}
 use Rattle.class_program.specs.Programs.{Program, IsClosed}
-use Rattle.jvm_step.specs.Running.{Ends, IsNeverStuck}
+use Rattle.jvm_run.specs.jvm_step.Running.{Ends, IsNeverStuck}
 use Rattle.input_text.specs.Answers.{SaysOf}
 use Rattle.input_text.specs.Descriptions.{description_of}
 use Rattle.input_text.specs.declared.texts.DescText.{DescText}

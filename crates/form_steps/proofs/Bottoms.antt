@@ -15,9 +15,9 @@ use Rattle.jvm_values.proofs.Options.{some_is}
 use Rattle.abs_cells.specs.AbstractStates.{AbstractFrame, AbstractState}
 use Rattle.abs_cells.specs.Cells.{HasCell}
 use Rattle.abs_cells.specs.Fits.{Meaning, FitsFrame, with_statics}
-use Rattle.class_program.specs.declared.program.Method.{Method}
-use Rattle.class_program.specs.declared.program.StaticField.{StaticField}
-use Rattle.class_program.specs.Programs.{Program}
+use Rattle.abs_expand.specs.ClassProgramMethod.{Method}
+use Rattle.abs_expand.specs.ClassProgramStaticField.{StaticField}
+use Rattle.abs_expand.specs.ClassProgramPrograms.{Program}
 use Rattle.frame_types.specs.Tables.{CodeTypes}
 use Rattle.jvm_run.specs.code_verify.TypedStates.{IsTypedFrame, AreCallers}
 use Rattle.jvm_run.proofs.Lists.{zip_get}

@@ -5,7 +5,7 @@ use Rattle.std.specs.Prelude.{slice_set, nat_lt}
 use Rattle.std.specs.Int.{int_wrap, w32}
 use Rattle.std.specs.Option.{option_map}
 use Rattle.std.proofs.lemmas.Bool.{lt-ltb}
-use Rattle.code_forms.specs.declared.insn.Case.{Case}
+use Rattle.jvm_run.specs.CodeFormsCase.{Case}
 use Rattle.jvm_values.specs.declared.heap.Value.{Value}
 use Rattle.jvm_values.specs.declared.heap.Value.TheVariants as values
 use Rattle.jvm_values.specs.declared.ints.IntOp.{IntOp}
@@ -15,12 +15,12 @@ use Rattle.jvm_values.specs.Ints.{int_result, cond_holds}
 use Rattle.jvm_values.specs.Kinds.{narrowed}
 use Rattle.jvm_values.specs.States.{MachineFrame}
 use Rattle.abs_cells.specs.Fits.{Meaning}
-use Rattle.op_forms.specs.declared.form.Shuffle.{Shuffle}
-use Rattle.op_forms.specs.declared.form.Shuffle.TheVariants.{Pop, Pop2, Dup, DupX1, DupX2, Dup2, Dup2X1, Dup2X2, Swap}
-use Rattle.op_forms.specs.Forms.{shuffled}
-use Rattle.jvm_step.specs.Effects.{Effect, with_stack, branch, sets, constant_effect, shuffle_effect, arith_result, arith_effect}
-use Rattle.jvm_step.specs.Effects.{ineg_effect, narrow_effect, if_effect, if_icmp_effect, goto_effect, target_at}
-use Rattle.jvm_step.specs.Effects.{tableswitch_effect, target_of, lookupswitch_effect}
+use Rattle.jvm_run.specs.OpFormsShuffle.{Shuffle}
+use Rattle.jvm_run.specs.OpFormsShuffle.TheVariants.{Pop, Pop2, Dup, DupX1, DupX2, Dup2, Dup2X1, Dup2X2, Swap}
+use Rattle.jvm_run.specs.OpFormsForms.{shuffled}
+use Rattle.jvm_run.specs.jvm_step.Effects.{Effect, with_stack, branch, sets, constant_effect, shuffle_effect, arith_result, arith_effect}
+use Rattle.jvm_run.specs.jvm_step.Effects.{ineg_effect, narrow_effect, if_effect, if_icmp_effect, goto_effect, target_at}
+use Rattle.jvm_run.specs.jvm_step.Effects.{tableswitch_effect, target_of, lookupswitch_effect}
 
 pub constant_is : (value : Value) (f : MachineFrame) → constant_effect value f ≡ Some (Effect.Next (with_stack f (value ∷ f.stack)))
 unfolding constant_effect

@@ -9,7 +9,7 @@ use Rattle.abs_cells.specs.declared.cells.Cell.{Cell}
 use Rattle.abs_cells.specs.AbstractStates.{AbstractFrame, AbstractState}
 use Rattle.abs_cells.specs.Cells.{is_known, is_reference, is_of_sort, ids_in, cell_in, cell_at, HasCell, AreEqual, Share}
 use Rattle.abs_cells.specs.Sound.{given_ids, ids_of_frame, ids_used, IsWellFormed}
-use Rattle.abs_reach.proofs.Walks.{named_has_cell}
+use Rattle.abs_expand.proofs.AbsReachWalks.{named_has_cell}
 use Rattle.abs_heap.specs.Given.{IsGiven, first_cell, with_cells}
 use Rattle.abs_heap.proofs.Placing.{cell_there}
 use Rattle.abs_expand.specs.inner.Building.{HoldsIds}

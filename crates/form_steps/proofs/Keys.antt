@@ -10,10 +10,10 @@ use Rattle.std.proofs.lemmas.Bool.Decides.{Decides-int_eq}
 use Rattle.std.proofs.lemmas.Int.{ints}
 use Rattle.list_views.proofs.Orders.{int_eq_true}
 use Rattle.lin_core.specs.Intervals.{Bounds, IsIn}
-use Rattle.code_forms.specs.declared.insn.Case.{Case}
+use Rattle.jvm_run.specs.CodeFormsCase.{Case}
 use Rattle.abs_ints.specs.IntIntervals.{all_ints, just}
 use Rattle.abs_ints.proofs.Covering.{in_interval}
-use Rattle.jvm_step.specs.Effects.{target_at, target_of}
+use Rattle.jvm_run.specs.jvm_step.Effects.{target_at, target_of}
 use Rattle.abs_expand.specs.Switches.{table_keys, lookup_keys, parts_from, parts_of}
 use Rattle.form_steps.proofs.SomeOf.{SomeOf}
 

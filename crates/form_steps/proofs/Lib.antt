@@ -15,3 +15,5 @@ pub mod Standing
 pub mod Steps
 pub mod Tops
 pub mod TurnKinds
+-- files of crates below, given again for the crates above
+pub use Rattle.abs_expand.proofs.AbsReachWalks

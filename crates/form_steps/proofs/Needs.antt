@@ -30,8 +30,8 @@ use Rattle.abs_cells.specs.PairLists.{has}
 use Rattle.abs_cells.specs.Fits.{Meaning, Describes, Fits}
 use Rattle.abs_cells.proofs.CellLaws.{place_of_cell}
 use Rattle.abs_heap.specs.Laws.{plain_link, Goes}
-use Rattle.class_world.specs.WorldTypes.{types_of}
-use Rattle.class_program.specs.Programs.{Program}
+use Rattle.abs_expand.specs.ClassWorldWorldTypes.{types_of}
+use Rattle.abs_expand.specs.ClassProgramPrograms.{Program}
 use Rattle.frame_types.specs.Places.{IsOfWorld, IsSet}
 use Rattle.jvm_run.specs.code_verify.TypedStates.{HasPlaceType}
 use Rattle.term_graph.specs.Graphs.{GraphChild}

@@ -19,10 +19,10 @@ use Rattle.abs_cells.specs.Sound.{IsSoundCell}
 use Rattle.abs_ints.specs.IntIntervals.{meet_of}
 use Rattle.abs_ints.proofs.AllCases.{AreInts}
 use Rattle.abs_ints.proofs.Covering.{in_meet}
-use Rattle.class_world.specs.WorldTypes.{types_of}
-use Rattle.class_program.specs.Programs.{Program}
+use Rattle.abs_expand.specs.ClassWorldWorldTypes.{types_of}
+use Rattle.abs_expand.specs.ClassProgramPrograms.{Program}
 use Rattle.frame_types.specs.Tables.{CodeTypes}
-use Rattle.jvm_step.specs.Operands.{top_int}
+use Rattle.jvm_run.specs.jvm_step.Operands.{top_int}
 use Rattle.term_graph.specs.Edges.{number_of}
 use Rattle.abs_expand.specs.Plans.{Plan}
 use Rattle.abs_expand.specs.Turns.{Operand, known, id, interval_in, interval_of_id, narrowings}

@@ -13,21 +13,21 @@ use Rattle.jvm_values.specs.TypedHeaps.{WorldTypes, AreLawful, Holds, IsTypedHea
 use Rattle.abs_cells.specs.AbstractStates.{AbstractFrame, AbstractState}
 use Rattle.abs_cells.specs.Sound.{IsSound}
 use Rattle.abs_cells.specs.Fits.{Meaning, Fits, IsClosedState}
-use Rattle.class_world.specs.BuiltIns.{HasBuiltIns}
-use Rattle.class_world.specs.Linking.{is_linked}
-use Rattle.class_world.specs.WorldTypes.{types_of}
-use Rattle.class_program.specs.declared.op.Op.{Op}
-use Rattle.class_program.specs.declared.program.Method.{Method}
-use Rattle.class_program.specs.declared.program.StaticField.{StaticField}
-use Rattle.class_program.specs.Programs.{Program, insn_at}
-use Rattle.op_forms.specs.Forms.{Form, form_of}
+use Rattle.abs_expand.specs.ClassWorldBuiltIns.{HasBuiltIns}
+use Rattle.abs_expand.specs.ClassWorldLinking.{is_linked}
+use Rattle.abs_expand.specs.ClassWorldWorldTypes.{types_of}
+use Rattle.abs_expand.specs.ClassProgramOp.{Op}
+use Rattle.abs_expand.specs.ClassProgramMethod.{Method}
+use Rattle.abs_expand.specs.ClassProgramStaticField.{StaticField}
+use Rattle.abs_expand.specs.ClassProgramPrograms.{Program, insn_at}
+use Rattle.jvm_run.specs.OpFormsForms.{Form, form_of}
 use Rattle.frame_types.specs.Places.{IsOfWorld, IsSet}
 use Rattle.frame_types.specs.Tables.{CodeTypes}
 use Rattle.jvm_run.specs.code_verify.Rows.{types_after}
 use Rattle.jvm_run.specs.code_verify.TypedStates.{HasStack}
-use Rattle.jvm_step.specs.Effects.{Effect, new_instance}
-use Rattle.jvm_step.specs.Table.{Work, effect_of, on_frame, on_heap, on_statics}
-use Rattle.jvm_step.specs.Running.{Step, step, step_in, normal_step, with_object, applied, work_of}
+use Rattle.jvm_run.specs.jvm_step.Effects.{Effect, new_instance}
+use Rattle.jvm_run.specs.jvm_step.Table.{Work, effect_of, on_frame, on_heap, on_statics}
+use Rattle.jvm_run.specs.jvm_step.Running.{Step, step, step_in, normal_step, with_object, applied, work_of}
 use Rattle.jvm_run.specs.Laws.{GoesTyped}
 use Rattle.jvm_run.proofs.Named.{IsNamed}
 use Rattle.abs_expand.specs.inner.Building.{HoldsIds}

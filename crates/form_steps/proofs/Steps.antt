@@ -17,9 +17,9 @@ use Rattle.abs_cells.specs.Cells.{is_int, ids_in, cell_at, HasCell, AreEqual, Sh
 use Rattle.abs_cells.specs.Sound.{given_ids, IsWellFormed}
 use Rattle.abs_cells.specs.Fits.{Meaning, FitsFrame, FitsMode, with_statics, Describes, Fits}
 use Rattle.abs_cells.specs.Patterns.{pattern_of_cell, pattern_within, IsSized}
-use Rattle.abs_reach.specs.Reached.{IsDropped, IsRestricted}
-use Rattle.abs_reach.proofs.Restricting.{restricted}
-use Rattle.abs_reach.proofs.Walks.{some_cell}
+use Rattle.abs_expand.specs.AbsReachReached.{IsDropped, IsRestricted}
+use Rattle.abs_expand.proofs.AbsReachRestricting.{restricted}
+use Rattle.abs_expand.proofs.AbsReachWalks.{some_cell}
 use Rattle.abs_heap.specs.Given.{IsGiven, with_cells}
 use Rattle.abs_heap.specs.Laws.{plain_link, Goes, GoesWith, with_heap}
 use Rattle.term_graph.specs.Graphs.{GraphChild}

@@ -32,11 +32,11 @@ use Rattle.abs_cells.specs.Fits.{Meaning, FitsFrame, with_statics, Describes, Is
 use Rattle.abs_heap.specs.Given.{first_cell, with_cells}
 use Rattle.abs_heap.specs.Laws.{AreSoundReferences, IsWriteOf, heap_with, zeros_of, IsItemSlot}
 use Rattle.abs_heap.specs.Writing.{Write, IsObjectChild}
-use Rattle.class_world.specs.BuiltIns.{built_in_count}
-use Rattle.class_world.specs.WorldTypes.{types_of}
-use Rattle.class_program.specs.Programs.{Program}
+use Rattle.abs_expand.specs.ClassWorldBuiltIns.{built_in_count}
+use Rattle.abs_expand.specs.ClassWorldWorldTypes.{types_of}
+use Rattle.abs_expand.specs.ClassProgramPrograms.{Program}
 use Rattle.frame_types.specs.Tables.{CodeTypes}
-use Rattle.jvm_step.specs.Running.{Step, step, IsEnd}
+use Rattle.jvm_run.specs.jvm_step.Running.{Step, step, IsEnd}
 use Rattle.jvm_run.proofs.Lists.{zip_map}
 use Rattle.term_graph.specs.Graphs.{GraphChild}
 use Rattle.term_graph.specs.Edges.{HoldsBetween}

@@ -21,8 +21,8 @@ use Rattle.abs_cells.specs.Fits.{Meaning, Fits}
 use Rattle.abs_cells.specs.Sound.{AreIdsRising}
 use Rattle.abs_reach.specs.Instances.{image_in, ListsIds, whole_map}
 use Rattle.abs_match.specs.Laws.{HasArraysOfWorld, MatchesCarryFitting, value_of_image, after}
-use Rattle.class_world.specs.WorldTypes.{types_of}
-use Rattle.class_world.specs.lemmas.WorldLaws.{world_laws}
+use Rattle.class_program.specs.class_world.WorldTypes.{types_of}
+use Rattle.class_program.specs.class_world.lemmas.WorldLaws.{world_laws}
 use Rattle.class_program.specs.Programs.{Program, IsClosed}
 use Rattle.class_program.specs.Widths.{HasWidths}
 use Rattle.frame_types.specs.Tables.{CodeTypes}

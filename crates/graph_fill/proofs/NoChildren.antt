@@ -1,15 +1,15 @@
 -- States without an expansion have no children, and neither has one at which the run ends.
 use Rattle.std.proofs.Common.{ℕ, List, Option, Some, None, Ok, Err}
 use Rattle.abs_cells.specs.AbstractStates.{AbstractState}
-use Rattle.class_world.specs.WorldTypes.{types_of}
+use Rattle.class_program.specs.class_world.WorldTypes.{types_of}
 use Rattle.class_program.specs.Programs.{Program}
 use Rattle.frame_types.specs.Tables.{CodeTypes}
 use Rattle.term_graph.specs.Graphs.{GraphChild}
-use Rattle.abs_expand.specs.Answers.{Answers}
-use Rattle.abs_expand.specs.declared.fault.ExpandFault.TheVariants.{TooManyIds}
-use Rattle.abs_expand.specs.BadStates.{IsBadState}
-use Rattle.abs_expand.specs.Expansions.{plan_of, counts_of}
-use Rattle.one_expansion.proofs.OneAnswer.{few_or_many, no_children, not_bad}
+use Rattle.graph_check.specs.abs_expand.Answers.{Answers}
+use Rattle.graph_check.specs.abs_expand.declared.fault.ExpandFault.TheVariants.{TooManyIds}
+use Rattle.graph_check.specs.abs_expand.BadStates.{IsBadState}
+use Rattle.graph_check.specs.abs_expand.Expansions.{plan_of, counts_of}
+use Rattle.graph_check.proofs.one_expansion.OneAnswer.{few_or_many, no_children, not_bad}
 use Rattle.filled_graphs.specs.filled_nodes.Children.{HasNone, HasThemOrNone}
 use Rattle.graph_fill.specs.ChildrenOfStates.{child_rules}
 

@@ -19,7 +19,7 @@ use Rattle.filled_graphs.specs.Filling.{Names, IsChildAt, HasStateOf, IsNodeOf, 
 use Rattle.filled_graphs.specs.lemmas.Lists.{image_at, mapped_of}
 use Rattle.filled_graphs.specs.lemmas.Once.{filled_one}
 use Rattle.graph_check.specs.Good.{NamesChild, IsExpanded, IsLeftBy, IsGoodNode, GraphOk}
-use Rattle.abs_expand.proofs.ZipLists.{beside}
+use Rattle.graph_check.proofs.abs_expand.ZipLists.{beside}
 use Rattle.graph_fill.specs.ChildrenOfStates.{child_rules}
 use Rattle.graph_fill.specs.Laws.{ArePartsOf, FilledGraphsAreOne, IsStateOrNone, GoodGraphsFillThemselves}
 

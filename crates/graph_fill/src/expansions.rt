@@ -4,11 +4,11 @@ ghost use Rattle.code_verify.specs.Typings.{typing_at};
 ghost use Rattle.graph_fill.specs.ChildrenOfStates.{child_rules};
 
 use abs_cells::{AbsState, Pairs};
-use abs_expand::{ExpandFault, expand};
 use abs_reach::Marks;
 use class_program::Program;
 use code_verify::Typing;
 use filled_graphs::filled_nodes::Expands;
+use graph_check::abs_expand::{ExpandFault, expand};
 use list_views::Seq;
 use std::alloc::{AllocError, Global};
 use term_graph::Child;

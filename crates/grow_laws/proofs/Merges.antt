@@ -26,9 +26,9 @@ use Rattle.class_world.specs.WorldTypes.{types_of}
 use Rattle.class_program.specs.Programs.{Program}
 use Rattle.frame_types.specs.Tables.{CodeTypes}
 use Rattle.term_graph.specs.Graphs.{GraphChild}
-use Rattle.abs_expand.specs.BadStates.{ArePlaced}
-use Rattle.abs_expand.proofs.Changing.{joined}
-use Rattle.abs_expand.proofs.HeapChildren.{well_merged, well_apart}
+use Rattle.place_sorts.specs.AbsExpandBadStates.{ArePlaced}
+use Rattle.place_sorts.proofs.AbsExpandChanging.{joined}
+use Rattle.place_sorts.proofs.AbsExpandHeapChildren.{well_merged, well_apart}
 use Rattle.place_sorts.specs.Growing.{WaitBelow}
 use Rattle.place_sorts.proofs.Following.{Follows, cell_follows, frames_follow}
 use Rattle.place_sorts.proofs.SortLists.{all_any}

@@ -5,11 +5,11 @@ use Rattle.std.specs.Option.{option_map_or}
 use Rattle.std.proofs.lemmas.Option.{none-some}
 use Rattle.jvm_values.specs.declared.typing.PlaceType.{PlaceType}
 use Rattle.jvm_values.specs.TypedHeaps.{WorldTypes}
-use Rattle.jvm_run.proofs.Named.{named_of}
-use Rattle.jvm_run.proofs.Placed.{Placed, placed, jump_taken, next_taken, at_has}
-use Rattle.jvm_run.proofs.Stepping.{Known, insn_there, stands_at}
+use Rattle.place_sorts.proofs.JvmRunNamed.{named_of}
+use Rattle.place_sorts.proofs.JvmRunPlaced.{Placed, placed, jump_taken, next_taken, at_has}
+use Rattle.place_sorts.proofs.JvmRunStepping.{Known, insn_there, stands_at}
 use Rattle.abs_cells.specs.AbstractStates.{AbstractFrame, AbstractState}
-use Rattle.abs_turns.proofs.SoundCells.{cell_sound}
+use Rattle.place_sorts.proofs.AbsTurnsSoundCells.{cell_sound}
 use Rattle.abs_match.specs.Laws.{DroppedStatesReachAll}
 use Rattle.class_world.specs.WorldTypes.{types_of}
 use Rattle.class_program.specs.declared.op.Op.{Op}
@@ -17,21 +17,21 @@ use Rattle.class_program.specs.declared.program.Method.{Method}
 use Rattle.class_program.specs.Good.{IsGoodMethod, IsGoodOp}
 use Rattle.class_program.specs.Programs.{Program, insn_at}
 use Rattle.class_program.proofs.Got.{all_at}
-use Rattle.op_forms.specs.Forms.{Form, form_of}
-use Rattle.op_forms.proofs.Widths.{forms_wide}
+use Rattle.place_sorts.specs.OpFormsForms.{Form, form_of}
+use Rattle.place_sorts.proofs.OpFormsWidths.{forms_wide}
 use Rattle.frame_types.specs.Tables.{CodeTypes, Takes}
 use Rattle.code_verify.specs.Typings.{IsTyping}
 use Rattle.term_graph.specs.Graphs.{GraphChild}
-use Rattle.abs_turns.specs.GoodPlans.{IsGoodTurn, IsGoodPlan}
-use Rattle.abs_turns.specs.Plans.{Turn, Plan, ends, steps, by_null, by_class, by_equal}
-use Rattle.abs_turns.specs.Table.{plan_of_form}
-use Rattle.abs_turns.specs.Throwing.{throwing_plan}
-use Rattle.abs_turns.specs.Turns.{Here}
-use Rattle.abs_expand.specs.abs_plans.Planning.{plan_here, plan_in, plan_of}
-use Rattle.abs_expand.proofs.abs_plans.GoodPlans.{plan_is_good}
-use Rattle.abs_expand.specs.BadStates.{HasStackOf, HasRunningStack, IsRunningPlaced, AreCallersPlaced, statics_under, ArePlaced}
-use Rattle.abs_expand.specs.Children.{IsTurnChild}
-use Rattle.abs_expand.specs.Expansions.{AreChildren, AreExpanded}
+use Rattle.place_sorts.specs.AbsTurnsGoodPlans.{IsGoodTurn, IsGoodPlan}
+use Rattle.place_sorts.specs.AbsTurnsPlans.{Turn, Plan, ends, steps, by_null, by_class, by_equal}
+use Rattle.place_sorts.specs.AbsTurnsTable.{plan_of_form}
+use Rattle.place_sorts.specs.AbsTurnsThrowing.{throwing_plan}
+use Rattle.place_sorts.specs.AbsTurnsTurns.{Here}
+use Rattle.place_sorts.specs.AbsPlansPlanning.{plan_here, plan_in, plan_of}
+use Rattle.place_sorts.proofs.AbsPlansGoodPlans.{plan_is_good}
+use Rattle.place_sorts.specs.AbsExpandBadStates.{HasStackOf, HasRunningStack, IsRunningPlaced, AreCallersPlaced, statics_under, ArePlaced}
+use Rattle.place_sorts.specs.AbsExpandChildren.{IsTurnChild}
+use Rattle.place_sorts.specs.AbsExpandExpansions.{AreChildren, AreExpanded}
 use Rattle.place_sorts.specs.Laws.{ResultsStayInts, BranchesStayInts}
 use Rattle.place_sorts.specs.Growing.{AreWaiting, WaitBelow, IsGrowing}
 use Rattle.place_sorts.proofs.Spots.{Spot}

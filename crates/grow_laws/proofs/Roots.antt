@@ -45,7 +45,7 @@ use Rattle.input_desc.specs.Given.{params_of, statics_of, argument_slot, slots_o
 use Rattle.input_desc.specs.Initial.{cell_of, cells_from, with_pairs, are_alike, locals_of, given_from, initial_locals, initial_of}
 use Rattle.input_desc.proofs.Zipped.{zip_replicate}
 use Rattle.input_root.proofs.Found.{cell_found}
-use Rattle.abs_expand.specs.BadStates.{IsOfPlace, IsOfField, IsRunningPlaced}
+use Rattle.place_sorts.specs.AbsExpandBadStates.{IsOfPlace, IsOfField, IsRunningPlaced}
 use Rattle.place_sorts.specs.Growing.{IsGrowing}
 use Rattle.place_sorts.proofs.Landing.{locals_wide, running_lands}
 use Rattle.place_sorts.proofs.Waiting.{at_calls}

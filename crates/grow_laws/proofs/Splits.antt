@@ -37,8 +37,8 @@ use Rattle.frame_types.specs.Tables.{CodeTypes}
 use Rattle.code_verify.proofs.RowLaws.{array_reference}
 use Rattle.code_verify.proofs.TypeShapes.{array_of_item, item_erased, erased_of_world}
 use Rattle.term_graph.specs.Graphs.{GraphChild}
-use Rattle.abs_expand.specs.BadStates.{ArePlaced}
-use Rattle.abs_expand.proofs.HeapChildren.{well_with_cell, well_case}
+use Rattle.place_sorts.specs.AbsExpandBadStates.{ArePlaced}
+use Rattle.place_sorts.proofs.AbsExpandHeapChildren.{well_with_cell, well_case}
 use Rattle.place_sorts.proofs.IntCases.{kind_bounds}
 use Rattle.place_sorts.specs.Growing.{WaitBelow}
 use Rattle.place_sorts.proofs.Keeping.{KeepsSorts, frames_kept}

@@ -21,8 +21,8 @@ use Rattle.frame_types.specs.Places.{IsSet}
 use Rattle.frame_types.specs.Tables.{CodeTypes}
 use Rattle.code_verify.specs.Typings.{IsTypingOf}
 use Rattle.code_verify.specs.TypedStates.{argument_count}
-use Rattle.abs_expand.specs.BadStates.{HasStackOf, call_takes, call_at, IsPlaced, statics_under, HasCallersStack, IsCallerPlaced}
-use Rattle.abs_expand.specs.BadStates.{AreCallersPlaced, HasRunningStack, IsRunningPlaced, ArePlaced}
+use Rattle.place_sorts.specs.AbsExpandBadStates.{HasStackOf, call_takes, call_at, IsPlaced, statics_under, HasCallersStack, IsCallerPlaced}
+use Rattle.place_sorts.specs.AbsExpandBadStates.{AreCallersPlaced, HasRunningStack, IsRunningPlaced, ArePlaced}
 use Rattle.place_sorts.specs.Growing.{AreWaiting, WaitBelow, IsGrowing}
 use Rattle.place_sorts.proofs.Waiting.{waiting_call}
 

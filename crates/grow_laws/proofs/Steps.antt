@@ -16,7 +16,7 @@ use Rattle.jvm_values.specs.declared.types.Ty.{Ty}
 use Rattle.jvm_values.specs.Subtyping.{array_of, IsReference, IsErased}
 use Rattle.jvm_values.specs.TypedHeaps.{WorldTypes, AreLawful}
 use Rattle.jvm_values.proofs.Options.{some_is}
-use Rattle.jvm_run.proofs.Lists.{zip_set_right}
+use Rattle.place_sorts.proofs.JvmRunLists.{zip_set_right}
 use Rattle.abs_cells.specs.declared.cells.Cell.{Cell}
 use Rattle.abs_cells.specs.declared.cells.Cell.TheVariants as cells
 use Rattle.abs_cells.specs.AbstractStates.{AbstractFrame, AbstractState}
@@ -33,16 +33,16 @@ use Rattle.frame_types.specs.Tables.{CodeTypes}
 use Rattle.code_verify.proofs.RowLaws.{array_reference}
 use Rattle.code_verify.proofs.TypeShapes.{erased_of_world}
 use Rattle.term_graph.specs.Graphs.{GraphChild}
-use Rattle.abs_turns.specs.GoodPlans.{IsThere, HoldsIds, IsChange, IsGoodAct, IsGoodTurn}
-use Rattle.abs_turns.specs.Plans.{Act, nothing, makes, writes, item, object, array, Goal, nowhere, on_stack, in_local, in_bottom}
-use Rattle.abs_turns.specs.Plans.{in_field, is_thrown, Turn}
-use Rattle.abs_expand.proofs.abs_plans.WellFormed.{well_with, all_still}
-use Rattle.abs_expand.specs.BadStates.{ArePlaced}
-use Rattle.abs_expand.specs.Children.{IsActed, IsTurnChild, gone_to, set_field, field_with}
-use Rattle.abs_expand.specs.inner.Making.{frames_to, thrown_to, cells_to}
-use Rattle.abs_expand.proofs.Acting.{still_there, made_names}
-use Rattle.abs_expand.proofs.GoingTo.{gone_is, gone_good}
-use Rattle.abs_expand.proofs.HeapChildren.{well_with_cell, well_object, well_item, well_new_array, well_write}
+use Rattle.place_sorts.specs.AbsTurnsGoodPlans.{IsThere, HoldsIds, IsChange, IsGoodAct, IsGoodTurn}
+use Rattle.place_sorts.specs.AbsTurnsPlans.{Act, nothing, makes, writes, item, object, array, Goal, nowhere, on_stack, in_local, in_bottom}
+use Rattle.place_sorts.specs.AbsTurnsPlans.{in_field, is_thrown, Turn}
+use Rattle.place_sorts.proofs.AbsPlansWellFormed.{well_with, all_still}
+use Rattle.place_sorts.specs.AbsExpandBadStates.{ArePlaced}
+use Rattle.place_sorts.specs.AbsExpandChildren.{IsActed, IsTurnChild, gone_to, set_field, field_with}
+use Rattle.place_sorts.specs.AbsExpandMaking.{frames_to, thrown_to, cells_to}
+use Rattle.place_sorts.proofs.AbsExpandActing.{still_there, made_names}
+use Rattle.place_sorts.proofs.AbsExpandGoingTo.{gone_is, gone_good}
+use Rattle.place_sorts.proofs.AbsExpandHeapChildren.{well_with_cell, well_object, well_item, well_new_array, well_write}
 use Rattle.place_sorts.specs.Growing.{AreWaiting, WaitBelow}
 use Rattle.place_sorts.proofs.Following.{frames_follow}
 use Rattle.place_sorts.proofs.Keeping.{KeepsSorts, keeps_then, cell_kept}

@@ -11,8 +11,8 @@ use Rattle.class_world.specs.WorldTypes.{types_of}
 use Rattle.class_program.specs.Programs.{Program}
 use Rattle.frame_types.specs.Tables.{CodeTypes}
 use Rattle.term_graph.specs.Graphs.{GraphChild}
-use Rattle.abs_expand.specs.BadStates.{ArePlaced}
-use Rattle.abs_expand.specs.Children.{IsLean}
+use Rattle.place_sorts.specs.AbsExpandBadStates.{ArePlaced}
+use Rattle.place_sorts.specs.AbsExpandChildren.{IsLean}
 use Rattle.place_sorts.specs.Growing.{WaitBelow, IsGrowing}
 use Rattle.place_sorts.proofs.Dropping.{left_formed, left_sound, left_thrown, left_placed}
 use Rattle.place_sorts.proofs.SortLists.{each_listed}

@@ -32,10 +32,10 @@ use Rattle.abs_widen.specs.Widening.{IsMergedCell, IsWidening}
 use Rattle.class_program.specs.declared.program.Method.{Method}
 use Rattle.class_program.specs.Programs.{Program, op_at}
 use Rattle.frame_types.specs.Tables.{CodeTypes}
-use Rattle.abs_expand.specs.BadStates.{IsOfPlace, IsOfField, HasStackOf, call_takes, call_at, IsPlaced, statics_under}
-use Rattle.abs_expand.specs.BadStates.{HasCallersStack, IsCallerPlaced, AreCallersPlaced, HasRunningStack, IsRunningPlaced}
-use Rattle.abs_expand.specs.BadStates.{ArePlaced}
-use Rattle.abs_expand.proofs.abs_plans.WellFormed.{frames_there}
+use Rattle.place_sorts.specs.AbsExpandBadStates.{IsOfPlace, IsOfField, HasStackOf, call_takes, call_at, IsPlaced, statics_under}
+use Rattle.place_sorts.specs.AbsExpandBadStates.{HasCallersStack, IsCallerPlaced, AreCallersPlaced, HasRunningStack, IsRunningPlaced}
+use Rattle.place_sorts.specs.AbsExpandBadStates.{ArePlaced}
+use Rattle.place_sorts.proofs.AbsPlansWellFormed.{frames_there}
 use Rattle.place_sorts.specs.Growing.{AreWaiting, WaitBelow}
 use Rattle.place_sorts.proofs.SortLists.{take_mapped, drop_mapped, given_taken, given_dropped}
 use Rattle.grow_laws.proofs.StandAlike.{alike_ints, alike_others}

@@ -8,7 +8,7 @@ use Rattle.class_program.specs.Widths.{HasWidths}
 use Rattle.frame_types.specs.Tables.{CodeTypes}
 use Rattle.code_verify.specs.Typings.{IsTypingOf}
 use Rattle.term_graph.specs.Graphs.{GraphChild}
-use Rattle.abs_expand.specs.Expansions.{plan_of, AreExpanded}
+use Rattle.place_sorts.specs.AbsExpandExpansions.{plan_of, AreExpanded}
 use Rattle.place_sorts.specs.Growing.{IsGrowing}
 use Rattle.abs_reach.specs.Instances.{head_of, is_thrown}
 use Rattle.abs_widen.specs.Widening.{AreAlike, IsWidening}

@@ -4,7 +4,7 @@ use Rattle.std.specs.Prelude.{length, map, slice_get, Option, Some, None, Result
 use Rattle.std.specs.List.{position_from}
 use Rattle.std.specs.Int.{int_max, int_min}
 use Rattle.std.specs.Option.{option_or, option_map_or}
-use Rattle.lin_core.specs.Intervals.{interval_of}
+use Rattle.abs_cells.specs.lin_core.Intervals.{interval_of}
 use Rattle.jvm_values.specs.declared.types.Ty.{Ty}
 use Rattle.jvm_values.specs.declared.types.Slot.{Slot}
 use Rattle.jvm_values.specs.declared.types.Slot.TheVariants as slots

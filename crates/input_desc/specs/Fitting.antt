@@ -1,7 +1,7 @@
 -- Which states of the machine fit a description.
 use Rattle.std.specs.Prelude.{◌≡◌, ◌≢◌, ◌⊎◌, ℕ, ℤ, true, List, [], ◌∷◌, ◌++◌, length, slice_get, Some, None, IsTrue}
 use Rattle.std.specs.List.{AllZip}
-use Rattle.lin_core.specs.Intervals.{IsIn}
+use Rattle.abs_cells.specs.lin_core.Intervals.{IsIn}
 use Rattle.jvm_values.specs.declared.heap.Value.{Value}
 use Rattle.jvm_values.specs.declared.heap.Value.TheVariants as values
 use Rattle.jvm_values.specs.declared.heap.Heap.{Heap}

@@ -1,6 +1,6 @@
 //! Descriptions of a program's inputs.
+use abs_cells::lin_core::Interval;
 use jvm_values::{Shape, Ty};
-use lin_core::Interval;
 use list_views::Seq;
 
 /// What is described of one input: of a parameter of the entry method or of a static field.

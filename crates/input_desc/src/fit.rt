@@ -16,12 +16,12 @@ use crate::given::inputs;
 use crate::names::type_named;
 use crate::there::all_there;
 use abs_cells::MOST_IDS;
+use abs_cells::lin_core::Interval;
 use class_base::{STATIC, has_flag};
 use class_program::Program;
 use class_world::World;
 use input_text::{DescFault, DescText, InputText};
 use jvm_values::{Slot, Ty, Types};
-use lin_core::Interval;
 use list_views::Seq;
 use std::alloc::{AllocError, Global};
 

@@ -5,7 +5,7 @@ use Rattle.std.specs.Prelude.{slice_get, int_le, option_and_then, option_map}
 use Rattle.std.specs.List.{AllZip}
 use Rattle.std.specs.Int.{int_max, int_min}
 use Rattle.std.proofs.lemmas.Int.{ints, clamps}
-use Rattle.lin_core.specs.Intervals.{IsIn}
+use Rattle.abs_cells.specs.lin_core.Intervals.{IsIn}
 use Rattle.jvm_values.specs.declared.types.Kind.{Kind}
 use Rattle.jvm_values.specs.declared.types.Ty.{Ty}
 use Rattle.jvm_values.specs.declared.types.Slot.{Slot}
@@ -15,11 +15,11 @@ use Rattle.jvm_values.specs.declared.heap.Heap.{Heap}
 use Rattle.jvm_values.specs.declared.shape.Shape.{Shape}
 use Rattle.jvm_values.specs.Kinds.{IsOfKind, least_of, greatest_of}
 use Rattle.jvm_values.specs.TypedHeaps.{WorldTypes, Holds}
-use Rattle.class_world.specs.World.{World}
-use Rattle.class_world.specs.WorldTypes.{types_of}
-use Rattle.class_world.specs.Types.{is_sub, erase}
-use Rattle.input_text.specs.declared.texts.InputText.{InputText}
-use Rattle.input_text.specs.declared.texts.InputText.TheVariants as texts
+use Rattle.input_desc.specs.ClassWorldWorld.{World}
+use Rattle.input_desc.specs.ClassWorldWorldTypes.{types_of}
+use Rattle.input_desc.specs.ClassWorldTypes.{is_sub, erase}
+use Rattle.input_desc.specs.InputTextInputText.{InputText}
+use Rattle.input_desc.specs.InputTextInputText.TheVariants as texts
 use Rattle.input_desc.specs.declared.desc.Input.{Input}
 use Rattle.input_desc.specs.declared.desc.Input.TheVariants.{Int, Ref}
 use Rattle.input_desc.specs.TypeNames.{type_named}

@@ -25,22 +25,22 @@ use Rattle.jvm_values.specs.States.{MachineState}
 use Rattle.jvm_values.specs.Heaps.{target, HasShape, IsInHeap}
 use Rattle.jvm_values.specs.TypedHeaps.{WorldTypes, type_of, Holds}
 use Rattle.jvm_values.proofs.Typed.{value_in_heap}
-use Rattle.class_world.specs.World.{World}
-use Rattle.class_world.specs.WorldTypes.{types_of}
-use Rattle.class_world.specs.lemmas.WorldLaws.{world_laws}
-use Rattle.class_world.specs.Types.{is_sub}
-use Rattle.class_program.specs.declared.program.Method.{Method}
-use Rattle.class_program.specs.Programs.{Program}
+use Rattle.input_desc.specs.ClassWorldWorld.{World}
+use Rattle.input_desc.specs.ClassWorldWorldTypes.{types_of}
+use Rattle.input_desc.specs.ClassWorldWorldLaws.{world_laws}
+use Rattle.input_desc.specs.ClassWorldTypes.{is_sub}
+use Rattle.input_desc.specs.ClassProgramMethod.{Method}
+use Rattle.input_desc.specs.ClassProgramPrograms.{Program}
 use Rattle.abs_cells.specs.declared.cells.Cell.{Cell}
 use Rattle.abs_cells.specs.Cells.{is_known, shape_of, cell_in, are_compatible, HasCell, AreEqual}
 use Rattle.abs_cells.specs.Fits.{Meaning, FitsFrame, FitsMode, Describes, with_statics}
-use Rattle.frame_types.specs.Tables.{CodeTypes}
-use Rattle.frame_types.specs.Places.{IsWithin}
+use Rattle.code_verify.specs.FrameTypesTables.{CodeTypes}
+use Rattle.code_verify.specs.FrameTypesPlaces.{IsWithin}
 use Rattle.code_verify.specs.Operands.{place_of}
 use Rattle.code_verify.specs.Typings.{IsTypingOf, entry_frame}
 use Rattle.code_verify.specs.TypedStates.{HasPlaceType, HasStack, IsRunning, AreTypedFrames}
-use Rattle.input_text.specs.declared.texts.DescText.{DescText}
-use Rattle.input_text.specs.declared.fault.DescFault.TheVariants.{ParamCount, StaticCount}
+use Rattle.input_desc.specs.InputTextDescText.{DescText}
+use Rattle.input_desc.specs.InputTextDescFault.TheVariants.{ParamCount, StaticCount}
 use Rattle.input_desc.specs.declared.desc.Input.{Input}
 use Rattle.input_desc.specs.declared.desc.Input.TheVariants.{Int, Ref}
 use Rattle.input_desc.specs.declared.desc.Desc.{Desc}

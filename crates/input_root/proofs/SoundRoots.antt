@@ -11,7 +11,7 @@ use Rattle.std.proofs.lemmas.Int.{ints, clamps}
 use Rattle.std.proofs.lemmas.List.{length-map}
 use Rattle.std.proofs.lemmas.List.Elements.{All-nil, All-cons, All-head, All-tail, All-append, All-map, All-replicate}
 use Rattle.std.proofs.lemmas.Option.{slice_get_cases}
-use Rattle.lin_core.specs.Intervals.{Bounds}
+use Rattle.abs_cells.specs.lin_core.Intervals.{Bounds}
 use Rattle.jvm_values.specs.declared.types.Ty.{Ty}
 use Rattle.jvm_values.specs.declared.types.Slot.{Slot}
 use Rattle.jvm_values.specs.declared.types.Slot.TheVariants as slots
@@ -22,17 +22,17 @@ use Rattle.jvm_values.specs.Kinds.{least_of, greatest_of, IsOfKind}
 use Rattle.jvm_values.specs.Slots.{is_reference_slot}
 use Rattle.jvm_values.specs.Subtyping.{IsReference, IsErased}
 use Rattle.jvm_values.proofs.Ranges.{kind_ints}
-use Rattle.class_world.specs.World.{World}
-use Rattle.class_world.specs.WorldTypes.{types_of}
-use Rattle.class_world.specs.lemmas.WorldLaws.{world_laws}
-use Rattle.class_world.specs.Types.{erase}
-use Rattle.class_program.specs.Programs.{Program}
+use Rattle.input_desc.specs.ClassWorldWorld.{World}
+use Rattle.input_desc.specs.ClassWorldWorldTypes.{types_of}
+use Rattle.input_desc.specs.ClassWorldWorldLaws.{world_laws}
+use Rattle.input_desc.specs.ClassWorldTypes.{erase}
+use Rattle.input_desc.specs.ClassProgramPrograms.{Program}
 use Rattle.abs_cells.specs.declared.cells.Cell.{Cell}
 use Rattle.abs_cells.specs.AbstractStates.{AbstractState}
 use Rattle.abs_cells.specs.Cells.{is_known, is_reference, ids_in, cell_in, HasCell, Share}
 use Rattle.abs_cells.specs.Sound.{AreIdsRising, given_ids, ids_used, IsSoundCell, IsWellFormed}
-use Rattle.input_text.specs.declared.texts.InputText.{InputText}
-use Rattle.input_text.specs.declared.texts.InputText.TheVariants as texts
+use Rattle.input_desc.specs.InputTextInputText.{InputText}
+use Rattle.input_desc.specs.InputTextInputText.TheVariants as texts
 use Rattle.input_desc.specs.declared.desc.Input.{Input}
 use Rattle.input_desc.specs.declared.desc.Input.TheVariants.{Int, Ref}
 use Rattle.input_desc.specs.declared.desc.Desc.{Desc}

@@ -4,12 +4,12 @@ use Rattle.std.specs.Option.{unwrap_or}
 use Rattle.jvm_values.specs.declared.heap.Value.{Value}
 use Rattle.jvm_values.specs.declared.heap.Value.TheVariants.{Null}
 use Rattle.jvm_values.specs.States.{MachineState}
-use Rattle.class_world.specs.WorldTypes.{types_of}
-use Rattle.class_program.specs.Programs.{Program, IsClosed}
+use Rattle.input_desc.specs.ClassWorldWorldTypes.{types_of}
+use Rattle.input_desc.specs.ClassProgramPrograms.{Program, IsClosed}
 use Rattle.abs_cells.specs.Fits.{Meaning, Fits}
 use Rattle.abs_cells.specs.Sound.{IsSound}
 use Rattle.abs_cells.specs.Limits.{most_ids}
-use Rattle.frame_types.specs.Tables.{CodeTypes}
+use Rattle.code_verify.specs.FrameTypesTables.{CodeTypes}
 use Rattle.code_verify.specs.Typings.{IsTypingOf}
 use Rattle.code_verify.specs.TypedStates.{IsTypedState}
 use Rattle.input_desc.specs.declared.desc.Desc.{Desc}

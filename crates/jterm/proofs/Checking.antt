@@ -2,7 +2,7 @@
 use Rattle.std.proofs.Common.{◌≡◌, ◌⊎◌, ◌≤◌, ◌++◌, ℕ, List, [], ◌∷◌, Option, None, Result, Ok, Err, IfOk, get_or, refl, sym, ap}
 use Rattle.std.proofs.Common.{◌∙◌, subst, inl, inr, arith}
 use Rattle.input_steps.specs.declared.refused.Refused.{Refused}
-use Rattle.cert_check.specs.Valid.{Case, IsValid}
+use Rattle.cert_calls.specs.CertCheckValid.{Case, IsValid}
 use Rattle.desc_steps.specs.Headline.{AllEnd}
 use Rattle.check_call.specs.declared.outcome.Outcome.{Outcome}
 use Rattle.check_call.specs.Answers as check

@@ -31,10 +31,10 @@ use Rattle.jvm_values.specs.Kinds.{IsOfKind, narrowed}
 use Rattle.jvm_values.specs.Subtyping.{array_of, array_of_numbers, IsReference}
 use Rattle.jvm_values.specs.TypedHeaps.{WorldTypes, AreLawful, type_of, HasType, IsTypedObject}
 use Rattle.jvm_values.proofs.Options.{some_is}
-use Rattle.class_world.specs.Types.{erase}
+use Rattle.class_program.specs.class_world.Types.{erase}
 use Rattle.code_verify.specs.declared.want.Want.{Want}
 use Rattle.code_verify.specs.declared.want.Want.TheVariants as wants
-use Rattle.op_forms.specs.declared.form.ItemKind.{ItemKind}
+use Rattle.jvm_step.specs.op_forms.declared.form.ItemKind.{ItemKind}
 use Rattle.code_verify.specs.Operands.{fits, is_reference, item_place, is_references}
 use Rattle.code_verify.specs.Rows.{taken, acted, top_place, aaload_types}
 use Rattle.code_verify.specs.Flows.{falls}

@@ -26,9 +26,9 @@ use Rattle.jvm_values.specs.declared.typing.PlaceType.TheVariants as places
 use Rattle.jvm_values.specs.States.{MachineFrame, PlaceTypes}
 use Rattle.jvm_values.specs.Subtyping.{class_type, array_of, array_of_numbers, IsReference}
 use Rattle.jvm_values.specs.TypedHeaps.{WorldTypes, AreLawful, type_of, HasType, IsTypedObject}
-use Rattle.class_world.specs.Fields.{can_be_made}
-use Rattle.class_world.specs.lemmas.Linked.{class_order}
-use Rattle.class_world.specs.Types.{is_class_below, erase}
+use Rattle.class_program.specs.class_world.Fields.{can_be_made}
+use Rattle.class_program.specs.class_world.lemmas.Linked.{class_order}
+use Rattle.class_program.specs.class_world.Types.{is_class_below, erase}
 use Rattle.code_verify.specs.declared.want.Want.{Want}
 use Rattle.code_verify.specs.declared.want.Want.TheVariants as wants
 use Rattle.std.proofs.Common.{take, drop, reverse, append-nil}
@@ -36,10 +36,10 @@ use Rattle.std.proofs.lemmas.List.{reverse-append, reverse-reverse, length-rever
 use Rattle.std.specs.Str.{bytes_eq}
 use Rattle.list_views.proofs.Options.{cond_guarded}
 use Rattle.jvm_values.specs.Subtyping.{IsSlot}
-use Rattle.class_world.specs.World.{World, is_interface_class, is_abstract}
-use Rattle.class_world.specs.Descriptors.{class_slot}
-use Rattle.class_world.specs.Resolve.{method_at}
-use Rattle.class_world.specs.class_read.Content.{MethodContent}
+use Rattle.class_program.specs.class_world.World.{World, is_interface_class, is_abstract}
+use Rattle.class_program.specs.class_world.Descriptors.{class_slot}
+use Rattle.class_program.specs.class_world.Resolve.{method_at}
+use Rattle.class_program.specs.class_world.class_read.Content.{MethodContent}
 use Rattle.class_program.specs.declared.op.Op.{Op}
 use Rattle.class_program.specs.declared.op.Op.TheVariants as ops
 use Rattle.class_program.specs.declared.op.Call.{Call}

@@ -30,9 +30,9 @@ use Rattle.jvm_values.specs.States.{MachineFrame, PlaceTypes}
 use Rattle.jvm_values.specs.Subtyping.{class_type}
 use Rattle.jvm_values.specs.TypedHeaps.{WorldTypes, AreLawful, type_of, Holds, IsTypedObject}
 use Rattle.jvm_values.proofs.Options.{some_is}
-use Rattle.class_world.specs.Fields.{fields_of}
-use Rattle.class_world.specs.lemmas.Linked.{class_order}
-use Rattle.class_world.specs.Types.{is_class_below, erase}
+use Rattle.class_program.specs.class_world.Fields.{fields_of}
+use Rattle.class_program.specs.class_world.lemmas.Linked.{class_order}
+use Rattle.class_program.specs.class_world.Types.{is_class_below, erase}
 use Rattle.class_program.specs.declared.op.FieldUse.{FieldUse}
 use Rattle.class_program.specs.declared.program.StaticField.{StaticField}
 use Rattle.class_program.specs.Good.{IsGoodField}

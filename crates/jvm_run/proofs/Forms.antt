@@ -25,16 +25,16 @@ use Rattle.jvm_values.specs.Kinds.{IsOfKind}
 use Rattle.jvm_values.specs.Subtyping.{class_type}
 use Rattle.jvm_values.specs.TypedHeaps.{WorldTypes, AreLawful, type_of, HasType, Holds, IsTypedHeap}
 use Rattle.jvm_values.proofs.Options.{some_is}
-use Rattle.class_world.specs.BuiltIns.{HasBuiltIns, throwable}
-use Rattle.class_world.specs.Linking.{is_linked}
-use Rattle.class_world.specs.WorldTypes.{types_of}
+use Rattle.class_program.specs.class_world.BuiltIns.{HasBuiltIns, throwable}
+use Rattle.class_program.specs.class_world.Linking.{is_linked}
+use Rattle.class_program.specs.class_world.WorldTypes.{types_of}
 use Rattle.class_program.specs.declared.op.Op.{Op}
 use Rattle.class_program.specs.declared.program.Method.{Method}
 use Rattle.class_program.specs.Programs.{Program}
 use Rattle.class_program.specs.Good.{IsGood}
 use Rattle.class_program.specs.Selected.{CanRun}
-use Rattle.op_forms.specs.declared.form.ItemKind.{ItemKind}
-use Rattle.op_forms.specs.Forms.{Form}
+use Rattle.jvm_step.specs.op_forms.declared.form.ItemKind.{ItemKind}
+use Rattle.jvm_step.specs.op_forms.Forms.{Form}
 use Rattle.code_verify.specs.declared.want.Want.{Want}
 use Rattle.code_verify.specs.declared.want.Want.TheVariants as wants
 use Rattle.code_verify.specs.Operands.{fits, want_of, place_of, is_reference}

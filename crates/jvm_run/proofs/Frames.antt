@@ -15,11 +15,11 @@ use Rattle.jvm_values.specs.declared.typing.PlaceType.TheVariants as places
 use Rattle.jvm_values.specs.States.{MachineFrame, PlaceTypes}
 use Rattle.jvm_values.specs.Heaps.{IsInHeap}
 use Rattle.jvm_values.specs.TypedHeaps.{WorldTypes, AreLawful}
-use Rattle.class_world.specs.WorldTypes.{types_of}
+use Rattle.class_program.specs.class_world.WorldTypes.{types_of}
 use Rattle.class_program.specs.declared.program.Method.{Method}
 use Rattle.class_program.specs.Programs.{Program}
-use Rattle.frame_types.specs.Places.{IsWithin, IsSet}
-use Rattle.frame_types.specs.Tables.{CodeTypes, Takes}
+use Rattle.code_verify.specs.FrameTypesPlaces.{IsWithin, IsSet}
+use Rattle.code_verify.specs.FrameTypesTables.{CodeTypes, Takes}
 use Rattle.code_verify.specs.Operands.{place_of}
 use Rattle.code_verify.specs.Typings.{IsTyping, entry_frame}
 use Rattle.code_verify.specs.TypedStates.{HasPlaceType, HasStack, IsTypedFrame, IsRunning, IsUnwinding, IsCaller, AreCallers}

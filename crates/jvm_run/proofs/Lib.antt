@@ -18,3 +18,5 @@ pub mod StackForms
 pub mod Stepping
 pub mod TypedRuns
 pub mod Values
+-- files of crates below, given again for the crates above
+pub use Rattle.jvm_step.proofs.op_forms.Widths as OpFormsWidths

@@ -6,15 +6,15 @@ use Rattle.jvm_values.specs.declared.types.Kind.{Kind}
 use Rattle.jvm_values.specs.Kinds.{kind_of_code}
 use Rattle.jvm_values.specs.Subtyping.{IsReference}
 use Rattle.jvm_values.proofs.Options.{some_is}
-use Rattle.code_forms.specs.declared.insn.Insn.{Insn}
-use Rattle.code_forms.specs.declared.insn.Insn.TheVariants as insns
+use Rattle.class_program.specs.code_forms.declared.insn.Insn.{Insn}
+use Rattle.class_program.specs.code_forms.declared.insn.Insn.TheVariants as insns
 use Rattle.class_program.specs.declared.op.Op.{Op}
 use Rattle.class_program.specs.declared.op.Op.TheVariants as ops
 use Rattle.class_program.specs.Programs.{Program}
 use Rattle.class_program.specs.Good.{IsGoodName, IsGoodField, IsGoodStatic, IsGoodSpecial, IsGoodSelecting, IsGoodNew}
-use Rattle.op_forms.specs.Forms.{Form, form_of, form_of_insn}
-use Rattle.op_forms.specs.Forms.Form.{Getfield, Putfield, Invokevirtual, Invokespecial, Invokestatic, Invokeinterface, New}
-use Rattle.op_forms.specs.Forms.Form.{Newarray, Anewarray, Checkcast, Instanceof}
+use Rattle.jvm_step.specs.op_forms.Forms.{Form, form_of, form_of_insn}
+use Rattle.jvm_step.specs.op_forms.Forms.Form.{Getfield, Putfield, Invokevirtual, Invokespecial, Invokestatic, Invokeinterface, New}
+use Rattle.jvm_step.specs.op_forms.Forms.Form.{Newarray, Anewarray, Checkcast, Instanceof}
 
 -- what a form names is good
 abbrev pub IsNamed : Program → ℕ → Op → Form → Type 0

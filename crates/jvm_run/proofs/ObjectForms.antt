@@ -27,9 +27,9 @@ use Rattle.jvm_values.specs.Kinds.{IsOfKind}
 use Rattle.jvm_values.specs.Subtyping.{class_type, IsReference}
 use Rattle.jvm_values.specs.TypedHeaps.{WorldTypes, AreLawful, type_of, HasType, IsTypedObject}
 use Rattle.jvm_values.proofs.Options.{some_is}
-use Rattle.class_world.specs.BuiltIns.{throwable}
-use Rattle.class_world.specs.Fields.{can_be_made}
-use Rattle.class_world.specs.Types.{erase}
+use Rattle.class_program.specs.class_world.BuiltIns.{throwable}
+use Rattle.class_program.specs.class_world.Fields.{can_be_made}
+use Rattle.class_program.specs.class_world.Types.{erase}
 use Rattle.class_program.specs.Good.{IsGoodNew}
 use Rattle.code_verify.specs.declared.want.Want.{Want}
 use Rattle.code_verify.specs.declared.want.Want.TheVariants as wants

@@ -25,16 +25,16 @@ use Rattle.jvm_values.specs.Subtyping.{class_type, object_type, array_of, array_
 use Rattle.jvm_values.specs.TypedHeaps.{WorldTypes, AreLawful, type_of, Holds, IsTypedObject, IsTypedHeap}
 use Rattle.jvm_values.specs.Joins.{item_of, item_under}
 use Rattle.jvm_values.proofs.Joining.{array_of_item, same_type}
-use Rattle.class_world.specs.World.{World, is_interface_class, super_of, supers_of, leads_up, is_above}
-use Rattle.class_world.specs.lemmas.Walks.{IsIn}
-use Rattle.class_world.specs.lemmas.Classes.{IsHierarchy}
-use Rattle.class_world.specs.Types.{is_class_below, is_sub, erase, erase_by}
-use Rattle.class_world.specs.Linking.{is_linked}
-use Rattle.class_world.specs.WorldTypes.{types_of}
-use Rattle.class_world.specs.lemmas.Subtypes.{stands_from, stands_to}
-use Rattle.class_world.specs.lemmas.Linked.{linked_from, hierarchy, class_order}
-use Rattle.op_forms.specs.declared.form.ItemKind.{ItemKind}
-use Rattle.op_forms.specs.declared.form.ItemKind.TheVariants as items
+use Rattle.class_program.specs.class_world.World.{World, is_interface_class, super_of, supers_of, leads_up, is_above}
+use Rattle.class_program.specs.class_world.lemmas.Walks.{IsIn}
+use Rattle.class_program.specs.class_world.lemmas.Classes.{IsHierarchy}
+use Rattle.class_program.specs.class_world.Types.{is_class_below, is_sub, erase, erase_by}
+use Rattle.class_program.specs.class_world.Linking.{is_linked}
+use Rattle.class_program.specs.class_world.WorldTypes.{types_of}
+use Rattle.class_program.specs.class_world.lemmas.Subtypes.{stands_from, stands_to}
+use Rattle.class_program.specs.class_world.lemmas.Linked.{linked_from, hierarchy, class_order}
+use Rattle.jvm_step.specs.op_forms.declared.form.ItemKind.{ItemKind}
+use Rattle.jvm_step.specs.op_forms.declared.form.ItemKind.TheVariants as items
 use Rattle.code_verify.specs.Operands.{is_numbers, is_base_for, is_for as typed_for}
 use Rattle.jvm_step.specs.Effects.{is_for, numbers_in, length_of}
 use Rattle.jvm_values.specs.Slots.{initial_value}

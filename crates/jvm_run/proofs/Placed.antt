@@ -13,14 +13,14 @@ use Rattle.list_views.specs.Options.{asked}
 use Rattle.jvm_values.specs.States.{PlaceTypes}
 use Rattle.jvm_values.specs.TypedHeaps.{WorldTypes}
 use Rattle.jvm_values.proofs.Options.{some_is}
-use Rattle.class_world.specs.WorldTypes.{types_of}
+use Rattle.class_program.specs.class_world.WorldTypes.{types_of}
 use Rattle.class_program.specs.declared.op.Op.{Op}
 use Rattle.class_program.specs.declared.program.CatchRange.{CatchRange}
 use Rattle.class_program.specs.declared.program.Method.{Method}
 use Rattle.class_program.specs.Instructions.{instruction_at, first_place}
 use Rattle.class_program.specs.Programs.{Program}
-use Rattle.op_forms.specs.Forms.{Form, form_of}
-use Rattle.frame_types.specs.Tables.{CodeTypes, Flow, Takes}
+use Rattle.jvm_step.specs.op_forms.Forms.{Form, form_of}
+use Rattle.code_verify.specs.FrameTypesTables.{CodeTypes, Flow, Takes}
 use Rattle.code_verify.specs.Rows.{types_after}
 use Rattle.code_verify.specs.Flows.{falls, jumps, ways, is_inside, covers, onward, caught, caught_frame, runs_at, flows_from}
 use Rattle.code_verify.specs.Typings.{IsTyped}

@@ -13,9 +13,9 @@ use Rattle.jvm_values.specs.States.{PlaceTypes}
 use Rattle.jvm_values.specs.Subtyping.{class_type}
 use Rattle.jvm_values.specs.TypedHeaps.{WorldTypes}
 use Rattle.jvm_values.proofs.Options.{some_is}
-use Rattle.class_world.specs.World.{is_abstract}
-use Rattle.class_world.specs.WorldTypes.{types_of}
-use Rattle.class_world.specs.Descriptors.{class_slot}
+use Rattle.class_program.specs.class_world.World.{is_abstract}
+use Rattle.class_program.specs.class_world.WorldTypes.{types_of}
+use Rattle.class_program.specs.class_world.Descriptors.{class_slot}
 use Rattle.class_program.specs.declared.op.Op.{Op}
 use Rattle.class_program.specs.declared.op.Op.TheVariants as ops
 use Rattle.class_program.specs.declared.op.Call.{Call}
@@ -25,7 +25,7 @@ use Rattle.class_program.specs.declared.selected.Selected.TheVariants as answers
 use Rattle.class_program.specs.Programs.{Program}
 use Rattle.class_program.specs.Good.{IsGoodName, Takes, SpecialRuns, IsGoodAnswer}
 use Rattle.class_program.specs.Selected.{CanRun, can_receive}
-use Rattle.op_forms.specs.Forms.{Form, form_of}
+use Rattle.jvm_step.specs.op_forms.Forms.{Form, form_of}
 use Rattle.code_verify.specs.declared.want.Want.{Want}
 use Rattle.code_verify.specs.declared.want.Want.TheVariants as wants
 use Rattle.code_verify.specs.Operands.{fits, place_of, want_of}

@@ -10,9 +10,9 @@ use Rattle.jvm_values.specs.declared.typing.PlaceType.{PlaceType}
 use Rattle.jvm_values.specs.States.{PlaceTypes}
 use Rattle.jvm_values.specs.TypedHeaps.{WorldTypes}
 use Rattle.jvm_values.proofs.Options.{some_is}
-use Rattle.op_forms.specs.declared.form.Shuffle.{Shuffle}
-use Rattle.op_forms.specs.declared.form.Shuffle.TheVariants as shuffles
-use Rattle.op_forms.specs.Forms.{shuffled}
+use Rattle.jvm_step.specs.op_forms.declared.form.Shuffle.{Shuffle}
+use Rattle.jvm_step.specs.op_forms.declared.form.Shuffle.TheVariants as shuffles
+use Rattle.jvm_step.specs.op_forms.Forms.{shuffled}
 use Rattle.code_verify.specs.declared.want.Want.TheVariants as wants
 use Rattle.code_verify.specs.Rows.{acted, shuffle_types}
 use Rattle.code_verify.specs.Flows.{falls, jumps}

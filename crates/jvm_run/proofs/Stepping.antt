@@ -23,10 +23,10 @@ use Rattle.jvm_values.specs.Heaps.{IsInHeap}
 use Rattle.jvm_values.specs.Subtyping.{class_type}
 use Rattle.jvm_values.specs.TypedHeaps.{WorldTypes, AreLawful, type_of, HasType, Holds, IsTypedObject, IsTypedHeap}
 use Rattle.jvm_values.proofs.Options.{some_is}
-use Rattle.class_world.specs.BuiltIns.{HasBuiltIns, throwable}
-use Rattle.class_world.specs.Linking.{is_linked}
-use Rattle.class_world.specs.Types.{is_sub, erase}
-use Rattle.class_world.specs.WorldTypes.{types_of}
+use Rattle.class_program.specs.class_world.BuiltIns.{HasBuiltIns, throwable}
+use Rattle.class_program.specs.class_world.Linking.{is_linked}
+use Rattle.class_program.specs.class_world.Types.{is_sub, erase}
+use Rattle.class_program.specs.class_world.WorldTypes.{types_of}
 use Rattle.class_program.specs.declared.op.Op.{Op}
 use Rattle.class_program.specs.declared.program.CatchRange.{CatchRange}
 use Rattle.class_program.specs.declared.program.Method.{Method}
@@ -36,8 +36,8 @@ use Rattle.class_program.specs.Widths.{HasWidths}
 use Rattle.class_program.specs.Good.{IsGood, IsGoodOp, IsGoodMethod}
 use Rattle.class_program.proofs.Got.{all_at}
 use Rattle.class_program.specs.Selected.{CanRun}
-use Rattle.op_forms.proofs.Widths.{forms_wide}
-use Rattle.frame_types.specs.Tables.{CodeTypes, Takes}
+use Rattle.jvm_step.proofs.op_forms.Widths.{forms_wide}
+use Rattle.code_verify.specs.FrameTypesTables.{CodeTypes, Takes}
 use Rattle.code_verify.specs.Operands.{place_of}
 use Rattle.code_verify.specs.Rows.{with_result as types_with_result}
 use Rattle.code_verify.specs.Flows.{caught_class, caught_frame, covers, falls}

@@ -6,13 +6,13 @@ use Rattle.jvm_values.specs.declared.heap.Heap.{Heap}
 use Rattle.jvm_values.specs.declared.state.Mode.TheVariants.{Normal}
 use Rattle.jvm_values.specs.States.{MachineState}
 use Rattle.jvm_values.proofs.Options.{some_is}
-use Rattle.class_world.specs.lemmas.WorldLaws.{world_laws}
-use Rattle.class_world.proofs.BuiltInLaws.{built_ins_known}
+use Rattle.class_program.specs.class_world.lemmas.WorldLaws.{world_laws}
+use Rattle.class_program.proofs.class_world.BuiltInLaws.{built_ins_known}
 use Rattle.class_program.specs.declared.program.Method.{Method}
 use Rattle.class_program.specs.Programs.{Program, IsClosed}
 use Rattle.class_program.specs.Widths.{HasWidths}
 use Rattle.class_program.proofs.GoodPrograms.{good_program}
-use Rattle.frame_types.specs.Tables.{CodeTypes}
+use Rattle.code_verify.specs.FrameTypesTables.{CodeTypes}
 use Rattle.code_verify.specs.Typings.{IsTypingOf}
 use Rattle.code_verify.specs.TypedStates.{IsTypedState}
 use Rattle.jvm_step.specs.Running.{Step, new_frame, entered, step, step_on, run, start}

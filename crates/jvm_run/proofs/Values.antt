@@ -22,7 +22,7 @@ use Rattle.jvm_values.specs.Heaps.{IsInHeap}
 use Rattle.jvm_values.specs.TypedHeaps.{WorldTypes, AreLawful, type_of, HasType, Holds, IsTypedObject, IsTypedHeap}
 use Rattle.jvm_values.proofs.Options.{some_is}
 use Rattle.jvm_values.proofs.Typed.{value_in_heap}
-use Rattle.frame_types.specs.Places.{IsWithin}
+use Rattle.code_verify.specs.FrameTypesPlaces.{IsWithin}
 use Rattle.code_verify.specs.Operands.{place_of}
 use Rattle.code_verify.specs.TypedStates.{HasPlaceType}
 use Rattle.jvm_run.proofs.Lists.{zip_map}

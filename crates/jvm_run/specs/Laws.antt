@@ -5,11 +5,11 @@ use Rattle.jvm_values.specs.declared.heap.Value.{Value}
 use Rattle.jvm_values.specs.declared.heap.Heap.{Heap}
 use Rattle.jvm_values.specs.States.{MachineState}
 use Rattle.jvm_values.specs.TypedHeaps.{Holds, IsTypedHeap}
-use Rattle.class_world.specs.WorldTypes.{types_of}
+use Rattle.class_program.specs.class_world.WorldTypes.{types_of}
 use Rattle.class_program.specs.declared.program.Method.{Method}
 use Rattle.class_program.specs.Programs.{Program, IsClosed}
 use Rattle.class_program.specs.Widths.{HasWidths}
-use Rattle.frame_types.specs.Tables.{CodeTypes}
+use Rattle.code_verify.specs.FrameTypesTables.{CodeTypes}
 use Rattle.code_verify.specs.Typings.{IsTypingOf}
 use Rattle.code_verify.specs.Operands.{place_of}
 use Rattle.code_verify.specs.TypedStates.{HasPlaceType, IsTypedState}

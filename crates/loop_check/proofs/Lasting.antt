@@ -16,7 +16,7 @@ use Rattle.class_program.proofs.GoodPrograms.{good_program}
 use Rattle.frame_types.specs.Tables.{CodeTypes}
 use Rattle.code_verify.specs.Typings.{IsTypingOf}
 use Rattle.code_verify.specs.TypedStates.{IsTypedState}
-use Rattle.jvm_step.specs.Running.{Step, step, step_on, run}
+use Rattle.jvm_run.specs.jvm_step.Running.{Step, step, step_on, run}
 use Rattle.jvm_run.specs.Laws.{GoesTyped, StepsAreTyped}
 use Rattle.input_desc.specs.Initial.{initial_of}
 use Rattle.input_root.specs.Roots.{input_values, FittingStatesAreTyped, FittingStatesAreDescribed}

@@ -26,16 +26,16 @@ use Rattle.abs_cells.specs.AbstractStates.{AbstractState}
 use Rattle.abs_cells.specs.Cells.{cell_at, HasCell}
 use Rattle.abs_cells.specs.Fits.{Meaning}
 use Rattle.abs_cells.specs.Sound.{given_ids}
-use Rattle.class_world.specs.BuiltIns.{null_pointer_exception, abstract_method_error, incompatible_class_change_error}
-use Rattle.class_world.specs.World.{World}
-use Rattle.class_world.specs.WorldTypes.{types_of}
-use Rattle.class_program.specs.declared.op.Call.{Call}
-use Rattle.class_program.specs.declared.op.Op.{Op}
-use Rattle.class_program.specs.declared.program.Method.{Method}
-use Rattle.class_program.specs.declared.selected.Selected.{Selected}
-use Rattle.class_program.specs.declared.selected.Selected.TheVariants as answers
-use Rattle.class_program.specs.Programs.{Program}
-use Rattle.class_program.specs.Selected.{can_receive}
+use Rattle.jvm_step.specs.class_world.BuiltIns.{null_pointer_exception, abstract_method_error, incompatible_class_change_error}
+use Rattle.jvm_step.specs.class_world.World.{World}
+use Rattle.jvm_step.specs.class_world.WorldTypes.{types_of}
+use Rattle.jvm_step.specs.class_program.declared.op.Call.{Call}
+use Rattle.jvm_step.specs.class_program.declared.op.Op.{Op}
+use Rattle.jvm_step.specs.class_program.declared.program.Method.{Method}
+use Rattle.jvm_step.specs.class_program.declared.selected.Selected.{Selected}
+use Rattle.jvm_step.specs.class_program.declared.selected.Selected.TheVariants as answers
+use Rattle.jvm_step.specs.class_program.Programs.{Program}
+use Rattle.jvm_step.specs.class_program.Selected.{can_receive}
 use Rattle.frame_types.specs.Tables.{CodeTypes}
 use Rattle.jvm_step.specs.Effects.{Effect, are_passed, below_arguments, invokestatic_effect, invokespecial_effect}
 use Rattle.jvm_step.specs.Effects.{is_special_receiver, runs_or_lacks as effect_or_lacks, class_of_object, answer_of}
@@ -43,7 +43,7 @@ use Rattle.jvm_step.specs.Effects.{selected_effect, selecting_effect, on_object}
 use Rattle.jvm_step.specs.Operands.{is_null, reference_of, top_reference, object_at}
 use Rattle.jvm_step.specs.Table.{Work, effect_of, on_frame}
 use Rattle.jvm_step.specs.Running.{Step, step, new_frame, entered, invokes as machine_invokes}
-use Rattle.term_graph.specs.Edges.{HoldsBetween}
+use Rattle.form_steps.specs.TermGraphEdges.{HoldsBetween}
 use Rattle.form_steps.specs.abs_expand.inner.Building.{HoldsIds}
 use Rattle.form_steps.specs.abs_expand.Needs.{need_null}
 use Rattle.form_steps.specs.abs_expand.Plans.{Turn, Plan, steps, no_child, no_rows}

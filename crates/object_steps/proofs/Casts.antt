@@ -23,14 +23,14 @@ use Rattle.abs_cells.specs.AbstractStates.{AbstractState}
 use Rattle.abs_cells.specs.Cells.{type_of_cell, cell_at, HasCell}
 use Rattle.abs_cells.specs.Fits.{Meaning, IsObject, Describes}
 use Rattle.abs_cells.specs.Sound.{IsSoundCell}
-use Rattle.class_world.specs.BuiltIns.{class_cast_exception}
-use Rattle.class_world.specs.WorldTypes.{types_of}
-use Rattle.class_program.specs.Programs.{Program}
+use Rattle.jvm_step.specs.class_world.BuiltIns.{class_cast_exception}
+use Rattle.jvm_step.specs.class_world.WorldTypes.{types_of}
+use Rattle.jvm_step.specs.class_program.Programs.{Program}
 use Rattle.frame_types.specs.Tables.{CodeTypes}
 use Rattle.jvm_step.specs.Effects.{Effect, with_stack, checkcast_effect, instanceof_effect}
 use Rattle.jvm_step.specs.Operands.{reference_of, top_reference, is_null_or_below, is_below}
 use Rattle.jvm_step.specs.Table.{effect_of, on_frame}
-use Rattle.term_graph.specs.Edges.{is_size_variable, HoldsBetween}
+use Rattle.form_steps.specs.TermGraphEdges.{is_size_variable, HoldsBetween}
 use Rattle.form_steps.specs.abs_expand.Needs.{may_be_null, need_null}
 use Rattle.form_steps.specs.abs_expand.Plans.{makes, on_stack, Turn, Plan, steps, no_rows}
 use Rattle.form_steps.specs.abs_expand.Table.{cell_here, is_null_cell, one_step, number_cell, Cast, checkcast_of, instanceof_of, bounded}

@@ -36,13 +36,13 @@ use Rattle.abs_ints.proofs.AllCases.{AreInts, operated_covers, is_int}
 use Rattle.abs_ints.proofs.Covering.{in_meet}
 use Rattle.abs_ints.proofs.Comparisons.{compared_covers}
 use Rattle.abs_ints.proofs.OperatorCases.{if_either}
-use Rattle.class_world.specs.BuiltIns.{arithmetic_exception}
-use Rattle.class_world.specs.WorldTypes.{types_of}
-use Rattle.class_program.specs.Programs.{Program}
+use Rattle.jvm_step.specs.class_world.BuiltIns.{arithmetic_exception}
+use Rattle.jvm_step.specs.class_world.WorldTypes.{types_of}
+use Rattle.jvm_step.specs.class_program.Programs.{Program}
 use Rattle.frame_types.specs.Tables.{CodeTypes}
 use Rattle.jvm_step.specs.Running.{Step, step}
-use Rattle.term_graph.specs.Edges.{HoldsBetween, number_of}
-use Rattle.term_graph.specs.declared.links.LinkRow.{LinkRow}
+use Rattle.form_steps.specs.TermGraphEdges.{HoldsBetween, number_of}
+use Rattle.form_steps.specs.TermGraphLinkRow.{LinkRow}
 use Rattle.form_steps.specs.abs_expand.Plans.{Goal, Turn, Plan, no_rows, makes}
 use Rattle.form_steps.specs.abs_expand.Turns.{with_stack as stack_at, narrows, turn_of_result, Operand, known, id, interval_of_id, interval_at}
 use Rattle.form_steps.specs.abs_expand.Turns.{are_one, rows_over, turn_of_case, turns_of, rows_if, place_of_way, branch_of_case, branches}

@@ -13,7 +13,7 @@ use Rattle.list_views.specs.Options.{asked}
 use Rattle.list_views.proofs.Items.{get_before}
 use Rattle.list_views.proofs.Options.{then_some}
 use Rattle.lin_core.specs.Intervals.{Bounds, IsIn}
-use Rattle.code_forms.specs.declared.insn.Case.{Case}
+use Rattle.jvm_step.specs.code_forms.declared.insn.Case.{Case}
 use Rattle.jvm_values.specs.declared.heap.Value.{Value}
 use Rattle.jvm_values.specs.declared.heap.Value.TheVariants as values
 use Rattle.jvm_values.specs.declared.ints.Cond.{Cond}
@@ -35,9 +35,9 @@ use Rattle.abs_ints.specs.Falling.{FallsUnder}
 use Rattle.abs_ints.specs.Operating.{operated}
 use Rattle.abs_ints.specs.declared.cases.IntCase.{IntCase}
 use Rattle.abs_ints.proofs.AllCases.{operated_covers}
-use Rattle.class_world.specs.BuiltIns.{arithmetic_exception}
-use Rattle.class_world.specs.WorldTypes.{types_of}
-use Rattle.class_program.specs.Programs.{Program}
+use Rattle.jvm_step.specs.class_world.BuiltIns.{arithmetic_exception}
+use Rattle.jvm_step.specs.class_world.WorldTypes.{types_of}
+use Rattle.jvm_step.specs.class_program.Programs.{Program}
 use Rattle.jvm_step.specs.op_forms.declared.form.Shuffle.{Shuffle as StackShuffle}
 use Rattle.jvm_step.specs.op_forms.Forms.{shuffled}
 use Rattle.frame_types.specs.Places.{IsSet}
@@ -52,8 +52,8 @@ use Rattle.jvm_step.specs.Effects.{tableswitch_effect, lookupswitch_effect}
 use Rattle.jvm_step.specs.Table.{effect_of, on_frame}
 use Rattle.jvm_step.specs.Running.{Step, step}
 use Rattle.form_steps.proofs.jvm_run.Placed.{asked_is}
-use Rattle.term_graph.specs.Edges.{HoldsBetween}
-use Rattle.term_graph.specs.declared.links.LinkRow.{LinkRow}
+use Rattle.form_steps.specs.TermGraphEdges.{HoldsBetween}
+use Rattle.form_steps.specs.TermGraphLinkRow.{LinkRow}
 use Rattle.form_steps.specs.abs_expand.Plans.{on_stack, in_local, makes, Turn, Plan, steps, no_rows}
 use Rattle.form_steps.specs.abs_expand.inner.Building.{HoldsIds}
 use Rattle.form_steps.specs.abs_expand.Switches.{table_keys, lookup_keys}

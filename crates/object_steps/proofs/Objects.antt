@@ -23,13 +23,13 @@ use Rattle.abs_cells.specs.declared.cells.Cell.TheVariants as cells
 use Rattle.abs_cells.specs.AbstractStates.{AbstractState}
 use Rattle.abs_cells.specs.Cells.{ids_in, cell_at, HasCell}
 use Rattle.abs_cells.specs.Fits.{Meaning}
-use Rattle.abs_reach.proofs.Walks.{named_has_cell}
+use Rattle.form_steps.proofs.AbsReachWalks.{named_has_cell}
 use Rattle.form_steps.specs.abs_heap.Laws.{heap_with}
-use Rattle.class_world.specs.BuiltIns.{null_pointer_exception, throwable}
-use Rattle.class_world.specs.WorldTypes.{types_of}
-use Rattle.class_program.specs.declared.op.FieldUse.{FieldUse}
-use Rattle.class_program.specs.Good.{IsGoodNew}
-use Rattle.class_program.specs.Programs.{Program}
+use Rattle.jvm_step.specs.class_world.BuiltIns.{null_pointer_exception, throwable}
+use Rattle.jvm_step.specs.class_world.WorldTypes.{types_of}
+use Rattle.jvm_step.specs.class_program.declared.op.FieldUse.{FieldUse}
+use Rattle.jvm_step.specs.class_program.Good.{IsGoodNew}
+use Rattle.jvm_step.specs.class_program.Programs.{Program}
 use Rattle.frame_types.specs.Tables.{CodeTypes}
 use Rattle.jvm_step.specs.Effects.{Effect, with_stack, fields_in, getfield_effect, length_of, arraylength_effect, athrow_effect}
 use Rattle.jvm_step.specs.Effects.{instance_of, new_instance, new_effect, array_made, zeros, nulls, newarray_effect}
@@ -37,7 +37,7 @@ use Rattle.jvm_step.specs.Effects.{anewarray_effect, makes}
 use Rattle.jvm_step.specs.Operands.{is_null, reference_of, top_int, top_reference, object_at, is_assignable}
 use Rattle.jvm_step.specs.Table.{effect_of, on_frame, on_heap}
 use Rattle.jvm_step.specs.Running.{Step, step}
-use Rattle.term_graph.specs.Edges.{HoldsBetween}
+use Rattle.form_steps.specs.TermGraphEdges.{HoldsBetween}
 use Rattle.form_steps.specs.abs_expand.Plans.{Turn, Plan, steps, no_rows}
 use Rattle.form_steps.specs.abs_expand.Table.{cell_here, is_null_here, unless_null, step_if, one_step, field_id, getfield_plan, length_id}
 use Rattle.form_steps.specs.abs_expand.Table.{length_plan, athrow_plan, new_of_base, new_plan}

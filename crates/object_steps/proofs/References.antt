@@ -26,9 +26,9 @@ use Rattle.abs_cells.specs.AbstractStates.{AbstractState}
 use Rattle.abs_cells.specs.Cells.{cell_at, HasCell, AreEqual}
 use Rattle.abs_cells.specs.PairLists.{has}
 use Rattle.abs_cells.specs.Fits.{Meaning, Describes}
-use Rattle.class_world.specs.BuiltIns.{null_pointer_exception}
-use Rattle.class_world.specs.WorldTypes.{types_of}
-use Rattle.class_program.specs.Programs.{Program}
+use Rattle.jvm_step.specs.class_world.BuiltIns.{null_pointer_exception}
+use Rattle.jvm_step.specs.class_world.WorldTypes.{types_of}
+use Rattle.jvm_step.specs.class_program.Programs.{Program}
 use Rattle.frame_types.specs.Places.{IsOfWorld, IsSet}
 use Rattle.frame_types.specs.Tables.{CodeTypes}
 use Rattle.form_steps.specs.code_verify.TypedStates.{HasPlaceType, HasStack}
@@ -36,7 +36,7 @@ use Rattle.jvm_step.specs.Effects.{Effect, with_stack, branch, is_wanted, if_acm
 use Rattle.jvm_step.specs.Operands.{reference_of, same_reference, is_null, top_reference}
 use Rattle.jvm_step.specs.Table.{effect_of, on_frame}
 use Rattle.jvm_step.specs.Running.{Step, step}
-use Rattle.term_graph.specs.Edges.{HoldsBetween}
+use Rattle.form_steps.specs.TermGraphEdges.{HoldsBetween}
 use Rattle.form_steps.specs.abs_expand.Needs.{may_be_null, need_null, is_unknown}
 use Rattle.form_steps.specs.abs_expand.Plans.{Plan, steps, by_equal, no_rows}
 use Rattle.form_steps.specs.abs_expand.Table.{place_under, is_null_cell, is_null_here, unless_null, accessed, jump_if, null_plan, equal_plan}

@@ -15,15 +15,15 @@ use Rattle.abs_cells.specs.declared.cells.Cell.TheVariants as cells
 use Rattle.abs_cells.specs.AbstractStates.{AbstractFrame, AbstractState}
 use Rattle.abs_cells.specs.Cells.{HasCell}
 use Rattle.abs_cells.specs.Fits.{Meaning, FitsFrame, with_statics}
-use Rattle.class_world.specs.WorldTypes.{types_of}
-use Rattle.class_program.specs.declared.op.Op.{Op}
-use Rattle.class_program.specs.Programs.{Program, insn_at}
+use Rattle.jvm_step.specs.class_world.WorldTypes.{types_of}
+use Rattle.jvm_step.specs.class_program.declared.op.Op.{Op}
+use Rattle.jvm_step.specs.class_program.Programs.{Program, insn_at}
 use Rattle.frame_types.specs.Tables.{CodeTypes}
 use Rattle.jvm_step.specs.Effects.{Effect, is_number_slot, ireturn_effect, is_returned, areturn_effect, return_effect}
 use Rattle.jvm_step.specs.Operands.{top_int, top_reference}
 use Rattle.jvm_step.specs.Table.{Work, effect_of, on_frame}
 use Rattle.jvm_step.specs.Running.{Step, step, with_result, returns, IsEnd}
-use Rattle.term_graph.specs.Edges.{HoldsBetween}
+use Rattle.form_steps.specs.TermGraphEdges.{HoldsBetween}
 use Rattle.form_steps.specs.abs_expand.Plans.{Plan, no_rows}
 use Rattle.form_steps.specs.abs_expand.inner.Building.{HoldsIds}
 use Rattle.form_steps.specs.abs_expand.Table.{step_if, returned_to, value_plan}

@@ -26,15 +26,15 @@ use Rattle.abs_ints.specs.Falling.{FallsUnder}
 use Rattle.abs_ints.specs.Operating.{operated}
 use Rattle.abs_ints.specs.declared.cases.IntCase.{IntCase}
 use Rattle.abs_ints.proofs.AllCases.{operated_covers}
-use Rattle.class_world.specs.WorldTypes.{types_of}
-use Rattle.class_program.specs.declared.program.StaticField.{StaticField}
-use Rattle.class_program.specs.Programs.{Program}
+use Rattle.jvm_step.specs.class_world.WorldTypes.{types_of}
+use Rattle.jvm_step.specs.class_program.declared.program.StaticField.{StaticField}
+use Rattle.jvm_step.specs.class_program.Programs.{Program}
 use Rattle.frame_types.specs.Tables.{CodeTypes}
 use Rattle.jvm_step.specs.Effects.{Effect, with_stack, pushes, getstatic_effect, putstatic_effect}
 use Rattle.jvm_step.specs.Operands.{top, is_passed, kept}
 use Rattle.jvm_step.specs.Table.{effect_of, on_frame, on_statics}
 use Rattle.jvm_step.specs.Running.{Step, step}
-use Rattle.term_graph.specs.Edges.{HoldsBetween}
+use Rattle.form_steps.specs.TermGraphEdges.{HoldsBetween}
 use Rattle.form_steps.specs.abs_expand.inner.Building.{HoldsIds}
 use Rattle.form_steps.specs.abs_expand.Plans.{in_bottom, makes, Turn, Plan, no_child, no_rows}
 use Rattle.form_steps.specs.abs_expand.Table.{step_if, bottom_of, bottom_with, static_local, locals_of_method, getstatic_plan, put_static}

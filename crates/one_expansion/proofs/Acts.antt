@@ -14,10 +14,10 @@ use Rattle.abs_cells.specs.declared.cells.Cell.{Cell}
 use Rattle.abs_cells.specs.declared.cells.Cell.TheVariants as cells
 use Rattle.abs_cells.specs.AbstractStates.{AbstractFrame, AbstractState}
 use Rattle.abs_cells.specs.Cells.{cell_in, cell_at, AreEqual, Share}
-use Rattle.abs_heap.specs.Given.{IsGiven, first_cell, with_cells, MayBeOne}
-use Rattle.abs_heap.specs.Names.{name_in, frame_named, IsImage}
-use Rattle.abs_heap.specs.Writing.{shape_after, Write, cell_after, GainsPair, IsWriteChild, JoinsItem, IsItemChild, zero_cell}
-use Rattle.abs_heap.specs.Writing.{IsObjectChild, array_cell, IsNewArrayChild}
+use Rattle.abs_expand.specs.AbsHeapGiven.{IsGiven, first_cell, with_cells, MayBeOne}
+use Rattle.abs_expand.specs.AbsHeapNames.{name_in, frame_named, IsImage}
+use Rattle.abs_expand.specs.AbsHeapWriting.{shape_after, Write, cell_after, GainsPair, IsWriteChild, JoinsItem, IsItemChild, zero_cell}
+use Rattle.abs_expand.specs.AbsHeapWriting.{IsObjectChild, array_cell, IsNewArrayChild}
 use Rattle.abs_expand.specs.abs_turns.Plans.{Act, nothing, makes, writes, item, object, array, Goal, nowhere, on_stack, in_local, in_bottom}
 use Rattle.abs_expand.specs.abs_turns.Plans.{in_field, is_thrown}
 use Rattle.abs_expand.specs.Children.{IsActed, field_with, gone_to}

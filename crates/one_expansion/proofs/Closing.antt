@@ -8,9 +8,9 @@ use Rattle.abs_cells.specs.declared.cells.Cell.{Cell}
 use Rattle.abs_cells.specs.AbstractStates.{AbstractState}
 use Rattle.abs_cells.specs.Cells.{is_reference, is_hazy, ids_of, cell_in, cell_at, HasCell, Share}
 use Rattle.abs_cells.specs.Closures.{KnownFrom, counted_steps, SharesThere, MayBeIn, IsFiniteId}
-use Rattle.abs_heap.specs.Given.{AreFresh}
-use Rattle.abs_heap.specs.Names.{name_in, IsImage}
-use Rattle.abs_heap.specs.Writing.{is_array_of_references, IsAffected, IsMet, IsNullId, MakesNoCycle, Write, GainsPair, JoinsItem}
+use Rattle.abs_expand.specs.AbsHeapGiven.{AreFresh}
+use Rattle.abs_expand.specs.AbsHeapNames.{name_in, IsImage}
+use Rattle.abs_expand.specs.AbsHeapWriting.{is_array_of_references, IsAffected, IsMet, IsNullId, MakesNoCycle, Write, GainsPair, JoinsItem}
 use Rattle.one_expansion.proofs.Alike.{Alike, back, has_alike, cell_alike}
 
 -- ---- from one to the other

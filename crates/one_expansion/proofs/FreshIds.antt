@@ -7,7 +7,7 @@ use Rattle.std.proofs.lemmas.Option.{none-some}
 use Rattle.list_views.proofs.Orders.{neither_below}
 use Rattle.abs_cells.specs.AbstractStates.{AbstractState}
 use Rattle.abs_cells.specs.Cells.{cell_at, HasCell}
-use Rattle.abs_heap.specs.Given.{AreRising, AreFresh}
+use Rattle.abs_expand.specs.AbsHeapGiven.{AreRising, AreFresh}
 
 -- ---- members
 

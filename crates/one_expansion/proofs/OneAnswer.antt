@@ -6,10 +6,10 @@ use Rattle.std.proofs.lemmas.Option.{none-some}
 use Rattle.jvm_values.proofs.Options.{some_is}
 use Rattle.jvm_values.specs.TypedHeaps.{WorldTypes}
 use Rattle.abs_cells.specs.AbstractStates.{AbstractState}
-use Rattle.class_world.specs.WorldTypes.{types_of}
-use Rattle.class_program.specs.Programs.{Program}
-use Rattle.frame_types.specs.Tables.{CodeTypes}
-use Rattle.term_graph.specs.Graphs.{GraphChild}
+use Rattle.abs_expand.specs.ClassWorldWorldTypes.{types_of}
+use Rattle.abs_expand.specs.ClassProgramPrograms.{Program}
+use Rattle.abs_expand.specs.FrameTypesTables.{CodeTypes}
+use Rattle.abs_expand.specs.TermGraphGraphs.{GraphChild}
 use Rattle.abs_expand.specs.abs_turns.Plans.{Plan, ends}
 use Rattle.abs_expand.specs.Answers.{Answers}
 use Rattle.abs_expand.specs.BadStates.{IsGoodState, IsBadState, unsound, misplaced, uncalled}

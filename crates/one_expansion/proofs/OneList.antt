@@ -3,9 +3,9 @@ use Rattle.std.proofs.Common.{◌≡◌, ◌∙◌, ℕ, Bool, true, false, List
 use Rattle.std.specs.List.{AllZip, AllByRecursion}
 use Rattle.jvm_values.specs.TypedHeaps.{WorldTypes}
 use Rattle.abs_cells.specs.AbstractStates.{AbstractState}
-use Rattle.term_graph.specs.declared.links.Link.{Link}
-use Rattle.term_graph.specs.declared.links.LinkRow.{LinkRow}
-use Rattle.term_graph.specs.Graphs.{GraphChild}
+use Rattle.abs_expand.specs.TermGraphLink.{Link}
+use Rattle.abs_expand.specs.TermGraphLinkRow.{LinkRow}
+use Rattle.abs_expand.specs.TermGraphGraphs.{GraphChild}
 use Rattle.abs_expand.specs.abs_turns.Plans.{Goal, nowhere, Turn, Plan, ends, steps, by_null, by_class, by_equal}
 use Rattle.abs_expand.specs.Children.{IsTurnChild, gone_to, IsLean}
 use Rattle.abs_expand.specs.Expansions.{AreChildren, AreExpanded}

@@ -13,14 +13,14 @@ use Rattle.abs_cells.specs.declared.cells.Cell.{Cell}
 use Rattle.abs_cells.specs.declared.cells.Cell.TheVariants as cells
 use Rattle.abs_cells.specs.AbstractStates.{AbstractState}
 use Rattle.abs_cells.specs.Cells.{are_compatible, cell_in, cell_at, AreEqual, Share}
-use Rattle.abs_heap.specs.Answers.{AreNullChildren, AreClassChildren, AreEqualAnswers}
-use Rattle.abs_heap.specs.Given.{with_cells}
-use Rattle.abs_heap.specs.Laws.{plain_link}
-use Rattle.abs_heap.specs.Names.{one_name, cell_named, IsPairOf}
-use Rattle.abs_heap.specs.Refining.{IsWithCell, cell_of_slot, length_cell, JoinsFields, IsInstanceChild, IsArrayChild, Case}
-use Rattle.abs_heap.specs.Refining.{instance, numbers, references, IsCase, cases_of, rank_of, stays_before, Stays, merged_cell}
-use Rattle.abs_heap.specs.Refining.{IsMergedChild, IsApartChild, IsEqualChild, both, alone}
-use Rattle.term_graph.specs.Graphs.{GraphChild}
+use Rattle.abs_expand.specs.AbsHeapAnswers.{AreNullChildren, AreClassChildren, AreEqualAnswers}
+use Rattle.abs_expand.specs.AbsHeapGiven.{with_cells}
+use Rattle.abs_expand.specs.AbsHeapLaws.{plain_link}
+use Rattle.abs_expand.specs.AbsHeapNames.{one_name, cell_named, IsPairOf}
+use Rattle.abs_expand.specs.AbsHeapRefining.{IsWithCell, cell_of_slot, length_cell, JoinsFields, IsInstanceChild, IsArrayChild, Case}
+use Rattle.abs_expand.specs.AbsHeapRefining.{instance, numbers, references, IsCase, cases_of, rank_of, stays_before, Stays, merged_cell}
+use Rattle.abs_expand.specs.AbsHeapRefining.{IsMergedChild, IsApartChild, IsEqualChild, both, alone}
+use Rattle.abs_expand.specs.TermGraphGraphs.{GraphChild}
 use Rattle.one_expansion.proofs.Alike.{Alike, IsAlikeChild, given_cells, given_alike}
 use Rattle.one_expansion.proofs.Acts.{joined_both, either_both}
 use Rattle.one_expansion.proofs.FreshIds.{fresh_one, fresh_id_one}

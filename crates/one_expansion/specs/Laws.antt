@@ -1,10 +1,10 @@
 -- What becomes of an abstract state is one: its plan has one list of children.
 use Rattle.std.specs.Prelude.{◌≡◌, ◌≢◌, ℕ, List, Option, Result, Err}
 use Rattle.abs_cells.specs.AbstractStates.{AbstractState}
-use Rattle.class_world.specs.WorldTypes.{types_of}
-use Rattle.class_program.specs.Programs.{Program}
-use Rattle.frame_types.specs.Tables.{CodeTypes}
-use Rattle.term_graph.specs.Graphs.{GraphChild}
+use Rattle.abs_expand.specs.ClassWorldWorldTypes.{types_of}
+use Rattle.abs_expand.specs.ClassProgramPrograms.{Program}
+use Rattle.abs_expand.specs.FrameTypesTables.{CodeTypes}
+use Rattle.abs_expand.specs.TermGraphGraphs.{GraphChild}
 use Rattle.abs_expand.specs.Answers.{Answers}
 use Rattle.abs_expand.specs.Expansions.{plan_of, AreExpanded}
 use Rattle.abs_expand.specs.declared.fault.ExpandFault.{ExpandFault}

@@ -15,11 +15,11 @@ use Rattle.jvm_values.proofs.Options.{some_is}
 use Rattle.jvm_values.specs.declared.shape.Shape.{Shape}
 use Rattle.jvm_values.specs.declared.shape.Shape.TheVariants.{Tree, Dag, Any}
 use Rattle.jvm_values.specs.Paths.{follow}
-use Rattle.jvm_heaps.specs.Marks.{IsMarked}
-use Rattle.jvm_heaps.proofs.DagPaths.{dag_at}
-use Rattle.jvm_heaps.proofs.MarkLaws.{set_only}
-use Rattle.jvm_heaps.proofs.MarkTurns.{none_marked}
-use Rattle.jvm_heaps.proofs.TermLaws.{ComesTo, one_step, step_more, no_return, fewer_open}
+use Rattle.term_enc.specs.JvmHeapsMarks.{IsMarked}
+use Rattle.term_enc.proofs.JvmHeapsDagPaths.{dag_at}
+use Rattle.term_enc.proofs.JvmHeapsMarkLaws.{set_only}
+use Rattle.term_enc.proofs.JvmHeapsMarkTurns.{none_marked}
+use Rattle.term_enc.proofs.JvmHeapsTermLaws.{ComesTo, one_step, step_more, no_return, fewer_open}
 use Rattle.abs_cells.specs.declared.cells.Cell.{Cell}
 use Rattle.abs_cells.specs.declared.cells.Cell.TheVariants.{Int, Null, Obj, Nums, Refs, Unk}
 use Rattle.abs_cells.specs.AbstractStates.{AbstractState}

@@ -9,3 +9,5 @@ pub mod RuleLimits
 pub mod Successors
 pub mod Sizing
 pub mod inner
+-- files of crates below, given again for the crates above
+pub use Rattle.term_enc.specs.Sizes as TermEncSizes

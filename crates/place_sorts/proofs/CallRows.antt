@@ -20,7 +20,7 @@ use Rattle.jvm_values.specs.TypedHeaps.{WorldTypes}
 use Rattle.jvm_values.proofs.Options.{some_is}
 use Rattle.jvm_run.proofs.Lists.{zip_drop, zip_reverse}
 use Rattle.jvm_run.proofs.Objects.{erased_class, class_below_by, numbers_root}
-use Rattle.jvm_step.specs.Effects.{answer_of}
+use Rattle.abs_turns.specs.jvm_step.Effects.{answer_of}
 use Rattle.abs_cells.specs.declared.cells.Cell.{Cell}
 use Rattle.abs_cells.specs.declared.cells.Cell.TheVariants as cells
 use Rattle.abs_cells.specs.AbstractStates.{AbstractFrame, AbstractState}

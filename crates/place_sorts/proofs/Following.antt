@@ -16,7 +16,7 @@ use Rattle.abs_cells.specs.AbstractStates.{AbstractFrame, AbstractState}
 use Rattle.abs_cells.specs.Cells.{is_int, ids_in, HasCell}
 use Rattle.abs_cells.specs.Sound.{given_ids, ids_of_frame, IsOfSlot, IsSoundCell}
 use Rattle.abs_reach.specs.Instances.{is_no_int}
-use Rattle.abs_heap.specs.Names.{frame_named, cell_named}
+use Rattle.abs_turns.specs.abs_heap.Names.{frame_named, cell_named}
 use Rattle.class_program.specs.Programs.{Program}
 use Rattle.frame_types.specs.Tables.{CodeTypes}
 use Rattle.abs_expand.specs.BadStates.{IsOfPlace, IsOfField, HasStackOf, call_at, IsPlaced, statics_under, HasCallersStack}

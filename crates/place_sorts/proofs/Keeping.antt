@@ -10,7 +10,7 @@ use Rattle.abs_cells.specs.declared.cells.Cell.TheVariants as cells
 use Rattle.abs_cells.specs.AbstractStates.{AbstractFrame, AbstractState}
 use Rattle.abs_cells.specs.Cells.{ids_in}
 use Rattle.abs_cells.specs.Sound.{given_ids, ids_of_frame, IsSoundCell}
-use Rattle.abs_heap.specs.Names.{frame_named, cell_named}
+use Rattle.abs_turns.specs.abs_heap.Names.{frame_named, cell_named}
 use Rattle.class_program.specs.Programs.{Program}
 use Rattle.frame_types.specs.Tables.{CodeTypes}
 use Rattle.abs_expand.specs.BadStates.{IsOfPlace, IsOfField, HasStackOf, AreCallersPlaced, ArePlaced}

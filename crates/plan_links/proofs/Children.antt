@@ -9,9 +9,9 @@ use Rattle.abs_cells.specs.declared.cells.Cell.TheVariants as cells
 use Rattle.abs_cells.specs.AbstractStates.{AbstractFrame, AbstractState}
 use Rattle.abs_cells.specs.Cells.{is_int, cell_at, HasCell}
 use Rattle.abs_cells.specs.Sound.{given_ids, ids_of_frame}
-use Rattle.abs_reach.specs.Reached.{IsReached}
+use Rattle.abs_expand.specs.AbsReachReached.{IsReached}
 use Rattle.term_graph.specs.Graphs.{GraphChild}
-use Rattle.abs_heap.specs.Given.{first_cell}
+use Rattle.abs_expand.specs.AbsHeapGiven.{first_cell}
 use Rattle.abs_expand.specs.Children.{IsActed, top_with, gone_to, IsTurnChild, IsLean}
 use Rattle.abs_expand.specs.Plans.{Act, Goal, nowhere, on_stack, in_local, in_bottom, in_field, is_thrown, Turn}
 use Rattle.plan_links.proofs.Rows.{Keeps, IsKept}

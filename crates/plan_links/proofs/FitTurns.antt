@@ -22,7 +22,7 @@ use Rattle.abs_ints.specs.declared.cases.IntCase.{IntCase}
 use Rattle.abs_ints.specs.declared.cases.ShortRow.{ShortRow}
 use Rattle.abs_ints.specs.declared.cases.Way.TheVariants.{Taken}
 use Rattle.abs_ints.specs.declared.relations.Relation.TheVariants.{Below, AtLeast}
-use Rattle.class_world.specs.BuiltIns.{array_index_out_of_bounds_exception}
+use Rattle.class_program.specs.class_world.BuiltIns.{array_index_out_of_bounds_exception}
 use Rattle.term_graph.specs.declared.links.LinkRow.{LinkRow}
 use Rattle.abs_expand.specs.Plans.{Goal, Turn, Plan, ends, steps, by_null, by_class, by_equal, no_rows}
 use Rattle.abs_expand.specs.Switches.{parts_of}

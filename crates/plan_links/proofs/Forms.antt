@@ -30,8 +30,8 @@ use Rattle.abs_cells.specs.PairLists.{has}
 use Rattle.abs_cells.specs.Sound.{IsSound}
 use Rattle.abs_ints.specs.IntIntervals.{meet_of}
 use Rattle.abs_ints.proofs.OperatorCases.{if_either}
-use Rattle.class_world.specs.BuiltIns.{null_pointer_exception, negative_array_size_exception, array_store_exception}
-use Rattle.class_world.specs.WorldTypes.{types_of}
+use Rattle.class_program.specs.class_world.BuiltIns.{null_pointer_exception, negative_array_size_exception, array_store_exception}
+use Rattle.class_program.specs.class_world.WorldTypes.{types_of}
 use Rattle.class_program.specs.declared.op.Op.{Op}
 use Rattle.class_program.specs.declared.op.Op.TheVariants as ops
 use Rattle.class_program.specs.declared.op.Call.{Call}
@@ -42,17 +42,17 @@ use Rattle.class_program.specs.declared.selected.Selected.{Selected}
 use Rattle.class_program.specs.declared.selected.Selected.TheVariants as answers
 use Rattle.class_program.specs.Programs.{Program, insn_at}
 use Rattle.jvm_run.specs.jvm_step.Effects.{answer_of}
-use Rattle.op_forms.specs.Forms.{Form, shuffled}
-use Rattle.op_forms.specs.Forms.Form.{Nop, AconstNull, Iconst, Iload, Aload, Istore, Astore, Iinc, Shuffle, Arith, Ineg, Narrow, If}
-use Rattle.op_forms.specs.Forms.Form.{IfIcmp, IfAcmpeq, IfAcmpne, Ifnull, Ifnonnull, Goto, Tableswitch, Lookupswitch, Ireturn}
-use Rattle.op_forms.specs.Forms.Form.{Areturn, Return, Getstatic, Putstatic, Getfield, Putfield, Invokevirtual, Invokespecial}
-use Rattle.op_forms.specs.Forms.Form.{Invokestatic, Invokeinterface, New, Newarray, Anewarray, Arraylength, NumberLoad, Aaload}
-use Rattle.op_forms.specs.Forms.Form.{NumberStore, Aastore, Athrow, Checkcast, Instanceof}
-use Rattle.op_forms.specs.Widths.{IsFormInWidth}
-use Rattle.op_forms.proofs.Widths.{increment_int}
-use Rattle.code_verify.specs.declared.want.Want.{Want}
-use Rattle.code_verify.specs.declared.want.Want.TheVariants as wants
-use Rattle.code_verify.specs.Rows.{acted, types_after}
+use Rattle.jvm_run.specs.OpFormsForms.{Form, shuffled}
+use Rattle.jvm_run.specs.OpFormsForms.Form.{Nop, AconstNull, Iconst, Iload, Aload, Istore, Astore, Iinc, Shuffle, Arith, Ineg, Narrow, If}
+use Rattle.jvm_run.specs.OpFormsForms.Form.{IfIcmp, IfAcmpeq, IfAcmpne, Ifnull, Ifnonnull, Goto, Tableswitch, Lookupswitch, Ireturn}
+use Rattle.jvm_run.specs.OpFormsForms.Form.{Areturn, Return, Getstatic, Putstatic, Getfield, Putfield, Invokevirtual, Invokespecial}
+use Rattle.jvm_run.specs.OpFormsForms.Form.{Invokestatic, Invokeinterface, New, Newarray, Anewarray, Arraylength, NumberLoad, Aaload}
+use Rattle.jvm_run.specs.OpFormsForms.Form.{NumberStore, Aastore, Athrow, Checkcast, Instanceof}
+use Rattle.jvm_run.specs.OpFormsWidths.{IsFormInWidth}
+use Rattle.jvm_run.proofs.OpFormsWidths.{increment_int}
+use Rattle.jvm_run.specs.code_verify.declared.want.Want.{Want}
+use Rattle.jvm_run.specs.code_verify.declared.want.Want.TheVariants as wants
+use Rattle.jvm_run.specs.code_verify.Rows.{acted, types_after}
 use Rattle.term_graph.specs.declared.links.LinkRow.{LinkRow}
 use Rattle.abs_expand.specs.BadStates.{HasStackOf}
 use Rattle.abs_expand.specs.Needs.{may_be_null, need_null, is_unknown, known_partner, split_unknown, split_below, need_class, need_object}

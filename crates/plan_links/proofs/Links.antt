@@ -16,18 +16,18 @@ use Rattle.abs_cells.specs.declared.cells.Cell.{Cell}
 use Rattle.abs_cells.specs.declared.cells.Cell.TheVariants as cells
 use Rattle.abs_cells.specs.AbstractStates.{AbstractState}
 use Rattle.abs_cells.specs.Cells.{is_int, are_compatible, cell_in, cell_at, HasCell}
-use Rattle.abs_reach.specs.Instances.{is_no_int}
-use Rattle.class_world.specs.WorldTypes.{types_of}
+use Rattle.abs_expand.specs.AbsReachInstances.{is_no_int}
+use Rattle.class_program.specs.class_world.WorldTypes.{types_of}
 use Rattle.term_graph.specs.declared.links.Side.{Side}
 use Rattle.term_graph.specs.declared.links.Side.TheVariants.{Before, After}
 use Rattle.term_graph.specs.declared.links.Link.{Link}
 use Rattle.term_graph.specs.declared.links.LinkRow.{LinkRow}
 use Rattle.term_graph.specs.Graphs.{GraphChild}
-use Rattle.abs_heap.specs.Answers.{AreNullChildren, AreClassChildren, AreEqualAnswers}
-use Rattle.abs_heap.specs.Laws.{plain_link}
-use Rattle.abs_heap.specs.Names.{one_name, cell_named, IsPairOf}
-use Rattle.abs_heap.specs.Refining.{Case, instance, numbers, references, IsCase, cases_of, cell_of_slot, length_cell, merged_cell}
-use Rattle.abs_heap.specs.Refining.{IsMergedChild, IsEqualChild, both, alone}
+use Rattle.abs_expand.specs.AbsHeapAnswers.{AreNullChildren, AreClassChildren, AreEqualAnswers}
+use Rattle.abs_expand.specs.AbsHeapLaws.{plain_link}
+use Rattle.abs_expand.specs.AbsHeapNames.{one_name, cell_named, IsPairOf}
+use Rattle.abs_expand.specs.AbsHeapRefining.{Case, instance, numbers, references, IsCase, cases_of, cell_of_slot, length_cell, merged_cell}
+use Rattle.abs_expand.specs.AbsHeapRefining.{IsMergedChild, IsEqualChild, both, alone}
 use Rattle.path_rules.specs.Conditions.{IsTermBetween, IsRowBetween}
 use Rattle.abs_expand.specs.Children.{IsTurnChild, IsLean}
 use Rattle.abs_expand.specs.Expansions.{plan_of, AreChildren}

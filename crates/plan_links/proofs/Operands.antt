@@ -20,10 +20,10 @@ use Rattle.abs_cells.specs.declared.cells.Cell.TheVariants as cells
 use Rattle.abs_cells.specs.AbstractStates.{AbstractState}
 use Rattle.abs_cells.specs.Cells.{is_int, cell_in, cell_at, HasCell}
 use Rattle.abs_cells.specs.Sound.{IsSoundCell, IsSound}
-use Rattle.code_verify.specs.declared.want.Want.{Want}
-use Rattle.code_verify.specs.declared.want.Want.TheVariants as wants
-use Rattle.code_verify.specs.Operands.{is_int as is_int_place, fits}
-use Rattle.code_verify.specs.Rows.{taken, acted, iinc_types, aaload_types}
+use Rattle.jvm_run.specs.code_verify.declared.want.Want.{Want}
+use Rattle.jvm_run.specs.code_verify.declared.want.Want.TheVariants as wants
+use Rattle.jvm_run.specs.code_verify.Operands.{is_int as is_int_place, fits}
+use Rattle.jvm_run.specs.code_verify.Rows.{taken, acted, iinc_types, aaload_types}
 use Rattle.abs_expand.specs.BadStates.{IsOfPlace, HasStackOf}
 use Rattle.abs_expand.specs.Table.{length_id, items_length_id}
 use Rattle.abs_expand.specs.Turns.{interval_in, interval_of_id}

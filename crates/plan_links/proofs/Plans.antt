@@ -12,18 +12,18 @@ use Rattle.jvm_run.proofs.Placed.{Placed, placed}
 use Rattle.jvm_run.proofs.Stepping.{insn_there}
 use Rattle.abs_cells.specs.AbstractStates.{AbstractFrame, AbstractState}
 use Rattle.abs_ints.proofs.OperatorCases.{if_either}
-use Rattle.class_world.specs.BuiltIns.{throwable}
-use Rattle.class_world.specs.WorldTypes.{types_of}
+use Rattle.class_program.specs.class_world.BuiltIns.{throwable}
+use Rattle.class_program.specs.class_world.WorldTypes.{types_of}
 use Rattle.class_program.specs.declared.op.Op.{Op}
 use Rattle.class_program.specs.declared.program.CatchRange.{CatchRange}
 use Rattle.class_program.specs.declared.program.Method.{Method}
 use Rattle.class_program.specs.Programs.{Program, insn_at}
 use Rattle.class_program.specs.Widths.{HasWidths}
-use Rattle.op_forms.specs.Forms.{Form, form_of}
-use Rattle.op_forms.proofs.Widths.{forms_wide}
+use Rattle.jvm_run.specs.OpFormsForms.{Form, form_of}
+use Rattle.jvm_run.proofs.OpFormsWidths.{forms_wide}
 use Rattle.frame_types.specs.Tables.{CodeTypes}
-use Rattle.code_verify.specs.Flows.{covers}
-use Rattle.code_verify.specs.Typings.{IsTypingOf}
+use Rattle.jvm_run.specs.code_verify.Flows.{covers}
+use Rattle.jvm_run.specs.code_verify.Typings.{IsTypingOf}
 use Rattle.abs_expand.specs.BadStates.{HasStackOf, HasRunningStack, IsRunningPlaced, ArePlaced, statics_under, IsGoodState}
 use Rattle.abs_expand.specs.Expansions.{plan_here, plan_in, plan_of}
 use Rattle.abs_expand.specs.Needs.{Passing, passes, fails, splits, after_test, passing_id, tested, operands_of, split_below}

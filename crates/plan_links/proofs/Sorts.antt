@@ -15,12 +15,12 @@ use Rattle.abs_cells.specs.declared.cells.Cell.TheVariants as cells
 use Rattle.abs_cells.specs.AbstractStates.{AbstractState}
 use Rattle.abs_cells.specs.Cells.{is_int, is_known, type_of_cell, are_compatible_types, are_compatible, cell_in, cell_at}
 use Rattle.abs_cells.specs.Sound.{AreIdsRising}
-use Rattle.abs_reach.specs.Reached.{IsDropped}
-use Rattle.abs_heap.specs.Given.{first_cell, with_cells, AreFresh}
-use Rattle.abs_heap.specs.Names.{name_in, cell_named}
-use Rattle.abs_heap.specs.Refining.{merged_cell}
-use Rattle.abs_heap.specs.Writing.{Write, with_shape, with_field, is_renamed, reshaped, cell_after, zero_cell, array_cell}
-use Rattle.abs_heap.proofs.Placing.{cell_here, cell_later, absent}
+use Rattle.abs_expand.specs.AbsReachReached.{IsDropped}
+use Rattle.abs_expand.specs.AbsHeapGiven.{first_cell, with_cells, AreFresh}
+use Rattle.abs_expand.specs.AbsHeapNames.{name_in, cell_named}
+use Rattle.abs_expand.specs.AbsHeapRefining.{merged_cell}
+use Rattle.abs_expand.specs.AbsHeapWriting.{Write, with_shape, with_field, is_renamed, reshaped, cell_after, zero_cell, array_cell}
+use Rattle.abs_expand.proofs.AbsHeapPlacing.{cell_here, cell_later, absent}
 use Rattle.abs_expand.specs.Children.{IsActed, set_field, field_with, gone_to}
 use Rattle.abs_expand.specs.Plans.{Act, nothing, makes, writes, item, object, array, Goal, nowhere, on_stack, in_local, in_bottom}
 use Rattle.abs_expand.specs.Plans.{in_field, is_thrown}

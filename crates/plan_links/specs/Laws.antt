@@ -2,11 +2,11 @@
 use Rattle.std.specs.Prelude.{ℕ, List}
 use Rattle.std.specs.List.{AllByRecursion}
 use Rattle.abs_cells.specs.AbstractStates.{AbstractState}
-use Rattle.class_world.specs.WorldTypes.{types_of}
+use Rattle.class_program.specs.class_world.WorldTypes.{types_of}
 use Rattle.class_program.specs.Programs.{Program}
 use Rattle.class_program.specs.Widths.{HasWidths}
 use Rattle.frame_types.specs.Tables.{CodeTypes}
-use Rattle.code_verify.specs.Typings.{IsTypingOf}
+use Rattle.jvm_run.specs.code_verify.Typings.{IsTypingOf}
 use Rattle.term_graph.specs.Graphs.{GraphChild}
 use Rattle.path_rules.specs.Conditions.{IsLinkBetween}
 use Rattle.abs_expand.specs.BadStates.{IsGoodState}

@@ -11,7 +11,7 @@ use Rattle.class_program.specs.Methods.{class_name}
 use Rattle.class_program.specs.Programs.{Program}
 use Rattle.abs_cells.specs.AbstractStates.{AbstractFrame}
 use Rattle.term_graph.specs.Graphs.{GraphNode}
-use Rattle.chain_proofs.specs.declared.proving.LeftRule.{LeftRule}
+use Rattle.prove_core.specs.ChainProofsLeftRule.{LeftRule}
 use Rattle.prove_core.specs.declared.found.Reason.{Reason}
 use Rattle.prove_core.specs.declared.found.Reason.TheVariants.{Nodes, Ids, Paths, Bytes, Component}
 

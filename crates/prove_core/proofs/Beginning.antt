@@ -8,7 +8,7 @@ use Rattle.input_desc.specs.declared.desc.Desc.{Desc}
 use Rattle.input_desc.specs.Descs.{IsOwnDesc}
 use Rattle.input_desc.specs.declared.desc.Input.{Input}
 use Rattle.input_desc.specs.Initial.{cells_from, initial_of}
-use Rattle.grow_laws.specs.Laws.{GrowingRoots}
+use Rattle.graph_laws.specs.grow_laws.Laws.{GrowingRoots}
 use Rattle.term_graph.specs.Graphs.{GraphNode}
 use Rattle.graph_build.specs.Disciplined.{IsDisciplined}
 use Rattle.graph_build.specs.Answers.{IsClosed, IsStopped, PassesLimit, HasLarge}

@@ -11,7 +11,7 @@ use Rattle.term_graph.specs.declared.nodes.By.{By}
 use Rattle.term_graph.specs.declared.nodes.By.TheVariants.{Expand, Instance, End, Todo}
 use Rattle.term_graph.specs.Graphs.{GraphNode, GraphChild}
 use Rattle.graph_check.specs.Good.{IsLeftBy, IsGoodNode}
-use Rattle.cert_check.proofs.Bounded.{all_bounded}
+use Rattle.cert_verdict.proofs.CertCheckBounded.{all_bounded}
 use Rattle.path_rules.specs.Conditions.{AreBounded}
 use Rattle.prove_core.specs.ShortLinks.{IsShortLink}
 use Rattle.prove_core.specs.PlainRules.{GoodGraphRulesArePlain}

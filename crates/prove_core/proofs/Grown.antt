@@ -19,9 +19,9 @@ use Rattle.graph_build.specs.declared.grower.GrowFault.TheVariants.{TooManyIds, 
 use Rattle.graph_build.specs.Growing.{GrowsOr, IsGoodWidening}
 use Rattle.graph_build.specs.Rules.{HaveSamePositions}
 use Rattle.graph_check.specs.Good.{HasChildren}
-use Rattle.grow_laws.specs.Laws.{GrowingChildren, GrowingStatesStandAlike, GrowingWidenings}
-use Rattle.one_expansion.proofs.OneAnswer.{not_bad}
-use Rattle.place_sorts.specs.Growing.{IsGrowing}
+use Rattle.graph_laws.specs.grow_laws.Laws.{GrowingChildren, GrowingStatesStandAlike, GrowingWidenings}
+use Rattle.graph_check.proofs.one_expansion.OneAnswer.{not_bad}
+use Rattle.graph_laws.specs.place_sorts.Growing.{IsGrowing}
 use Rattle.prove_core.specs.Growth.{growth_of}
 use Rattle.prove_core.specs.inner.Words.{CanGrow, BecomesThese, IsGrowFault}
 

@@ -27,3 +27,5 @@ mod States
 mod Steps
 mod Storing
 mod Targets
+-- files of crates below, given again for the crates above
+pub use Rattle.abs_expand.proofs.abs_plans.GoodPlans as AbsPlansGoodPlans

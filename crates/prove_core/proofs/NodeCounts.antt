@@ -4,7 +4,7 @@ use Rattle.std.proofs.Common.{slice_get, sym, ap, subst, arith}
 use Rattle.std.specs.List.{AllByRecursion, AllZip}
 use Rattle.std.proofs.lemmas.Option.{none-some, same_Some}
 use Rattle.abs_cells.specs.AbstractStates.{AbstractState}
-use Rattle.abs_plans.proofs.GoodPlans.{plan_is_good}
+use Rattle.abs_expand.proofs.abs_plans.GoodPlans.{plan_is_good}
 use Rattle.abs_expand.specs.Expansions.{plan_of}
 use Rattle.abs_widen.specs.Widening.{IsWidening}
 use Rattle.class_program.specs.Good.{IsGood}

@@ -7,7 +7,7 @@ use Rattle.term_graph.specs.declared.nodes.By.{By}
 use Rattle.term_graph.specs.Graphs.{GraphNode, GraphPart}
 use Rattle.cert_form.specs.Certificates.{lacks_state}
 use Rattle.cert_form.specs.cert_write.Data.{part_of, parts_from}
-use Rattle.graph_fill.specs.Laws.{IsStateOrNone, ArePartsOf}
+use Rattle.cert_verdict.specs.GraphFillLaws.{IsStateOrNone, ArePartsOf}
 
 -- the parts behind those in front
 abbrev rest_from : Bool → List GraphPart → List GraphNode → List GraphPart

@@ -15,13 +15,13 @@ use Rattle.abs_cells.specs.AbstractStates.{AbstractState}
 use Rattle.descent.specs.declared.proof.ProofStep.{ProofStep}
 use Rattle.term_graph.specs.Graphs.{GraphNode}
 use Rattle.plan_links.specs.Laws.{LinksFit}
-use Rattle.graph_fill.specs.ChildrenOfStates.{IsFilledGraph}
-use Rattle.graph_fill.proofs.Once.{good_fills}
+use Rattle.cert_verdict.specs.GraphFillChildrenOfStates.{IsFilledGraph}
+use Rattle.cert_verdict.proofs.GraphFillOnce.{good_fills}
 use Rattle.cert_form.specs.declared.fault.CertFault.{CertFault}
 use Rattle.cert_form.specs.Certificates.{CertContent, cert_of, SaysOf}
-use Rattle.cert_check.specs.declared.refusal.Cause.{Cause}
-use Rattle.cert_check.specs.Parts.{case_of}
-use Rattle.cert_check.specs.Valid.{IsFirstFault}
+use Rattle.cert_verdict.specs.CertCheckCause.{Cause}
+use Rattle.cert_verdict.specs.CertCheckParts.{case_of}
+use Rattle.cert_verdict.specs.CertCheckValid.{IsFirstFault}
 use Rattle.cert_form.specs.cert_write.Data.{content_of}
 use Rattle.cert_form.specs.cert_write.Readable.{IsNumber, IsReadableGraph}
 use Rattle.cert_verdict.specs.declared.verdict.CertVerdict.{CertVerdict}

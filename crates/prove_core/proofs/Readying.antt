@@ -20,9 +20,9 @@ use Rattle.graph_laws.specs.Laws.{DisciplinedGraphsAreGood, TreesAreCut, HasTarg
 use Rattle.plan_links.specs.Laws.{LinksFit}
 use Rattle.path_rules.specs.Conditions.{CutsRise, IsReady}
 use Rattle.path_rules.specs.Paths.{is_cut}
-use Rattle.cert_check.proofs.Preparing.{prepared}
-use Rattle.cert_check.specs.Parts.{case_of}
-use Rattle.cert_check.specs.Valid.{IsValid}
+use Rattle.cert_verdict.proofs.CertCheckPreparing.{prepared}
+use Rattle.cert_verdict.specs.CertCheckParts.{case_of}
+use Rattle.cert_verdict.specs.CertCheckValid.{IsValid}
 use Rattle.chain_proofs.specs.declared.proving.LeftRule.{LeftRule}
 use Rattle.chain_proofs.specs.Answers.{LeavesStuck}
 use Rattle.chain_proofs.specs.Lean.{AreLean}

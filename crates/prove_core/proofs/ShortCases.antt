@@ -18,7 +18,7 @@ use Rattle.abs_ints.specs.declared.cases.ShortRow.{ShortRow}
 use Rattle.abs_ints.specs.declared.cases.Way.{Way}
 use Rattle.abs_ints.specs.declared.relations.Relation.{Relation}
 use Rattle.abs_ints.specs.declared.relations.Relation.TheVariants.{Equal, Below, AtMost, Above, AtLeast}
-use Rattle.steady_plans.proofs.EachRow.{HasEach, HaveEach, HoldsOfRows, fine_each, each_row, each_related, each_compared}
+use Rattle.graph_check.proofs.steady_plans.EachRow.{HasEach, HaveEach, HoldsOfRows, fine_each, each_row, each_related, each_compared}
 
 -- an equation lacks an operand, or its coefficients are together at most 4,096 in size
 abbrev pub IsLow : ShortRow → Type 0

@@ -42,7 +42,7 @@ use Rattle.class_program.specs.declared.program.Method.{Method}
 use Rattle.class_program.specs.declared.selected.Selected.{Selected}
 use Rattle.class_program.specs.declared.selected.Selected.TheVariants as answers
 use Rattle.class_program.specs.Programs.{insn_at}
-use Rattle.jvm_step.specs.Effects.{answer_of}
+use Rattle.abs_turns.specs.jvm_step.Effects.{answer_of}
 use Rattle.op_forms.specs.Forms.{Form, shuffled}
 use Rattle.op_forms.specs.Forms.Form.{Nop, AconstNull, Iconst, Iload, Aload, Istore, Astore, Iinc, Shuffle, Arith, Ineg, Narrow, If}
 use Rattle.op_forms.specs.Forms.Form.{IfIcmp, IfAcmpeq, IfAcmpne, Ifnull, Ifnonnull, Goto, Tableswitch, Lookupswitch, Ireturn}

@@ -9,3 +9,5 @@ pub mod ReadableRules
 pub mod Stored
 pub mod TextLaws
 pub mod inner
+-- files of crates below, given again for the crates above
+pub use Rattle.chain_proofs.specs.declared.proving.LeftRule as ChainProofsLeftRule

@@ -16,8 +16,8 @@ use Rattle.path_rules.specs.declared.fault.PathFault.TheVariants.{Uncut, TooMany
 use Rattle.path_rules.specs.Answers.{Answers as PathAnswers}
 use Rattle.serde_json.specs.Written.{compact_text}
 use Rattle.cert_form.specs.cert_write.Data.{certificate, content_of}
-use Rattle.cert_check.specs.Valid.{IsValid}
-use Rattle.cert_check.specs.Parts.{case_of}
+use Rattle.cert_verdict.specs.CertCheckValid.{IsValid}
+use Rattle.cert_verdict.specs.CertCheckParts.{case_of}
 use Rattle.chain_proofs.specs.declared.proving.LeftRule.{LeftRule}
 use Rattle.chain_proofs.specs.Answers.{LeavesStuck}
 use Rattle.chain_proofs.specs.Lean.{AreLean}

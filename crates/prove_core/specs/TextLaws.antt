@@ -11,7 +11,7 @@ use Rattle.term_graph.specs.Graphs.{GraphNode}
 use Rattle.term_graph.specs.Limits.{most_nodes}
 use Rattle.graph_build.specs.Disciplined.{IsNode, IsDisciplined}
 use Rattle.graph_check.specs.Good.{GraphOk}
-use Rattle.graph_fill.specs.Laws.{ArePartsOf}
+use Rattle.cert_verdict.specs.GraphFillLaws.{ArePartsOf}
 use Rattle.graph_laws.specs.Growth.{growth_by}
 use Rattle.cert_form.specs.cert_write.Data.{parts_from}
 use Rattle.cert_form.specs.cert_write.Readable.{IsNode as IsReadableNode}

@@ -21,7 +21,7 @@ use abs_widen::{WidenFault, widen};
 use class_program::Program;
 use code_verify::Typing;
 use graph_build::{GrowFault, Grower, Grown};
-use grow_laws::{children_grow, growing_states_stand_alike, widenings_grow};
+use graph_laws::grow_laws::{children_grow, growing_states_stand_alike, widenings_grow};
 use list_views::Seq;
 use std::alloc::{AllocError, Global};
 use term_graph::Child;

@@ -5,7 +5,7 @@ use Rattle.std.specs.Prelude.{int_le, ◌&&◌}
 use Rattle.std.specs.List.{AllByRecursion, cons_option}
 use Rattle.std.specs.Option.{IfSome, option_and_then}
 use Rattle.std.proofs.lemmas.Option.{none-some}
-use Rattle.lin_core.specs.Intervals.{Bounds, interval_of}
+use Rattle.abs_cells.specs.lin_core.Intervals.{Bounds, interval_of}
 use Rattle.jvm_values.specs.declared.ints.IntOp.{IntOp}
 use Rattle.jvm_values.specs.declared.ints.IntOp.TheVariants.{Add, Sub, Mul, Div, Rem, Shl, Shr, Ushr, And, Or, Xor, Narrow}
 use Rattle.jvm_values.specs.declared.ints.Cond.{Cond}

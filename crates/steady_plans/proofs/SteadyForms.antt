@@ -5,7 +5,7 @@ use Rattle.std.specs.Prelude.{slice_get, slice_set, filter}
 use Rattle.std.specs.List.{AllByRecursion, find}
 use Rattle.std.specs.Option.{option_map, option_map_or, option_and_then}
 use Rattle.list_views.proofs.Quantified.{all_joined}
-use Rattle.lin_core.specs.Intervals.{Bounds}
+use Rattle.abs_cells.specs.lin_core.Intervals.{Bounds}
 use Rattle.jvm_values.specs.declared.ints.IntOp.{IntOp}
 use Rattle.jvm_values.specs.declared.ints.IntOp.TheVariants.{Add, Sub}
 use Rattle.jvm_values.specs.declared.ints.Cond.{Cond}
@@ -27,7 +27,7 @@ use Rattle.abs_cells.specs.Cells.{cell_at}
 use Rattle.abs_cells.specs.PairLists.{has}
 use Rattle.abs_ints.specs.IntIntervals.{meet_of}
 use Rattle.abs_ints.proofs.OperatorCases.{if_either}
-use Rattle.class_world.specs.BuiltIns.{throwable, null_pointer_exception, negative_array_size_exception, array_store_exception}
+use Rattle.class_program.specs.class_world.BuiltIns.{throwable, null_pointer_exception, negative_array_size_exception, array_store_exception}
 use Rattle.class_program.specs.declared.op.Op.{Op}
 use Rattle.class_program.specs.declared.op.Op.TheVariants as ops
 use Rattle.class_program.specs.declared.op.Call.{Call}
@@ -38,16 +38,16 @@ use Rattle.class_program.specs.declared.program.StaticField.{StaticField}
 use Rattle.class_program.specs.declared.selected.Selected.{Selected}
 use Rattle.class_program.specs.declared.selected.Selected.TheVariants as answers
 use Rattle.class_program.specs.Programs.{Program, insn_at}
-use Rattle.class_world.specs.WorldTypes.{types_of}
-use Rattle.frame_types.specs.Tables.{CodeTypes}
+use Rattle.class_program.specs.class_world.WorldTypes.{types_of}
+use Rattle.abs_plans.specs.FrameTypesTables.{CodeTypes}
 use Rattle.abs_plans.specs.code_verify.Flows.{covers}
 use Rattle.abs_plans.specs.jvm_step.Effects.{answer_of}
-use Rattle.op_forms.specs.Forms.{Form, form_of, shuffled}
-use Rattle.op_forms.specs.Forms.Form.{Nop, AconstNull, Iconst, Iload, Aload, Istore, Astore, Iinc, Shuffle, Arith, Ineg, Narrow, If}
-use Rattle.op_forms.specs.Forms.Form.{IfIcmp, IfAcmpeq, IfAcmpne, Ifnull, Ifnonnull, Goto, Tableswitch, Lookupswitch, Ireturn}
-use Rattle.op_forms.specs.Forms.Form.{Areturn, Return, Getstatic, Putstatic, Getfield, Putfield, Invokevirtual, Invokespecial}
-use Rattle.op_forms.specs.Forms.Form.{Invokestatic, Invokeinterface, New, Newarray, Anewarray, Arraylength, NumberLoad, Aaload}
-use Rattle.op_forms.specs.Forms.Form.{NumberStore, Aastore, Athrow, Checkcast, Instanceof}
+use Rattle.abs_plans.specs.OpFormsForms.{Form, form_of, shuffled}
+use Rattle.abs_plans.specs.OpFormsForms.Form.{Nop, AconstNull, Iconst, Iload, Aload, Istore, Astore, Iinc, Shuffle, Arith, Ineg, Narrow, If}
+use Rattle.abs_plans.specs.OpFormsForms.Form.{IfIcmp, IfAcmpeq, IfAcmpne, Ifnull, Ifnonnull, Goto, Tableswitch, Lookupswitch, Ireturn}
+use Rattle.abs_plans.specs.OpFormsForms.Form.{Areturn, Return, Getstatic, Putstatic, Getfield, Putfield, Invokevirtual, Invokespecial}
+use Rattle.abs_plans.specs.OpFormsForms.Form.{Invokestatic, Invokeinterface, New, Newarray, Anewarray, Arraylength, NumberLoad, Aaload}
+use Rattle.abs_plans.specs.OpFormsForms.Form.{NumberStore, Aastore, Athrow, Checkcast, Instanceof}
 use Rattle.term_graph.specs.declared.links.LinkRow.{LinkRow}
 use Rattle.abs_plans.specs.abs_turns.Needs.{Passing, passes, fails, splits, after_test, passing_id, tested, operands_of, may_be_null}
 use Rattle.abs_plans.specs.abs_turns.Needs.{need_null, is_unknown, known_partner, split_unknown, split_below, need_class, need_object}

@@ -5,7 +5,7 @@ use Rattle.std.specs.Option.{IfSome, option_map, option_map_or, option_and_then,
 use Rattle.std.proofs.lemmas.Bool.{false≢true}
 use Rattle.list_views.proofs.Options.{map_some, then_some}
 use Rattle.list_views.proofs.Quantified.{all_filtered, all_joined}
-use Rattle.lin_core.specs.Intervals.{Bounds}
+use Rattle.abs_cells.specs.lin_core.Intervals.{Bounds}
 use Rattle.jvm_values.specs.declared.ints.IntOp.{IntOp}
 use Rattle.jvm_values.specs.declared.ints.IntOp.TheVariants.{Narrow as NarrowOp}
 use Rattle.jvm_values.specs.declared.ints.Cond.{Cond}
@@ -22,7 +22,7 @@ use Rattle.abs_ints.specs.declared.cases.Way.{Way}
 use Rattle.abs_ints.specs.declared.cases.Way.TheVariants.{Taken}
 use Rattle.abs_ints.specs.declared.relations.Relation.{Relation}
 use Rattle.abs_ints.specs.declared.relations.Relation.TheVariants.{Equal, Below, AtMost, Above, AtLeast}
-use Rattle.class_world.specs.BuiltIns.{array_index_out_of_bounds_exception}
+use Rattle.class_program.specs.class_world.BuiltIns.{array_index_out_of_bounds_exception}
 use Rattle.term_graph.specs.declared.links.Side.{Side}
 use Rattle.term_graph.specs.declared.links.Side.TheVariants.{After}
 use Rattle.term_graph.specs.declared.links.LinkRow.{LinkRow}

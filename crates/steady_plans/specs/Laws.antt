@@ -2,7 +2,7 @@
 use Rattle.std.specs.Prelude.{ℕ}
 use Rattle.abs_cells.specs.AbstractStates.{AbstractState}
 use Rattle.class_program.specs.Programs.{Program}
-use Rattle.frame_types.specs.Tables.{CodeTypes}
+use Rattle.abs_plans.specs.FrameTypesTables.{CodeTypes}
 use Rattle.abs_plans.specs.Planning.{plan_of}
 use Rattle.steady_plans.specs.Steps.{AreSteady}
 

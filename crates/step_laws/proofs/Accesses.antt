@@ -34,7 +34,7 @@ use Rattle.abs_ints.proofs.Comparisons.{compared_covers}
 use Rattle.abs_ints.proofs.Covering.{in_meet}
 use Rattle.class_world.specs.BuiltIns.{array_index_out_of_bounds_exception}
 use Rattle.class_world.specs.WorldTypes.{types_of}
-use Rattle.class_program.specs.Programs.{Program}
+use Rattle.jvm_step.specs.class_program.Programs.{Program}
 use Rattle.frame_types.specs.Tables.{CodeTypes}
 use Rattle.jvm_step.specs.Running.{Step, step}
 use Rattle.term_graph.specs.Edges.{HoldsBetween}

@@ -34,8 +34,8 @@ use Rattle.abs_reach.proofs.Walks.{named_has_cell}
 use Rattle.abs_heap.specs.Laws.{IsItemSlot, heap_with, zeros_of}
 use Rattle.class_world.specs.BuiltIns.{null_pointer_exception, negative_array_size_exception, array_index_out_of_bounds_exception}
 use Rattle.class_world.specs.WorldTypes.{types_of}
-use Rattle.class_program.specs.Programs.{Program}
-use Rattle.op_forms.specs.declared.form.ItemKind.{ItemKind}
+use Rattle.jvm_step.specs.class_program.Programs.{Program}
+use Rattle.jvm_step.specs.op_forms.declared.form.ItemKind.{ItemKind}
 use Rattle.frame_types.specs.Tables.{CodeTypes}
 use Rattle.jvm_step.specs.Effects.{Effect, with_stack, array_made, zeros, nulls, newarray_effect, anewarray_effect, on_item}
 use Rattle.jvm_step.specs.Effects.{item_at, is_for, numbers_in, number_load_effect}

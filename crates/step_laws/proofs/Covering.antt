@@ -6,18 +6,18 @@ use Rattle.jvm_values.specs.declared.ints.IntOp.TheVariants as operators
 use Rattle.jvm_values.specs.States.{MachineState}
 use Rattle.abs_cells.specs.AbstractStates.{AbstractState}
 use Rattle.abs_cells.specs.Fits.{Meaning}
-use Rattle.class_program.specs.declared.op.Op.{Op}
-use Rattle.class_program.specs.declared.op.Op.TheVariants as ops
-use Rattle.class_program.specs.Programs.{Program}
-use Rattle.op_forms.specs.Forms.{Form, form_of}
-use Rattle.op_forms.specs.Forms.Form.{Nop, AconstNull, Iconst, Iload, Aload, Istore, Astore, Iinc, Shuffle, Arith, Ineg, Narrow, If}
-use Rattle.op_forms.specs.Forms.Form.{IfIcmp, IfAcmpeq, IfAcmpne, Ifnull, Ifnonnull, Goto, Tableswitch, Lookupswitch, Ireturn}
-use Rattle.op_forms.specs.Forms.Form.{Areturn, Return, Getstatic, Putstatic, Getfield, Putfield, Invokevirtual, Invokespecial}
-use Rattle.op_forms.specs.Forms.Form.{Invokestatic, Invokeinterface, New, Newarray, Anewarray, Arraylength, NumberLoad, Aaload}
-use Rattle.op_forms.specs.Forms.Form.{NumberStore, Aastore, Athrow, Checkcast, Instanceof}
-use Rattle.op_forms.specs.Widths.{IsFormInWidth}
-use Rattle.op_forms.proofs.Widths.{increment_int}
-use Rattle.op_forms.proofs.Plain.{is_of_two, is_plain, plain_forms}
+use Rattle.jvm_step.specs.class_program.declared.op.Op.{Op}
+use Rattle.jvm_step.specs.class_program.declared.op.Op.TheVariants as ops
+use Rattle.jvm_step.specs.class_program.Programs.{Program}
+use Rattle.jvm_step.specs.op_forms.Forms.{Form, form_of}
+use Rattle.jvm_step.specs.op_forms.Forms.Form.{Nop, AconstNull, Iconst, Iload, Aload, Istore, Astore, Iinc, Shuffle, Arith, Ineg, Narrow, If}
+use Rattle.jvm_step.specs.op_forms.Forms.Form.{IfIcmp, IfAcmpeq, IfAcmpne, Ifnull, Ifnonnull, Goto, Tableswitch, Lookupswitch, Ireturn}
+use Rattle.jvm_step.specs.op_forms.Forms.Form.{Areturn, Return, Getstatic, Putstatic, Getfield, Putfield, Invokevirtual, Invokespecial}
+use Rattle.jvm_step.specs.op_forms.Forms.Form.{Invokestatic, Invokeinterface, New, Newarray, Anewarray, Arraylength, NumberLoad, Aaload}
+use Rattle.jvm_step.specs.op_forms.Forms.Form.{NumberStore, Aastore, Athrow, Checkcast, Instanceof}
+use Rattle.jvm_step.specs.op_forms.Widths.{IsFormInWidth}
+use Rattle.jvm_step.proofs.op_forms.Widths.{increment_int}
+use Rattle.jvm_step.proofs.op_forms.Plain.{is_of_two, is_plain, plain_forms}
 use Rattle.frame_types.specs.Tables.{CodeTypes}
 use Rattle.object_steps.specs.code_verify.Rows.{types_after}
 use Rattle.jvm_step.specs.Table.{effect_of}

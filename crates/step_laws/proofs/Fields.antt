@@ -43,9 +43,9 @@ use Rattle.abs_heap.specs.Given.{first_cell, with_cells}
 use Rattle.abs_heap.proofs.Placing.{cell_here, cell_later}
 use Rattle.class_world.specs.BuiltIns.{null_pointer_exception}
 use Rattle.class_world.specs.WorldTypes.{types_of}
-use Rattle.class_program.specs.declared.op.FieldUse.{FieldUse}
-use Rattle.class_program.specs.Good.{IsGoodField}
-use Rattle.class_program.specs.Programs.{Program}
+use Rattle.jvm_step.specs.class_program.declared.op.FieldUse.{FieldUse}
+use Rattle.jvm_step.specs.class_program.Good.{IsGoodField}
+use Rattle.jvm_step.specs.class_program.Programs.{Program}
 use Rattle.frame_types.specs.Tables.{CodeTypes}
 use Rattle.jvm_step.specs.Effects.{Effect, with_stack, fields_in, with_item, putfield_effect}
 use Rattle.jvm_step.specs.Operands.{reference_of, top, top_reference, object_at, is_assignable, is_passed, kept}

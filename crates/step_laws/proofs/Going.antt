@@ -5,8 +5,8 @@ use Rattle.abs_cells.specs.AbstractStates.{AbstractFrame, AbstractState}
 use Rattle.abs_cells.specs.Fits.{Meaning}
 use Rattle.class_world.specs.World.{World}
 use Rattle.class_world.specs.BuiltIns.{IsWorld, HasNoInterfacesBelow}
-use Rattle.class_program.specs.Programs.{Program, IsClosed}
-use Rattle.class_program.specs.Widths.{HasWidths}
+use Rattle.jvm_step.specs.class_program.Programs.{Program, IsClosed}
+use Rattle.jvm_step.specs.class_program.Widths.{HasWidths}
 use Rattle.frame_types.specs.Tables.{CodeTypes}
 use Rattle.object_steps.specs.jvm_run.Laws.{StepsAreTyped}
 use Rattle.object_steps.specs.abs_expand.Laws.{IsMet, EndsEnd, StepsFitChildren}

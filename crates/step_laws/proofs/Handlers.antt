@@ -25,8 +25,8 @@ use Rattle.abs_cells.specs.Sound.{is_object}
 use Rattle.abs_cells.specs.Fits.{Meaning, Describes}
 use Rattle.class_world.specs.BuiltIns.{throwable}
 use Rattle.class_world.specs.WorldTypes.{types_of}
-use Rattle.class_program.specs.declared.program.CatchRange.{CatchRange}
-use Rattle.class_program.specs.Programs.{Program}
+use Rattle.jvm_step.specs.class_program.declared.program.CatchRange.{CatchRange}
+use Rattle.jvm_step.specs.class_program.Programs.{Program}
 use Rattle.object_steps.specs.code_verify.Flows.{covers, CanCatch}
 use Rattle.object_steps.specs.abs_expand.Needs.{is_unknown}
 use Rattle.object_steps.specs.abs_expand.Throwing.{takes_type, thrown_type, takes, is_below_bound, may_take, before_taker}

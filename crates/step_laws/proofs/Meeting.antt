@@ -25,15 +25,15 @@ use Rattle.abs_cells.specs.Fits.{Meaning, FitsFrame, FitsMode, with_statics, Des
 use Rattle.class_world.specs.lemmas.WorldLaws.{world_laws}
 use Rattle.class_world.specs.WorldTypes.{types_of}
 use Rattle.class_world.proofs.BuiltInLaws.{built_ins_known}
-use Rattle.class_program.specs.declared.op.Op.{Op}
-use Rattle.class_program.specs.declared.program.Method.{Method}
-use Rattle.class_program.specs.Good.{IsGoodOp, IsGoodMethod}
-use Rattle.class_program.specs.Programs.{Program, IsClosed, insn_at}
-use Rattle.class_program.specs.Widths.{HasWidths}
-use Rattle.class_program.proofs.Got.{all_at as good_at}
-use Rattle.op_forms.specs.Forms.{Form, form_of}
-use Rattle.op_forms.specs.Widths.{IsFormInWidth}
-use Rattle.op_forms.proofs.Widths.{forms_wide}
+use Rattle.jvm_step.specs.class_program.declared.op.Op.{Op}
+use Rattle.jvm_step.specs.class_program.declared.program.Method.{Method}
+use Rattle.jvm_step.specs.class_program.Good.{IsGoodOp, IsGoodMethod}
+use Rattle.jvm_step.specs.class_program.Programs.{Program, IsClosed, insn_at}
+use Rattle.jvm_step.specs.class_program.Widths.{HasWidths}
+use Rattle.jvm_step.proofs.class_program.Got.{all_at as good_at}
+use Rattle.jvm_step.specs.op_forms.Forms.{Form, form_of}
+use Rattle.jvm_step.specs.op_forms.Widths.{IsFormInWidth}
+use Rattle.jvm_step.proofs.op_forms.Widths.{forms_wide}
 use Rattle.frame_types.specs.Places.{IsOfWorld, IsSet, IsFrame}
 use Rattle.frame_types.specs.Tables.{CodeTypes}
 use Rattle.object_steps.specs.code_verify.TypedStates.{HasPlaceType, HasStack, IsRunning, AreCallers, AreTypedFrames}

@@ -8,7 +8,7 @@ use Rattle.abs_reach.specs.Laws.{DroppedIdsKeepSizes}
 use Rattle.abs_heap.specs.Laws.{ValuesGoOn}
 use Rattle.class_world.specs.World.{World}
 use Rattle.class_world.specs.BuiltIns.{IsWorld, HasNoInterfacesBelow}
-use Rattle.class_program.specs.Programs.{Program, IsClosed}
+use Rattle.jvm_step.specs.class_program.Programs.{Program, IsClosed}
 use Rattle.object_steps.specs.form_steps.inner.Lows.{IsPlainCell, FreshIdsGoOn, DroppedKeepSized}
 use Rattle.object_steps.specs.form_steps.inner.Lows.{AreThrowablesErased}
 

@@ -26,9 +26,9 @@ use Rattle.abs_cells.specs.Fits.{Meaning, FitsFrame, FitsMode, with_statics}
 use Rattle.class_world.specs.BuiltIns.{throwable}
 use Rattle.class_world.specs.lemmas.WorldLaws.{world_laws}
 use Rattle.class_world.specs.WorldTypes.{types_of}
-use Rattle.class_program.specs.declared.program.CatchRange.{CatchRange}
-use Rattle.class_program.specs.declared.program.Method.{Method}
-use Rattle.class_program.specs.Programs.{Program, IsClosed}
+use Rattle.jvm_step.specs.class_program.declared.program.CatchRange.{CatchRange}
+use Rattle.jvm_step.specs.class_program.declared.program.Method.{Method}
+use Rattle.jvm_step.specs.class_program.Programs.{Program, IsClosed}
 use Rattle.frame_types.specs.Tables.{CodeTypes}
 use Rattle.object_steps.specs.code_verify.Flows.{covers}
 use Rattle.object_steps.specs.code_verify.TypedStates.{IsUnwinding, AreTypedFrames}

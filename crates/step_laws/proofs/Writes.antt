@@ -29,8 +29,8 @@ use Rattle.abs_cells.specs.Cells.{is_int, cell_at, HasCell}
 use Rattle.abs_cells.specs.Fits.{Meaning, Describes}
 use Rattle.class_world.specs.BuiltIns.{null_pointer_exception, array_index_out_of_bounds_exception, array_store_exception}
 use Rattle.class_world.specs.WorldTypes.{types_of}
-use Rattle.class_program.specs.Programs.{Program}
-use Rattle.op_forms.specs.declared.form.ItemKind.{ItemKind}
+use Rattle.jvm_step.specs.class_program.Programs.{Program}
+use Rattle.jvm_step.specs.op_forms.declared.form.ItemKind.{ItemKind}
 use Rattle.frame_types.specs.Tables.{CodeTypes}
 use Rattle.jvm_step.specs.Effects.{Effect, with_stack, on_item, item_at, index_below, is_for, numbers_in, references_in}
 use Rattle.jvm_step.specs.Effects.{with_number, with_item, aaload_effect, number_store_effect, aastore_effect}

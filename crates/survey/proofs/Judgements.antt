@@ -13,7 +13,7 @@ use Rattle.class_program.specs.Programs.{Program}
 use Rattle.input_steps.specs.Classes.{AllSpell, IsWorldOf}
 use Rattle.input_steps.specs.Programs.{IsProgramOf}
 use Rattle.input_steps.proofs.Files.{spell_length, spell_read}
-use Rattle.desc_steps.specs.Headline.{AllEnd}
+use Rattle.prove_call.specs.DescStepsHeadline.{AllEnd}
 use Rattle.class_calls.specs.describe.Templates.{IsTemplate}
 use Rattle.survey.specs.Claims.{Surveyed, NamesMethod, IsGivenText, IsOpenText, IsProved}
 use Rattle.survey.specs.inner.Wording.{IsMethodProgram}

@@ -14,8 +14,8 @@ use Rattle.jvm_values.specs.States.{MachineState}
 use Rattle.jvm_values.specs.TypedHeaps.{WorldTypes}
 use Rattle.jvm_values.specs.Terms.{HeapTerm, IsTerm}
 use Rattle.jvm_values.proofs.Options.{some_is}
-use Rattle.jvm_heaps.specs.AcyclicTerms.{HasTerm}
-use Rattle.jvm_heaps.proofs.TermLaws.{acyclic_terms}
+use Rattle.abs_reach.specs.JvmHeapsAcyclicTerms.{HasTerm}
+use Rattle.abs_reach.proofs.JvmHeapsTermLaws.{acyclic_terms}
 use Rattle.abs_cells.specs.AbstractStates.{AbstractState}
 use Rattle.abs_cells.specs.Cells.{cell_at, HasCell}
 use Rattle.abs_cells.specs.Fits.{Meaning}

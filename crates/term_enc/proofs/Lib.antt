@@ -10,3 +10,8 @@ pub mod Variables
 pub mod Summed
 pub mod Weighed
 pub mod Described
+-- files of crates below, given again for the crates above
+pub use Rattle.abs_reach.proofs.JvmHeapsDagPaths
+pub use Rattle.abs_reach.proofs.JvmHeapsMarkLaws
+pub use Rattle.abs_reach.proofs.JvmHeapsMarkTurns
+pub use Rattle.abs_reach.proofs.JvmHeapsTermLaws

@@ -16,7 +16,7 @@ use Rattle.jvm_values.specs.TypedHeaps.{WorldTypes}
 use Rattle.jvm_values.specs.Terms.{HeapTerm, HeapTerms, term_within, term_of_object, terms_by, IsTerm}
 use Rattle.jvm_values.specs.Terms as terms
 use Rattle.jvm_values.proofs.Options.{some_is}
-use Rattle.jvm_heaps.specs.AcyclicTerms.{IsNoInt}
+use Rattle.abs_reach.specs.JvmHeapsAcyclicTerms.{IsNoInt}
 use Rattle.abs_cells.specs.declared.cells.Cell.{Cell}
 use Rattle.abs_cells.specs.declared.cells.Cell.TheVariants.{Int, Null, Obj, Nums, Refs, Unk}
 use Rattle.abs_cells.specs.AbstractStates.{AbstractState}

@@ -3,7 +3,7 @@ use Rattle.std.specs.Prelude.{◌≡◌, ◌↔◌, ℕ}
 use Rattle.jvm_values.specs.declared.heap.Heap.{Heap}
 use Rattle.jvm_values.specs.Terms.{HeapTerm, HeapTerms, IsTerm}
 use Rattle.jvm_values.specs.Terms as terms
-use Rattle.jvm_heaps.specs.AcyclicTerms.{HasTerm}
+use Rattle.abs_reach.specs.JvmHeapsAcyclicTerms.{HasTerm}
 use Rattle.abs_cells.specs.Fits.{Meaning}
 use Rattle.abs_cells.specs.Patterns.{Pattern, Patterns, null, leaf, node, variable, none, more}
 

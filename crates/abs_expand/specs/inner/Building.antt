@@ -6,9 +6,9 @@ use Rattle.abs_cells.specs.PairLists.{IsRising}
 use Rattle.abs_cells.specs.Sound.{AreIdsRising}
 use Rattle.abs_reach.specs.Reached.{IsDropped}
 use Rattle.term_graph.specs.Graphs.{GraphChild}
-pub use Rattle.abs_turns.specs.GoodPlans.{HoldsIds}
+pub use Rattle.abs_plans.specs.abs_turns.GoodPlans.{HoldsIds}
 pub use Rattle.abs_expand.specs.inner.Making.{frames_to}
-use Rattle.abs_turns.specs.Plans.{Turn, ids_made}
+use Rattle.abs_plans.specs.abs_turns.Plans.{Turn, ids_made}
 use Rattle.abs_heap.specs.declared.fault.SplitFault.{SplitFault}
 use Rattle.abs_heap.specs.declared.fault.SplitFault.TheVariants as splits
 use Rattle.abs_expand.specs.declared.fault.ExpandFault.{ExpandFault}

@@ -5,8 +5,8 @@ use Rattle.abs_cells.specs.declared.cells.Cell.{Cell}
 use Rattle.abs_cells.specs.AbstractStates.{AbstractFrame, AbstractState}
 use Rattle.abs_cells.specs.Cells.{cell_in, AreEqual, Share}
 use Rattle.abs_heap.specs.Given.{IsGiven, with_cells}
-use Rattle.abs_turns.specs.Plans.{Act, Goal, nowhere, on_stack, in_local, in_bottom, in_field, is_thrown}
-use Rattle.abs_turns.specs.Table.{bottom_with}
+use Rattle.abs_plans.specs.abs_turns.Plans.{Act, Goal, nowhere, on_stack, in_local, in_bottom, in_field, is_thrown}
+use Rattle.abs_plans.specs.abs_turns.Table.{bottom_with}
 use Rattle.abs_expand.specs.Children.{IsActed, gone_to, top_with, field_with}
 
 -- a number is the least that no cell is of

@@ -15,7 +15,7 @@ use Rattle.jvm_values.specs.States.{PlaceTypes}
 use Rattle.class_program.specs.declared.program.Method.{Method}
 use Rattle.class_program.specs.declared.program.StaticField.{StaticField}
 use Rattle.class_program.specs.Programs.{Program}
-use Rattle.frame_types.specs.Tables.{CodeTypes}
+use Rattle.abs_plans.specs.FrameTypesTables.{CodeTypes}
 use Rattle.abs_expand.specs.BadStates.{call_at}
 
 -- the test of an entry of a stack: its id is an int where the typing has an int, and no int where it has a reference or null

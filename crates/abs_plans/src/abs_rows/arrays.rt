@@ -16,6 +16,7 @@ ghost use Rattle.abs_turns.specs.PlansSeen.{act_seen, goal_seen, rows_seen, turn
 use crate::abs_rows::objects::{natural, throws_below_zero};
 use crate::abs_rows::rows::{goes_to, no_child, step_if};
 use crate::abs_rows::stops::access_stop;
+use abs_cells::lin_core::Interval;
 use abs_cells::{Cell, Id, Pairs};
 use abs_ints::{IntCase, Way, compare};
 use abs_turns::class_world::built_ins::{
@@ -26,7 +27,6 @@ use abs_turns::{
     put, throws_after,
 };
 use jvm_values::{Cond, Kind};
-use lin_core::Interval;
 use list_views::{Seq, Stack};
 use std::alloc::{AllocError, Global};
 

@@ -10,11 +10,11 @@ ghost use Rattle.abs_turns.specs.Table.{natural, negative, array_turn, array_pla
 ghost use Rattle.abs_turns.specs.PlansSeen.{turn_seen, plan_seen};
 
 use crate::abs_rows::rows::{no_child, one_step};
+use abs_cells::lin_core::Interval;
 use abs_cells::{Id, Pairs};
 use abs_turns::class_world::built_ins::NEGATIVE_ARRAY_SIZE_EXCEPTION;
 use abs_turns::{Act, Goal, Plan, Rows, Spot, Turn, moves, one_narrowed, put, throws_after};
 use jvm_values::{Base, Slot, Ty};
-use lin_core::Interval;
 use list_views::{Seq, Stack};
 use std::alloc::{AllocError, Global};
 

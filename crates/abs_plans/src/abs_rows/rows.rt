@@ -16,7 +16,7 @@ use abs_turns::{
     Goal, Operand, Plan, Spot, Turn, branches, goes_on, just, lookup_turns, moves, pushes, put,
     shuffle, table_turns, turns_narrowing, turns_of,
 };
-use code_forms::Case;
+use class_program::code_forms::Case;
 use jvm_values::{Cond, IntOp, Kind};
 use list_views::{Seq, Stack};
 use std::alloc::{AllocError, Global};

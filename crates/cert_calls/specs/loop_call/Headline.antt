@@ -7,7 +7,7 @@ use Rattle.input_desc.specs.declared.states.StateInput.{StateInput}
 use Rattle.input_steps.specs.declared.refused.Refused.{Refused}
 use Rattle.desc_steps.specs.Headline.{NameProgram}
 use Rattle.class_calls.specs.run_call.Answers.{IsStateText, IsInput}
-use Rattle.input_fits.specs.Givens.{IsFitting}
+use Rattle.loop_check.specs.InputFitsGivens.{IsFitting}
 use Rattle.loop_check.specs.Laws.{AllGoOn}
 use Rattle.check_call.specs.declared.outcome.Outcome.{Outcome}
 

@@ -6,8 +6,8 @@ ghost use Rattle.cert_calls.specs.loop_call.Lines.{refused_line, never_ends};
 ghost use Rattle.cert_calls.specs.loop_call.inner.Words.{IsSaidOf};
 
 use cert_check::Cause;
+use cert_check::graph_check::What;
 use check_call::{Outcome, refuse_item};
-use graph_check::What;
 use input_steps::Refused;
 use list_views::Seq;
 use list_views::fault_words::joined;

@@ -1,8 +1,8 @@
 -- Words of private calls: what holds of a method's table while it grows.
 use Rattle.std.specs.Prelude.{◌≡◌, ◌≤◌, ◌<◌, ℕ, nat_lt, min, max, if◌then◌else◌, ◌⊎◌, List, Option, Some, All, IsTrue}
 use Rattle.jvm_values.specs.States.{PlaceTypes}
-use Rattle.class_world.specs.World.{World}
-use Rattle.class_world.specs.WorldTypes.{types_of}
+use Rattle.class_program.specs.class_world.World.{World}
+use Rattle.class_program.specs.class_world.WorldTypes.{types_of}
 use Rattle.class_program.specs.declared.program.CatchRange.{CatchRange}
 use Rattle.class_program.specs.declared.program.Method.{Method}
 use Rattle.class_program.specs.Programs.{Program}

@@ -13,13 +13,13 @@ use Rattle.abs_cells.specs.Cells.{HasCell, AreEqual, Share}
 use Rattle.abs_cells.specs.Sound.{IsWellFormed}
 use Rattle.abs_cells.specs.Fits.{Meaning, Describes, Fits}
 use Rattle.abs_cells.specs.Patterns.{IsSized}
-use Rattle.abs_reach.specs.Reached.{IsDropped}
+use Rattle.abs_expand.specs.AbsReachReached.{IsDropped}
 use Rattle.abs_heap.specs.Given.{IsGiven, AreFresh, with_cells}
 use Rattle.abs_heap.specs.Laws.{GoesWith, NullSplits, ClassesSplit, EqualSplits, WritesGoOn, ObjectsGoOn, ArraysGoOn, ItemsGoOn}
 use Rattle.abs_heap.specs.Laws.{IntWritesGoOn, NumberWritesGoOn}
-use Rattle.class_world.specs.BuiltIns.{throwable}
-use Rattle.class_world.specs.WorldTypes.{types_of}
-use Rattle.class_program.specs.Programs.{Program}
+use Rattle.abs_expand.specs.ClassWorldBuiltIns.{throwable}
+use Rattle.abs_expand.specs.ClassWorldWorldTypes.{types_of}
+use Rattle.abs_expand.specs.ClassProgramPrograms.{Program}
 
 -- a cell is that of an int or of null, which names no ids
 abbrev pub IsPlainCell : Cell → Type 0

@@ -10,7 +10,7 @@ use Rattle.code_verify.specs.Typings.{IsTypingOf}
 use Rattle.term_graph.specs.declared.nodes.By.{By}
 use Rattle.term_graph.specs.declared.nodes.By.TheVariants.{Expand, Instance, End, Todo}
 use Rattle.term_graph.specs.Graphs.{GraphNode, GraphChild}
-use Rattle.place_sorts.specs.Growing.{IsGrowing}
+use Rattle.graph_laws.specs.place_sorts.Growing.{IsGrowing}
 use Rattle.graph_build.specs.declared.grower.Grown.{Grown}
 use Rattle.graph_build.specs.declared.grower.Grown.TheVariants as grown
 use Rattle.graph_build.specs.declared.grower.GrowFault.{GrowFault}
@@ -25,8 +25,8 @@ use Rattle.descent.specs.declared.proof.ProofStep.{ProofStep}
 use Rattle.descent.specs.declared.rules.PathRule.{PathRule}
 use Rattle.term_graph.specs.declared.links.Link.{Link}
 use Rattle.chain_proofs.specs.Lean.{AreLean}
-use Rattle.cert_check.specs.Parts.{case_of}
-use Rattle.cert_check.specs.Valid.{IsValid}
+use Rattle.cert_verdict.specs.CertCheckParts.{case_of}
+use Rattle.cert_verdict.specs.CertCheckValid.{IsValid}
 use Rattle.prove_core.specs.Reasons.{Aim, IsWhole}
 
 -- ---- states

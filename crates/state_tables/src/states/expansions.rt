@@ -1,8 +1,8 @@
 //! `expand`: a state, an entry method and class files; what expansion answers.
 use abs_cells::{AbsState, ListPairs, PackedPairs, Pairs};
-use abs_expand::{ExpandFault, expand};
 use abs_reach::Marks;
 use anyhow::{Context, Result, bail};
+use cert_check::abs_expand::{ExpandFault, expand};
 use class_program::Program;
 use class_world::World;
 use code_verify::{Typing, verify};

@@ -1,6 +1,6 @@
 use Rattle.class_program.specs.Views.{program_of}
-use Rattle.class_world.specs.WorldTypes.{types_of}
-use Rattle.abs_turns.specs.PlansSeen.{turn_seen}
+use Rattle.class_program.specs.class_world.WorldTypes.{types_of}
+use Rattle.abs_plans.specs.abs_turns.PlansSeen.{turn_seen}
 use Rattle.abs_expand.proofs.TurnChildren.{turn_child}
 use Rattle.abs_expand.proofs.children.child.Goals as goal
 

@@ -2,9 +2,9 @@ use Rattle.std.proofs.Common.{sym, ap, ◌∙◌, ◌++◌, List, map}
 use Rattle.std.proofs.lemmas.Bool.{and_parts}
 use Rattle.abs_ints.specs.declared.cases.ShortRow.{ShortRow}
 use Rattle.term_graph.specs.declared.links.LinkRow.{LinkRow}
-use Rattle.abs_turns.specs.Turns.{row_over}
-use Rattle.abs_turns.specs.OperandsSeen.{operand_seen}
-use Rattle.abs_turns.specs.ShortRows.{is_short_row, are_short}
+use Rattle.abs_plans.specs.abs_turns.Turns.{row_over}
+use Rattle.abs_plans.specs.abs_turns.OperandsSeen.{operand_seen}
+use Rattle.abs_plans.specs.abs_turns.ShortRows.{is_short_row, are_short}
 use Rattle.abs_expand.proofs.ChildLists.{more_made}
 use Rattle.abs_expand.proofs.children.rows_over.Goals as goal
 

@@ -1,7 +1,7 @@
 use Rattle.std.proofs.Common.{◌≡◌, ◌++◌, length, true}
-use Rattle.abs_turns.specs.Turns.{rows_over}
-use Rattle.abs_turns.specs.ShortRows.{are_short}
-use Rattle.abs_turns.specs.OperandsSeen.{operand_seen}
+use Rattle.abs_plans.specs.abs_turns.Turns.{rows_over}
+use Rattle.abs_plans.specs.abs_turns.ShortRows.{are_short}
+use Rattle.abs_plans.specs.abs_turns.OperandsSeen.{operand_seen}
 use Rattle.abs_expand.proofs.children.rows_over.Given as goal
 
 abbrev pub invariant-loop-row : goal.invariant-loop-row

@@ -1,7 +1,7 @@
 use Rattle.std.proofs.Common.{◌∙◌, sym}
 use Rattle.std.proofs.lemmas.Bool.{false≢true}
 use Rattle.class_program.specs.Views.{program_of}
-use Rattle.abs_turns.specs.code_verify.Typings.{typing_at}
+use Rattle.abs_plans.specs.abs_turns.code_verify.Typings.{typing_at}
 use Rattle.abs_expand.specs.BadStates.{unsound, misplaced, uncalled}
 use Rattle.abs_expand.proofs.Placed.{all_from, all_to, calls_from, calls_to}
 use Rattle.abs_expand.proofs.clauses.bad_clause.Goals as goal

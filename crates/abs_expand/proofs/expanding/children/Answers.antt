@@ -1,11 +1,11 @@
 use Rattle.std.proofs.Common.{ℕ, List, length, map, sym, subst, arith, ap}
 use Rattle.std.specs.List.{AllByRecursion}
 use Rattle.class_program.specs.Views.{program_of}
-use Rattle.class_world.specs.WorldTypes.{types_of}
+use Rattle.class_program.specs.class_world.WorldTypes.{types_of}
 use Rattle.abs_reach.proofs.Room.{count_low}
-use Rattle.abs_turns.specs.declared.plans.Turn.{Turn}
-use Rattle.abs_turns.specs.GoodPlans.{IsGoodTurn}
-use Rattle.abs_turns.specs.PlansSeen.{turn_seen}
+use Rattle.abs_plans.specs.abs_turns.declared.plans.Turn.{Turn}
+use Rattle.abs_plans.specs.abs_turns.GoodPlans.{IsGoodTurn}
+use Rattle.abs_plans.specs.abs_turns.PlansSeen.{turn_seen}
 use Rattle.abs_expand.specs.inner.Building.{IsChildOf, turn_counts}
 use Rattle.abs_expand.specs.Expansions.{AreFew, IsFirstTooMany}
 use Rattle.abs_expand.proofs.ChildLists.{zip_mapped, all_mapped, expanded}

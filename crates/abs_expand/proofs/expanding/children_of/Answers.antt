@@ -1,9 +1,9 @@
 use Rattle.std.proofs.Common.{rules}
 use Rattle.class_program.specs.Views.{program_of}
-use Rattle.class_world.specs.WorldTypes.{types_of}
+use Rattle.class_program.specs.class_world.WorldTypes.{types_of}
 use Rattle.term_graph.specs.Graphs.{GraphChild}
-use Rattle.abs_turns.specs.declared.plans.Turn.{Turn}
-use Rattle.abs_turns.specs.PlansSeen.{turn_seen}
+use Rattle.abs_plans.specs.abs_turns.declared.plans.Turn.{Turn}
+use Rattle.abs_plans.specs.abs_turns.PlansSeen.{turn_seen}
 use Rattle.abs_expand.specs.inner.Building.{IsChildOf}
 use Rattle.abs_expand.proofs.ZipLists.{pushed}
 use Rattle.abs_expand.proofs.expanding.children_of.Goals as goal

@@ -2,9 +2,9 @@ use Rattle.std.proofs.Common.{length}
 use Rattle.std.specs.List.{AllByRecursion, AllZip}
 use Rattle.std.specs.Vec.Iter.{into_iter_items}
 use Rattle.class_program.specs.Views.{program_of}
-use Rattle.class_world.specs.WorldTypes.{types_of}
-use Rattle.abs_turns.specs.GoodPlans.{IsGoodTurn}
-use Rattle.abs_turns.specs.PlansSeen.{turn_seen}
+use Rattle.class_program.specs.class_world.WorldTypes.{types_of}
+use Rattle.abs_plans.specs.abs_turns.GoodPlans.{IsGoodTurn}
+use Rattle.abs_plans.specs.abs_turns.PlansSeen.{turn_seen}
 use Rattle.abs_expand.specs.inner.Building.{IsChildOf}
 use Rattle.abs_expand.proofs.TurnChildren.{HasRoom}
 use Rattle.abs_expand.proofs.expanding.children_of.Given as goal

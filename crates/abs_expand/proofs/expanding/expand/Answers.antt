@@ -1,10 +1,10 @@
 use Rattle.std.proofs.Common.{◌∙◌, map, sym, ap, subst}
 use Rattle.class_program.specs.Views.{program_of}
-use Rattle.class_world.specs.WorldTypes.{types_of}
-use Rattle.abs_turns.specs.code_verify.Typings.{typing_at}
-use Rattle.abs_turns.specs.Plans.{steps, by_null, by_class, by_equal}
-use Rattle.abs_turns.specs.PlansSeen.{turn_seen, plan_seen}
-use Rattle.abs_turns.specs.GoodPlans.{IsGoodPlan}
+use Rattle.class_program.specs.class_world.WorldTypes.{types_of}
+use Rattle.abs_plans.specs.abs_turns.code_verify.Typings.{typing_at}
+use Rattle.abs_plans.specs.abs_turns.Plans.{steps, by_null, by_class, by_equal}
+use Rattle.abs_plans.specs.abs_turns.PlansSeen.{turn_seen, plan_seen}
+use Rattle.abs_plans.specs.abs_turns.GoodPlans.{IsGoodPlan}
 use Rattle.abs_expand.proofs.ChildLists.{plan_answer}
 use Rattle.abs_expand.proofs.expanding.expand.Goals as goal
 

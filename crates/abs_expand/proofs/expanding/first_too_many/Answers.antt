@@ -1,7 +1,7 @@
 use Rattle.std.proofs.Common.{arith}
 use Rattle.class_program.specs.Views.{program_of}
-use Rattle.class_world.specs.WorldTypes.{types_of}
-use Rattle.abs_turns.specs.GoodPlans.{IsGoodTurn}
+use Rattle.class_program.specs.class_world.WorldTypes.{types_of}
+use Rattle.abs_plans.specs.abs_turns.GoodPlans.{IsGoodTurn}
 use Rattle.abs_expand.proofs.ChildLists.{few_next, many_at, few_all}
 use Rattle.abs_expand.proofs.TurnChildren.{turn_at}
 use Rattle.abs_expand.proofs.expanding.first_too_many.Goals as goal

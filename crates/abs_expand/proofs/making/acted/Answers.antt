@@ -1,8 +1,8 @@
 use Rattle.std.proofs.Common.{refl, sym, ap, subst, arith}
 use Rattle.std.specs.Prelude.{IfOk}
 use Rattle.jvm_values.specs.TypedHeaps.{WorldTypes, world_types}
-use Rattle.abs_turns.specs.Plans.{Act}
-use Rattle.abs_turns.specs.PlansSeen.{act_seen, goal_seen, write_seen}
+use Rattle.abs_plans.specs.abs_turns.Plans.{Act}
+use Rattle.abs_plans.specs.abs_turns.PlansSeen.{act_seen, goal_seen, write_seen}
 use Rattle.abs_expand.specs.Children.{IsActed}
 use Rattle.abs_expand.proofs.Acting.{makes_asks, writes_asks, item_asks, object_asks, array_asks, nothing_goes, writing_goes}
 use Rattle.abs_expand.proofs.Acting.{stands_anyway}

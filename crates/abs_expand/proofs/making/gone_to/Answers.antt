@@ -1,8 +1,8 @@
 use Rattle.std.proofs.Common.{◌≡◌, sym, ap, subst}
 use Rattle.std.proofs.lemmas.Bool.{MatchBool-at_true, MatchBool-at_false}
 use Rattle.abs_cells.specs.Sound.{IsWellFormed}
-use Rattle.abs_turns.specs.Plans.{Goal, nowhere}
-use Rattle.abs_turns.specs.PlansSeen.{goal_seen}
+use Rattle.abs_plans.specs.abs_turns.Plans.{Goal, nowhere}
+use Rattle.abs_plans.specs.abs_turns.PlansSeen.{goal_seen}
 use Rattle.abs_expand.specs.Children.{gone_to}
 use Rattle.abs_expand.specs.inner.Making.{GoesSomewhere}
 use Rattle.abs_expand.proofs.GoingTo.{gone_good, gone_as}

@@ -1,7 +1,7 @@
 use Rattle.std.proofs.Common.{sym, subst, ap}
 use Rattle.abs_cells.specs.AbstractStates.{AbstractState}
 use Rattle.abs_cells.specs.Sound.{IsWellFormed}
-use Rattle.abs_turns.specs.GoodPlans.{IsThere}
+use Rattle.abs_plans.specs.abs_turns.GoodPlans.{IsThere}
 use Rattle.abs_expand.proofs.Acting.{loaded_good}
 use Rattle.abs_expand.proofs.making.loaded.Goals as goal
 

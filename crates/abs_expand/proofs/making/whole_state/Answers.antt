@@ -1,8 +1,8 @@
 use Rattle.std.proofs.Common.{reverse, subst, sym, ℕ, ◌+◌, ◌≤◌}
 use Rattle.jvm_values.specs.TypedHeaps.{WorldTypes, world_types}
 use Rattle.abs_cells.specs.Limits.{most_ids}
-use Rattle.abs_turns.specs.Plans.{ids_made}
-use Rattle.abs_turns.specs.PlansSeen.{act_seen, goal_seen}
+use Rattle.abs_plans.specs.abs_turns.Plans.{ids_made}
+use Rattle.abs_plans.specs.abs_turns.PlansSeen.{act_seen, goal_seen}
 use Rattle.abs_expand.proofs.Acting.{act_moves}
 use Rattle.abs_expand.proofs.making.whole_state.Goals as goal
 

@@ -2,7 +2,7 @@ use Rattle.std.proofs.Common.{sym, subst, ap}
 use Rattle.abs_cells.specs.AbstractStates.{AbstractState}
 use Rattle.abs_cells.specs.Sound.{IsWellFormed}
 use Rattle.abs_cells.specs.declared.cells.Cell.TheVariants.{Obj}
-use Rattle.abs_turns.specs.GoodPlans.{IsThere}
+use Rattle.abs_plans.specs.abs_turns.GoodPlans.{IsThere}
 use Rattle.abs_expand.proofs.HeapChildren.{well_object}
 use Rattle.abs_expand.proofs.Acting.{first_there}
 use Rattle.abs_expand.proofs.making.with_object.Goals as goal

@@ -1,6 +1,6 @@
 use Rattle.std.proofs.Common.{◌≡◌, ◌≤◌, length, take, reverse}
 use Rattle.class_program.specs.Views.{program_of}
-use Rattle.abs_turns.specs.code_verify.Typings.{typing_at}
+use Rattle.abs_plans.specs.abs_turns.code_verify.Typings.{typing_at}
 use Rattle.abs_expand.specs.inner.PlaceTests.{callers_test}
 use Rattle.abs_expand.proofs.places.are_callers_placed.Given as goal
 

@@ -1,6 +1,6 @@
 use Rattle.std.proofs.Common.{◌∙◌, ◌&&◌, Bool, List, sym, ap, arith}
 use Rattle.class_program.specs.Views.{program_of}
-use Rattle.abs_turns.specs.code_verify.Typings.{typing_at}
+use Rattle.abs_plans.specs.abs_turns.code_verify.Typings.{typing_at}
 use Rattle.class_program.specs.declared.program.StaticField.{StaticField}
 use Rattle.abs_expand.specs.inner.PlaceTests.{running_test}
 use Rattle.abs_expand.proofs.Placed.{all_tested}

@@ -1,6 +1,6 @@
 use Rattle.std.proofs.Common.{length, ap, arith}
 use Rattle.class_program.specs.Views.{program_of}
-use Rattle.class_world.specs.WorldTypes.{types_of}
+use Rattle.class_program.specs.class_world.WorldTypes.{types_of}
 use Rattle.abs_expand.proofs.SplitChildren.{equal_well}
 use Rattle.abs_expand.proofs.SplitCounts.{equal_crowded, equal_expanded}
 use Rattle.abs_expand.proofs.splitting.equal_children.Goals as goal

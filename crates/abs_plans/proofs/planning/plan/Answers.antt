@@ -1,4 +1,4 @@
-use Rattle.class_world.specs.WorldTypes.{types_of}
+use Rattle.abs_turns.specs.class_world.WorldTypes.{types_of}
 use Rattle.class_program.specs.Views.{program_of}
 use Rattle.abs_turns.specs.code_verify.Typings.{typing_at}
 use Rattle.abs_plans.proofs.GoodPlans.{plan_is_good}

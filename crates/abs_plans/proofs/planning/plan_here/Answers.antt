@@ -1,7 +1,7 @@
 use Rattle.std.proofs.Common.{◌∙◌, reverse, sym}
 use Rattle.class_program.specs.Views.{program_of}
 use Rattle.abs_turns.specs.code_verify.Typings.{typing_at}
-use Rattle.op_forms.specs.Forms.{form_of, form_seen}
+use Rattle.abs_turns.specs.op_forms.Forms.{form_of, form_seen}
 use Rattle.abs_plans.proofs.MadePlans.{made_is}
 use Rattle.abs_plans.proofs.PlannedStates.{with_form, without_form}
 use Rattle.abs_plans.proofs.planning.plan_here.Goals as goal

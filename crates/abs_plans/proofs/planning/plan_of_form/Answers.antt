@@ -1,4 +1,4 @@
-use Rattle.op_forms.specs.Forms.{form_seen}
+use Rattle.abs_turns.specs.op_forms.Forms.{form_seen}
 use Rattle.abs_turns.specs.PlansSeen.{plan_seen}
 use Rattle.abs_plans.proofs.MadePlans.{made_is, form_stops, form_goes_on}
 use Rattle.abs_plans.proofs.planning.plan_of_form.Goals as goal

@@ -2,7 +2,7 @@ use Rattle.std.proofs.Common.{◌∙◌, ℕ, Some, None, reverse, ap}
 use Rattle.jvm_values.specs.States.{types_of}
 use Rattle.class_program.specs.Views.{program_of}
 use Rattle.abs_turns.specs.code_verify.Typings.{typing_at}
-use Rattle.op_forms.specs.Forms.{form_seen}
+use Rattle.abs_turns.specs.op_forms.Forms.{form_seen}
 use Rattle.std.specs.Option.{option_map_or}
 use Rattle.abs_plans.proofs.MadePlans.{made_is}
 use Rattle.abs_plans.proofs.PlannedStates.{asked_at, with_types, without_types}

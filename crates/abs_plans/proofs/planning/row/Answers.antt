@@ -2,8 +2,8 @@ use Rattle.std.proofs.Common.{◌≡◌, ◌∙◌, ℕ, pos, true, false, List,
 use Rattle.std.specs.Option.{option_map}
 use Rattle.jvm_values.specs.declared.types.Slot.TheVariants as slots
 use Rattle.abs_cells.specs.declared.cells.Cell.TheVariants as cells
-use Rattle.op_forms.specs.declared.form.Form.{Form as FormSeen}
-use Rattle.op_forms.specs.Forms.{form_seen, shuffled}
+use Rattle.abs_turns.specs.op_forms.declared.form.Form.{Form as FormSeen}
+use Rattle.abs_turns.specs.op_forms.Forms.{form_seen, shuffled}
 use Rattle.abs_turns.specs.Plans.{steps, on_stack}
 use Rattle.abs_turns.specs.Turns.{known, id, with_stack, goes_on, pushes, turns_of, branches}
 use Rattle.abs_turns.specs.Switches.{table_keys, lookup_keys}

@@ -2,7 +2,7 @@ use Rattle.std.proofs.Common.{◌≡◌, ◌++◌, [], ◌∙◌, ap, ℤ, pos, 
 use Rattle.std.proofs.lemmas.Int.{ints}
 use Rattle.std.specs.Option.{option_to_list}
 use Rattle.std.specs.List.{cons_option}
-use Rattle.lin_core.specs.Intervals.{interval_of}
+use Rattle.abs_cells.specs.lin_core.Intervals.{interval_of}
 use Rattle.abs_ints.specs.IntIntervals.{just}
 use Rattle.abs_turns.specs.Turns.{switch_turn}
 use Rattle.abs_turns.specs.PlansSeen.{turn_seen}

@@ -1,6 +1,6 @@
 use Rattle.std.proofs.Common.{◌≡◌, ◌∙◌, ap, sym, subst, Option, Some}
 use Rattle.std.specs.Prelude.{slice_get, IfSome}
-use Rattle.class_read.specs.Content.{ClassContent}
+use Rattle.class_program.specs.class_read.Content.{ClassContent}
 use Rattle.class_program.specs.Views.{program_of}
 use Rattle.call_graph.proofs.Rows.{class_within, named}
 use Rattle.call_graph.proofs.check.method_name.Goals as goal

@@ -1,5 +1,5 @@
 use Rattle.std.proofs.Common.{◌+◌, length}
-use Rattle.list_views.specs.Lists.{open_count}
+use Rattle.code_forms.specs.list_views.Lists.{open_count}
 use Rattle.class_world.proofs.Marking.{Closing}
 use Rattle.class_world.proofs.hierarchy.above_row.Given as goal
 

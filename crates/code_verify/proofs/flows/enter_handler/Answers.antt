@@ -3,9 +3,9 @@ use Rattle.std.specs.Prelude.{Bool, All}
 use Rattle.jvm_values.specs.declared.types.Ty.{Ty}
 use Rattle.jvm_values.specs.declared.typing.PlaceType.TheVariants as places
 use Rattle.jvm_values.specs.States.{PlaceTypes, types_of as seen}
-use Rattle.class_world.specs.Types.{erase}
-use Rattle.class_world.specs.Worlds.{classes_of}
-use Rattle.class_world.specs.WorldTypes.{types_of}
+use Rattle.class_program.specs.class_world.Types.{erase}
+use Rattle.class_program.specs.class_world.Worlds.{classes_of}
+use Rattle.class_program.specs.class_world.WorldTypes.{types_of}
 use Rattle.frame_types.specs.Places.{IsOfWorld}
 use Rattle.code_verify.specs.Answers.{Comes}
 use Rattle.code_verify.specs.Flows.{caught}

@@ -1,7 +1,7 @@
 use Rattle.std.proofs.Common.{◌≡◌, length, arith, refl, sym, ◌∙◌}
 use Rattle.frame_types.proofs.GrowthLaws.{grown_none}
 use Rattle.jvm_values.specs.States.{types_of as seen}
-use Rattle.class_world.specs.Worlds.{classes_of}
+use Rattle.class_program.specs.class_world.Worlds.{classes_of}
 use Rattle.code_verify.specs.Flows.{caught}
 use Rattle.code_verify.proofs.WorldOf.{laws_at}
 use Rattle.code_verify.proofs.FlowLaws.{caught_adds, came, did_not_come, next_comes, next_refuses, all_came}

@@ -1,7 +1,7 @@
 use Rattle.std.proofs.Common.{◌≡◌, take}
 use Rattle.jvm_values.specs.States.{types_of as seen}
-use Rattle.class_world.specs.Worlds.{classes_of}
-use Rattle.class_world.specs.WorldTypes.{types_of}
+use Rattle.class_program.specs.class_world.Worlds.{classes_of}
+use Rattle.class_program.specs.class_world.WorldTypes.{types_of}
 use Rattle.frame_types.specs.Growth.{IsGrown}
 use Rattle.code_verify.specs.Flows.{caught}
 use Rattle.code_verify.proofs.flows.enter_handlers.Given as goal

@@ -1,4 +1,4 @@
-use Rattle.class_world.specs.lemmas.WorldLaws.{world_laws}
+use Rattle.class_program.specs.class_world.lemmas.WorldLaws.{world_laws}
 use Rattle.code_verify.proofs.LeastTypings.{least_exists, least_is_one}
 use Rattle.code_verify.proofs.least.least_typings_exist.Goals as goal
 

@@ -1,5 +1,5 @@
 use Rattle.std.proofs.Common.{◌≡◌, length, arith}
-use Rattle.class_world.specs.Worlds.{classes_of}
+use Rattle.class_program.specs.class_world.Worlds.{classes_of}
 use Rattle.code_verify.proofs.Beginning.{catches_more, catches_not, catches_all}
 use Rattle.code_verify.proofs.method.can_catch.Goals as goal
 

@@ -1,6 +1,6 @@
 use Rattle.std.proofs.Common.{take}
 use Rattle.std.specs.Prelude.{All}
-use Rattle.class_world.specs.Worlds.{classes_of}
+use Rattle.class_program.specs.class_world.Worlds.{classes_of}
 use Rattle.code_verify.specs.Flows.{CanCatch}
 use Rattle.code_verify.proofs.method.can_catch.Given as goal
 

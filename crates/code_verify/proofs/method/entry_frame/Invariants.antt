@@ -1,7 +1,7 @@
 use Rattle.std.proofs.Common.{◌≡◌, ◌++◌, ◌-◌, length, map, take, replicate}
 use Rattle.jvm_values.specs.declared.typing.PlaceType.TheVariants as places
-use Rattle.class_world.specs.Worlds.{classes_of}
-use Rattle.class_world.specs.WorldTypes.{types_of}
+use Rattle.class_program.specs.class_world.Worlds.{classes_of}
+use Rattle.class_program.specs.class_world.WorldTypes.{types_of}
 use Rattle.code_verify.specs.Operands.{place_of}
 use Rattle.code_verify.proofs.method.entry_frame.Given as goal
 

@@ -1,7 +1,7 @@
 use Rattle.std.proofs.Common.{List, sym, subst}
 use Rattle.jvm_values.specs.States.{types_of as seen}
-use Rattle.class_world.specs.Worlds.{classes_of}
-use Rattle.class_world.specs.WorldTypes.{types_of}
+use Rattle.class_program.specs.class_world.Worlds.{classes_of}
+use Rattle.class_program.specs.class_world.WorldTypes.{types_of}
 use Rattle.class_program.specs.declared.program.CatchRange.{CatchRange}
 use Rattle.class_program.specs.Views.{program_of}
 use Rattle.op_forms.specs.Forms.{form_seen}

@@ -3,7 +3,7 @@ use Rattle.std.specs.Option.{option_map}
 use Rattle.jvm_values.specs.declared.typing.FrameType.{FrameType}
 use Rattle.jvm_values.specs.States.{types_of as seen}
 use Rattle.jvm_values.proofs.Options.{some_is}
-use Rattle.class_world.specs.Worlds.{classes_of}
+use Rattle.class_program.specs.class_world.Worlds.{classes_of}
 use Rattle.class_program.specs.Views.{program_of}
 use Rattle.frame_types.specs.Tables.{types_at}
 use Rattle.code_verify.specs.inner.Solving.{IsPassed}

@@ -1,5 +1,5 @@
 use Rattle.std.proofs.Common.{refl}
-use Rattle.class_world.specs.Worlds.{classes_of}
+use Rattle.class_program.specs.class_world.Worlds.{classes_of}
 use Rattle.class_program.specs.Views.{program_of}
 use Rattle.frame_types.specs.Tables.{types_at}
 use Rattle.code_verify.proofs.Passing.{nothing_passed}

@@ -1,5 +1,5 @@
-use Rattle.class_world.specs.Worlds.{classes_of}
-use Rattle.class_world.specs.WorldTypes.{types_of}
+use Rattle.class_program.specs.class_world.Worlds.{classes_of}
+use Rattle.class_program.specs.class_world.WorldTypes.{types_of}
 use Rattle.class_program.specs.Views.{program_of}
 use Rattle.frame_types.specs.Tables.{types_at}
 use Rattle.frame_types.specs.Work.{work_left}

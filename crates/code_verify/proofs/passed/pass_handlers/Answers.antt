@@ -1,6 +1,6 @@
 use Rattle.std.proofs.Common.{sym}
 use Rattle.jvm_values.specs.States.{types_of as seen}
-use Rattle.class_world.specs.Worlds.{classes_of}
+use Rattle.class_program.specs.class_world.Worlds.{classes_of}
 use Rattle.frame_types.proofs.GrowthLaws.{grown_taken}
 use Rattle.code_verify.proofs.WorldOf.{laws_at}
 use Rattle.code_verify.proofs.FlowLaws.{came}

@@ -1,6 +1,6 @@
 use Rattle.std.proofs.Common.{[], ◌∷◌, map, reverse}
-use Rattle.class_world.specs.Worlds.{classes_of}
-use Rattle.class_world.specs.WorldTypes.{types_of}
+use Rattle.class_program.specs.class_world.Worlds.{classes_of}
+use Rattle.class_program.specs.class_world.WorldTypes.{types_of}
 use Rattle.code_verify.specs.Operands.{want_of}
 use Rattle.code_verify.proofs.Taken.{none_taken, first_taken}
 use Rattle.code_verify.proofs.rows.take_call.Goals as goal

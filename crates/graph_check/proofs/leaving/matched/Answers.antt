@@ -1,7 +1,7 @@
 use Rattle.std.proofs.Common.{subst}
 use Rattle.abs_cells.specs.AbstractStates.{AbstractState}
 use Rattle.abs_reach.specs.Instances.{InstanceOf}
-use Rattle.class_world.specs.WorldTypes.{types_of}
+use Rattle.class_program.specs.class_world.WorldTypes.{types_of}
 use Rattle.class_program.specs.Views.{program_of}
 use Rattle.graph_check.proofs.leaving.matched.Goals as goal
 

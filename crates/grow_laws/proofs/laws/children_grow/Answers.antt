@@ -1,4 +1,4 @@
-use Rattle.jvm_run.proofs.TypedRuns.{known}
+use Rattle.place_sorts.proofs.JvmRunTypedRuns.{known}
 use Rattle.grow_laws.proofs.Plans.{children_grow}
 use Rattle.grow_laws.proofs.laws.children_grow.Goals as goal
 

@@ -1,5 +1,5 @@
 use Rattle.class_program.specs.Views.{program_of}
-use Rattle.code_verify.specs.Typings.{typing_at}
+use Rattle.jvm_run.specs.code_verify.Typings.{typing_at}
 use Rattle.class_calls.proofs.Answering.{calls_refused, types_refused, input_is_refused, program_runs}
 use Rattle.class_calls.proofs.run_call.call.run_program.Goals as goal
 

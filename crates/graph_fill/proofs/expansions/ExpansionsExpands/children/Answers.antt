@@ -1,8 +1,8 @@
 use Rattle.std.proofs.Common.{Err, subst}
 use Rattle.class_program.specs.Views.{program_of}
 use Rattle.code_verify.specs.Typings.{typing_at}
-use Rattle.abs_expand.specs.Answers.{Answers}
-use Rattle.abs_expand.specs.declared.fault.ExpandFault.{ExpandFault}
+use Rattle.graph_check.specs.abs_expand.Answers.{Answers}
+use Rattle.graph_check.specs.abs_expand.declared.fault.ExpandFault.{ExpandFault}
 use Rattle.graph_fill.proofs.NoChildren.{them_or_none, none_bad, none_many}
 use Rattle.graph_fill.proofs.expansions.ExpansionsExpands.children.Goals as goal
 
