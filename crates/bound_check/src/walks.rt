@@ -272,7 +272,7 @@ fn most_from(most: &[u64], cuts: &[u32]) -> u64
 ///
 /// # Errors
 ///
-/// Want of memory, which also answers a graph with a cycle without a cut.
+/// Want of memory.
 #[tactic(auto, using(path_rules::proofs::Answering::inner_short, path_rules::proofs::Answering::cuts_there, path_rules::proofs::Answering::inner_falls, crate::proofs::Longest::most_steps))]
 pub(crate) fn most_steps<P: Pairs, S: NodeSource<P>>(
     alloc: Global,
@@ -281,6 +281,7 @@ pub(crate) fn most_steps<P: Pairs, S: NodeSource<P>>(
     cuts: &[u32],
 ) -> Result<u64, AllocError>
     requires cuts { All (λ cut. cut < length (S.graph source.old)) cuts.now }
+    requires cut { IsCut (S.graph source.old) cuts.now }
     requires few { length (S.graph source.old) ≤ 2 ^ 32 - 16 }
     ensures most { IfOk result (λ steps. IsMostSteps (S.graph source.old) links.now.nodes cuts.now steps) }
     ensures same { S.graph source.new ≡ S.graph source.old }
@@ -290,7 +291,7 @@ pub(crate) fn most_steps<P: Pairs, S: NodeSource<P>>(
     let marks = cut_marks(alloc, lists.len(), cuts)?;
     let inner = inner_lists(alloc, marks.as_slice(), lists.as_slice())?;
     match rank(alloc, inner.as_slice())? {
-        Ranking::Cycle(_) => Err(AllocError),
+        Ranking::Cycle(_node) => unreachable!(),
         Ranking::Ranks(ranks) => {
             let most = most(
                 alloc,

@@ -117,15 +117,12 @@ fn method_runs(
 ///
 /// # Errors
 ///
-/// Want of memory, which also answers more methods than 32 bits count.
+/// Want of memory.
 pub(crate) fn graph(alloc: Global, program: &Program<'_>) -> Result<Seq<Seq<u32>>, AllocError>
     ensures graph { IfOk result (λ graph. graph ≡ graph_of (program_of program.now)) }
     ensures few { IfOk result (λ graph. length graph + 1 < 2 ^ 32) }
 {
     let methods = program.methods.as_slice();
-    if methods.len() > 0xffff_fffe {
-        return Err(AllocError);
-    }
     let mut graph = Seq::new(alloc);
     for (number, method) in methods.iter().enumerate() {
         graph.push(method_runs(alloc, program, number as u32, method.insns.as_slice())?)?;

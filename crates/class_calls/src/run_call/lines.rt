@@ -71,11 +71,11 @@ fn reference_text(
     alloc: Global,
     world: &World<'_>,
     heap: &Heap,
-    r: u32,
+    r: usize,
 ) -> Result<Seq<u8>, AllocError>
     ensures { IfOk result (λ text. text ≡ lines.reference_text (classes_of world.now) heap.now r) }
 {
-    match heap.objects.get(r as usize) {
+    match heap.objects.get(r) {
         Some(object) => object_text(alloc, world, object),
         None => Ok(Seq::new(alloc)),
     }
@@ -119,7 +119,12 @@ fn going_line(alloc: Global, fuel: u64) -> Result<Seq<u8>, AllocError>
 }
 
 /// The line of a run that ended with a throw of this object.
-fn threw_line(alloc: Global, world: &World<'_>, heap: &Heap, r: u32) -> Result<Seq<u8>, AllocError>
+fn threw_line(
+    alloc: Global,
+    world: &World<'_>,
+    heap: &Heap,
+    r: usize,
+) -> Result<Seq<u8>, AllocError>
     ensures { IfOk result (λ line. line ≡ lines.threw_line (classes_of world.now) heap.now r) }
 {
     let name = reference_text(alloc, world, heap, r)?;
