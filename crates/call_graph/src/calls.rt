@@ -122,6 +122,7 @@ pub(crate) fn graph(alloc: Global, program: &Program<'_>) -> Result<Seq<Seq<u32>
     ensures graph { IfOk result (λ graph. graph ≡ graph_of (program_of program.now)) }
     ensures few { IfOk result (λ graph. length graph + 1 < 2 ^ 32) }
 {
+    program.is_good();
     let methods = program.methods.as_slice();
     let mut graph = Seq::new(alloc);
     for (number, method) in methods.iter().enumerate() {

@@ -27,4 +27,5 @@ returns c =
       good = good_program (program_of p) closed;
       widths = p.widths;
       params = params_few (program_of p) closed p.world.descriptors;
+      count = p.count;
     }
