@@ -1,5 +1,5 @@
 -- Methods have at most 255 parameters, as their descriptors say (JVM specification, section 4.3.3).
-use Rattle.std.proofs.Common.{◌≡◌, ℕ, ◌+◌, ◌≤◌, ◌==◌, ◌||◌, Bool, true, false, cond, List, [], ◌∷◌, length, Option, Some, sym, ◌∙◌, subst}
+use Rattle.std.proofs.Common.{◌≡◌, ℕ, ◌+◌, ◌≤◌, ◌==◌, ◌||◌, Bool, true, false, cond, List, [], ◌∷◌, length, Option, Some, sym, subst}
 use Rattle.std.proofs.Common.{arith}
 use Rattle.std.specs.List.{list_all, AllByRecursion}
 use Rattle.list_views.proofs.Quantified.{all_weaker}

@@ -1,6 +1,6 @@
 -- Tables by which a world finds members: for each class the names and descriptors of its members, whether it has a static
 -- initialiser, and how many of its first fields are part of objects.
-use Rattle.std.specs.Prelude.{◌≡◌, ℕ, ◌+◌, Bool, List, [], map, take, length, slice_get}
+use Rattle.std.specs.Prelude.{◌≡◌, ℕ, ◌+◌, List, [], map, take, length, slice_get}
 use Rattle.std.specs.List.{filter_map, IsDistinct}
 use Rattle.std.specs.Option.{option_map_or}
 use Rattle.class_read.specs.declared.view.FieldView.{FieldView}

@@ -1,4 +1,4 @@
-use Rattle.std.proofs.Common.{◌≡◌, ◌≤◌, Ok, sym, ◌∙◌, ap, length, subst}
+use Rattle.std.proofs.Common.{◌≤◌, Ok, sym, ◌∙◌, ap, length, subst}
 use Rattle.std.specs.Prelude.{map}
 use Rattle.class_world.specs.Worlds.{classes_of}
 use Rattle.class_program.specs.Programs.{ref_of, refs_of}
