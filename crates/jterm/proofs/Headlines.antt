@@ -28,7 +28,7 @@ module _ {S : Type 0} (faults : S → ℕ) (taken : S → Option (List ℕ)) (ol
   pub headline_of_throws : (c d : List ℕ) (cs : List (List ℕ)) (cert desc : List ℕ) (classes : List (List ℕ))
       → IsCommand words request names → IsAnswered (file_limits request) request names held verdict
       → IsWritten faults taken old new verdict status → IsThrows words c d cs → AreTold held (c ∷ d ∷ cs) (cert ∷ desc ∷ classes)
-      → status ≡ 0 → (lines : List ℕ) × Appends (taken old) (taken new) lines × AllEndAsSaid classes desc lines
+      → status ≡ 0 → (lines : List ℕ) × Appends (taken old) (taken new) lines × AllEndAsSaid classes desc cert lines
   headline_of_throws c d cs cert desc classes command answered written is tells none =
       let claim : HoldsClaim Throws (cert ∷ desc ∷ classes) verdict = told_claim words held request Throws names (c ∷ d ∷ cs)
       answered.contents (cert ∷ desc ∷ classes) verdict command is answered.read tells answered.claim in
@@ -40,7 +40,7 @@ module _ {S : Type 0} (faults : S → ℕ) (taken : S → Option (List ℕ)) (ol
       → IsCommand words request names → IsAnswered (file_limits request) request names held verdict
       → IsWritten faults taken old new verdict status → IsBound words b c d cs
       → AreTold held (b ∷ c ∷ d ∷ cs) (bound ∷ cert ∷ desc ∷ classes)
-      → status ≡ 0 → (lines : List ℕ) × Appends (taken old) (taken new) lines × AllEndWithin classes desc lines
+      → status ≡ 0 → (lines : List ℕ) × Appends (taken old) (taken new) lines × AllEndWithin classes desc cert bound lines
   headline_of_bound b c d cs bound cert desc classes command answered written is tells none =
       let claim : HoldsClaim Bound (bound ∷ cert ∷ desc ∷ classes) verdict = told_claim words held request Bound names (b ∷ c ∷ d ∷ cs)
       answered.contents (bound ∷ cert ∷ desc ∷ classes) verdict command is answered.read tells answered.claim in

@@ -170,19 +170,19 @@ pub fn jterm<F: Files, O: Sink, E: Sink>(
     ensures headline_of_generate { (n : ℕ) (class : List ℕ) → IsCommand (map string_bytes words.now) (Generate n) [] → IsClass n class
         → Begins (yes_begin n) O.taken out.old out.new → AllEnd (class ∷ []) description }
 
-    // Where the status is 0 for a certificate whose runs' ends are asked for, every state that the description fits
-    // has a run that ends in a way that the lines say which were put.
+    // Where the status is 0 for a certificate whose runs' ends are asked for, the lines which were put are those of the
+    // report of its graph, and every state that the description fits has a run that ends in a way that they say.
     ensures headline_of_throws { (c d : List ℕ) (cs : List (List ℕ)) (cert desc : List ℕ) (classes : List (List ℕ))
         → IsThrows (map string_bytes words.now) c d cs → AreTold (F.held files.old) (c ∷ d ∷ cs) (cert ∷ desc ∷ classes)
         → result.status ≡ 0
-        → (lines : List ℕ) × Appends (O.taken out.old) (O.taken out.new) lines × AllEndAsSaid classes desc lines }
+        → (lines : List ℕ) × Appends (O.taken out.old) (O.taken out.new) lines × AllEndAsSaid classes desc cert lines }
 
-    // Where the status is 0 for a bound, every state that the description fits has a run that ends after at most the
-    // value of the bound that the lines say which were put.
+    // Where the status is 0 for a bound, the lines which were put are those of the bound that its bytes give for the
+    // certificate, and every state that the description fits has a run that ends after at most the bound's value.
     ensures headline_of_bound { (b c d : List ℕ) (cs : List (List ℕ)) (bound cert desc : List ℕ) (classes : List (List ℕ))
         → IsBound (map string_bytes words.now) b c d cs → AreTold (F.held files.old) (b ∷ c ∷ d ∷ cs) (bound ∷ cert ∷ desc ∷ classes)
         → result.status ≡ 0
-        → (lines : List ℕ) × Appends (O.taken out.old) (O.taken out.new) lines × AllEndWithin classes desc lines }
+        → (lines : List ℕ) × Appends (O.taken out.old) (O.taken out.new) lines × AllEndWithin classes desc cert bound lines }
 
     // Where NO is claimed, every state that the description fits goes on for ever, and the given state is one.
     ensures headline_of_loop { (c s d : List ℕ) (cs : List (List ℕ)) (cert state desc : List ℕ) (classes : List (List ℕ))

@@ -7,7 +7,10 @@ use Rattle.std.proofs.lemmas.List.Folds.{list_all-append}
 use Rattle.survey.specs.declared.survey_notes.touching.Touched.{Touched}
 use Rattle.survey.specs.Claims.{Surveyed, IsProved, IsTrueLine, AreTrue}
 use Rattle.list_views.specs.FaultWords.{joined}
-use Rattle.survey.specs.Lines.{yes_line, words_text, given_text, errors_text, exceptions_text, constants_text, is_name_byte, is_plain, printed, ended, text_of}
+use Rattle.list_views.specs.Shown.{is_hidden, has_no_hidden_byte, method_text, shown}
+use Rattle.list_views.proofs.ReadBack.{names_plain}
+use Rattle.std.proofs.lemmas.Bool.{eqb-true}
+use Rattle.survey.specs.Lines.{yes_line, words_text, given_text, errors_text, exceptions_text, constants_text, printed, ended, text_of}
 use Rattle.survey.specs.inner.Wording.{head_text, other_line, GrowsTrue}
 use Rattle.survey.specs.declared.lines.Head.{Head}
 use Rattle.survey.specs.declared.lines.Head.TheVariants.{Maybe, Refused, LeftOut, Count, Why}
@@ -107,18 +110,26 @@ grown_true text grows s = grows s (nothing_true s)
 
 -- ---- lines that begin with YES
 
-name_stays : (name : List ℕ) → is_plain name ≡ true → list_all stays name ≡ true
-name_stays [] e = refl
-name_stays (b ∷ name) e =
-    let both = both_true_bits (is_name_byte b) (is_plain name) e in
-    ap (λ t. t && list_all stays name) (byte both.0) ∙ name_stays name both.1
+-- a byte that isn't hidden ends no line
+byte_stays : (b : ℕ) → not (is_hidden b) ≡ true → stays b ≡ true
+byte_stays b f = go (b == 10) refl
   where
-    byte : is_name_byte b ≡ true → stays b ≡ true
-    byte f = go (b == 10) refl
-      where
-        go : (ten : Bool) → (b == 10) ≡ ten → not ten ≡ true
-        go false g = refl
-        go true g = grind arith
+    go : (ten : Bool) → (b == 10) ≡ ten → not ten ≡ true
+    go false g = refl
+    go true g = sym (ap (λ (x : ℕ). not (is_hidden x)) (eqb-true b 10 g)) ∙ f
+
+plain_stays : (text : List ℕ) → has_no_hidden_byte text ≡ true → list_all stays text ≡ true
+plain_stays [] e = refl
+plain_stays (b ∷ text) e =
+    let both = both_true_bits (not (is_hidden b)) (has_no_hidden_byte text) e in
+    ap (λ t. t && list_all stays text) (byte_stays b both.0) ∙ plain_stays text both.1
+
+name_stays : (name : List ℕ) → list_all stays (shown name) ≡ true
+name_stays name = plain_stays (shown name) (names_plain name)
+
+method_stays : (class name desc : List ℕ) → list_all stays (method_text class name desc) ≡ true
+method_stays class name desc = all_stay (shown class ∷ codes "." ∷ shown name ∷ shown desc ∷ [])
+    (name_stays class, (refl, (name_stays name, (name_stays desc, tt))))
 
 given_stays : (given : Bool) → list_all stays (given_text given) ≡ true
 given_stays true = refl
@@ -146,28 +157,24 @@ constants_stay touched = go touched.constants
     go false = refl
 
 module _ (s : Surveyed) (class name desc : List ℕ) (given : Bool) (touched : Touched) where
-  yes_stays : is_plain class ≡ true → is_plain name ≡ true → is_plain desc ≡ true
-      → list_all stays (yes_line class name desc given touched) ≡ true
-  yes_stays c n d = both_stay (joined (codes "YES " ∷ class ∷ codes "." ∷ name ∷ desc ∷ [])) (words_text given touched)
-      (all_stay (codes "YES " ∷ class ∷ codes "." ∷ name ∷ desc ∷ [])
-      (refl, (name_stays class c, (refl, (name_stays name n, (name_stays desc d, tt))))))
+  yes_stays : list_all stays (yes_line class name desc given touched) ≡ true
+  yes_stays = both_stay (joined (codes "YES " ∷ method_text class name desc ∷ [])) (words_text given touched)
+      (all_stay (codes "YES " ∷ method_text class name desc ∷ []) (refl, (method_stays class name desc, tt)))
       (both_stay ((given_text given ++ errors_text touched) ++ exceptions_text touched) (constants_text touched)
       (both_stay (given_text given ++ errors_text touched) (exceptions_text touched)
       (both_stay (given_text given) (errors_text touched) (given_stays given) (errors_stay touched)) (exceptions_stay touched))
       (constants_stay touched))
 
-  pub yes_true : is_plain class ≡ true → is_plain name ≡ true → is_plain desc ≡ true → IsProved s given class name desc
-      → IsTrueLine s (yes_line class name desc given touched)
-  yes_true c n d proved = record {
-    one = yes_stays c n d;
+  pub yes_true : IsProved s given class name desc → IsTrueLine s (yes_line class name desc given touched)
+  yes_true proved = record {
+    one = yes_stays;
     holds = λ begins. record
-        { class = class; name = name; desc = desc; given = given; touched = touched; is = refl; plain = (c, (n, d)); proved = proved };
+        { class = class; name = name; desc = desc; given = given; touched = touched; is = refl; proved = proved };
   }
 
 -- the lines of a method whose every run ends
-pub yes_lined : (class name desc line text : List ℕ) (given : Bool) (touched : Touched) → is_plain class ≡ true → is_plain name ≡ true
-    → is_plain desc ≡ true → line ≡ yes_line class name desc given touched
+pub yes_lined : (class name desc line text : List ℕ) (given : Bool) (touched : Touched) → line ≡ yes_line class name desc given touched
     → ((s : Surveyed) → IsTrueLine s line → AreTrue s [] → AreTrue s text)
     → (s : Surveyed) → IsProved s given class name desc → AreTrue s text
-yes_lined class name desc line text given touched c n d e grows s proved =
-    grows s (subst (IsTrueLine s) (sym e) (yes_true s class name desc given touched c n d proved)) (nothing_true s)
+yes_lined class name desc line text given touched e grows s proved =
+    grows s (subst (IsTrueLine s) (sym e) (yes_true s class name desc given touched proved)) (nothing_true s)

@@ -12,7 +12,7 @@ use Rattle.input_steps.specs.Classes.{AllSpell, IsWorldOf}
 use Rattle.prove_call.specs.DescStepsHeadline.{AllEnd}
 use Rattle.class_calls.specs.describe.Calls.{DescribesEntry}
 use Rattle.survey.specs.declared.survey_notes.touching.Touched.{Touched}
-use Rattle.survey.specs.Lines.{yes_line, is_plain, text_of}
+use Rattle.survey.specs.Lines.{yes_line, text_of}
 
 -- What is surveyed: the bytes of the class files, and those of the descriptions that were handed in.
 pub record Surveyed : Type 0 where
@@ -60,8 +60,8 @@ pub record IsProved (s : Surveyed) (given : Bool) (class name desc : List ℕ) :
 
 -- ---- lines
 
--- What a line that begins with `YES` says is true: it names a method, says under which description, and the method is
--- proved under that. None of the names has a blank, so that the words behind them are no part of one.
+-- What a line that begins with `YES` says is true: it names a method, by names as lines show them, says under which description, and the
+-- method is proved under that.
 pub record HoldsYes (s : Surveyed) (line : List ℕ) : Type 0 where
   pub class : List ℕ
   pub name : List ℕ
@@ -69,7 +69,6 @@ pub record HoldsYes (s : Surveyed) (line : List ℕ) : Type 0 where
   pub given : Bool
   pub touched : Touched
   pub is : line ≡ yes_line class name desc given touched
-  pub plain : IsTrue (is_plain class) × (IsTrue (is_plain name) × IsTrue (is_plain desc))
   pub proved : IsProved s given class name desc
 
 -- a line begins with `YES`

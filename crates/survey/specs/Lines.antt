@@ -1,7 +1,8 @@
 -- The lines of a survey, as they are written.
-use Rattle.std.specs.Prelude.{ℕ, ◌==◌, ◌||◌, ◌&&◌, not, Bool, List, [], ◌∷◌, ◌++◌, nat_lt, codes, if◌then◌else◌}
-use Rattle.std.specs.List.{list_all, flat_map}
+use Rattle.std.specs.Prelude.{ℕ, ◌==◌, ◌||◌, Bool, List, [], ◌∷◌, ◌++◌, nat_lt, codes, if◌then◌else◌}
+use Rattle.std.specs.List.{flat_map}
 use Rattle.list_views.specs.FaultWords.{joined}
+use Rattle.list_views.specs.Shown.{method_text}
 use Rattle.survey.specs.declared.survey_notes.touching.Touched.{Touched}
 
 -- ---- where every run ends
@@ -29,17 +30,10 @@ constants_text touched = if touched.constants then codes " constant-value" else 
 abbrev pub words_text : Bool → Touched → List ℕ
 words_text given touched = ((given_text given ++ errors_text touched) ++ exceptions_text touched) ++ constants_text touched
 
--- the line of a proved method: `YES CLASS.NAMEDESC`, and its words
+-- the line of a proved method: `YES CLASS.NAMEDESC`, by its names as lines show them, and its words. No blank is part of a name as it is
+-- shown, so the words behind the names are no part of one
 abbrev pub yes_line : List ℕ → List ℕ → List ℕ → Bool → Touched → List ℕ
-yes_line class name desc given touched = joined (codes "YES " ∷ class ∷ codes "." ∷ name ∷ desc ∷ []) ++ words_text given touched
-
--- A name stands in such a line as it is, so none of its bytes ends or divides the line: it has no blank and no control character.
-abbrev pub is_name_byte : ℕ → Bool
-is_name_byte b = nat_lt 32 b && not (b == 127)
-
--- a name stands in a line as it is: none of its bytes is a blank or a control character
-abbrev pub is_plain : List ℕ → Bool
-is_plain name = list_all is_name_byte name
+yes_line class name desc given touched = joined (codes "YES " ∷ method_text class name desc ∷ []) ++ words_text given touched
 
 -- ---- every other line
 

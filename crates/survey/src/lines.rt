@@ -1,12 +1,13 @@
 //! Lines, as they are written.
 ghost use Rattle.std.specs.Prelude.{◌≡◌, ◌++◌, map, codes, IfOk, OnOk};
 ghost use Rattle.survey.specs.Lines.{given_text, errors_text, exceptions_text, constants_text, words_text};
-ghost use Rattle.survey.specs.Lines.{is_name_byte, is_plain, printed, yes_line};
+ghost use Rattle.survey.specs.Lines.{printed, yes_line};
 ghost use Rattle.survey.specs.inner.Wording.{head_text, other_line};
 
 use crate::survey_notes::Touched;
 use list_views::Seq;
 use list_views::fault_words::joined;
+use list_views::shown::method_text as shown_method;
 use std::alloc::{AllocError, Global};
 
 /// What a line begins with that claims nothing.
@@ -62,19 +63,6 @@ pub(crate) fn other_line(alloc: Global, head: Head, rest: &[u8]) -> Result<Seq<u
     let mut line = Seq::from_slice(alloc, head_text(head))?;
     put_printed(&mut line, rest)?;
     Ok(line)
-}
-
-fn is_name_byte(byte: u8) -> bool
-    ensures { result ≡ is_name_byte byte }
-{
-    32 < byte && byte != 127
-}
-
-/// Whether a name can stand in a line that begins with YES.
-pub(crate) fn is_plain(name: &[u8]) -> bool
-    ensures { result ≡ is_plain name.now }
-{
-    name.iter().all(|byte| is_name_byte(*byte))
 }
 
 fn given_text(given: bool) -> &'static [u8]
@@ -145,15 +133,13 @@ pub(crate) fn yes_line(
     ensures { IfOk result (λ line. line ≡ yes_line method.now.class.now method.now.name.now method.now.desc.now given touched) }
 {
     let words = words_text(alloc, given, touched)?;
-    let mut line = joined(
-        alloc,
-        &[b"YES ", method.class, b".", method.name, method.desc],
-    )?;
+    let names = shown_method(alloc, method.class, method.name, method.desc)?;
+    let mut line = joined(alloc, &[b"YES ", names.as_slice()])?;
     line.extend_from_slice(words.as_slice())?;
     Ok(line)
 }
 
-/// A method as `CLASS.NAMEDESC`.
+/// A method as `CLASS.NAMEDESC`, by its names as lines show them.
 pub(crate) fn method_text(alloc: Global, method: &MethodWords<'_>) -> Result<Seq<u8>, AllocError> {
-    joined(alloc, &[method.class, b".", method.name, method.desc])
+    shown_method(alloc, method.class, method.name, method.desc)
 }

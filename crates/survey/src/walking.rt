@@ -9,7 +9,7 @@ ghost use Rattle.survey.specs.inner.Wording.{surveyed, IsJudged};
 
 use crate::failure::Stop;
 use crate::judging::{Judged, Scope, behind_method, judge};
-use crate::lines::{Head, MethodWords, is_plain, method_text, yes_line};
+use crate::lines::{Head, MethodWords, method_text, yes_line};
 use crate::putting::{add_line, add_other, put_text};
 use crate::survey_notes::{Touched, put_fault_place, put_refusal, refusal_advice};
 use class_read::{ClassView, MethodView};
@@ -97,31 +97,11 @@ fn yes_lines(
     ensures { IfOk result (λ lines. (s : Surveyed) → IsProved s given method.now.class.now method.now.name.now method.now.desc.now
         → AreTrue s lines.text) }
 {
-    if is_plain(method.class) && is_plain(method.name) && is_plain(method.desc) {
-        let line = yes_line(alloc, method, given, touched)?;
-        let mut text = Seq::new(alloc);
-        add_line(&mut text, line.as_slice())?;
-        Ok(MethodLines {
-            sort: Sort::Yes,
-            text,
-        })
-    } else {
-        unprintable(alloc, method)
-    }
-}
-
-/// The lines of a method with a name that can't stand in a line as it is.
-#[tactic(auto, using(crate::proofs::Truths::nothing_true))]
-fn unprintable(alloc: Global, method: &MethodWords<'_>) -> Result<MethodLines, AllocError>
-    ensures text { IfOk result (λ lines. (s : Surveyed) → AreTrue s lines.text) }
-    ensures sort { IfOk result (λ lines. lines.sort ≡ Sort.Refused) }
-{
-    let mut rest = method_text(alloc, method)?;
-    rest.extend_from_slice(b" name: Unprintable")?;
+    let line = yes_line(alloc, method, given, touched)?;
     let mut text = Seq::new(alloc);
-    add_other(alloc, &mut text, Head::Refused, rest.as_slice())?;
+    add_line(&mut text, line.as_slice())?;
     Ok(MethodLines {
-        sort: Sort::Refused,
+        sort: Sort::Yes,
         text,
     })
 }
