@@ -48,6 +48,19 @@ pub printed_end : (line whole bytes : List ℕ) (i : ℕ) → length bytes ≤ i
 printed_end line whole bytes i l so_far =
     sym (append-nil line) ∙ (ap (λ bs. line ++ map printed bs) (sym (at_drop_all (λ (bs : List ℕ). bs) bytes i l)) ∙ so_far)
 
+-- ---- items of a list, each seen through a function
+
+pub mapped_more : (f : ℕ → ℕ) (line new whole bytes : List ℕ) (i b : ℕ) → i < length bytes → b ≡ get_or bytes i b → new ≡ line ++ f b ∷ []
+    → line ++ map f (drop i bytes) ≡ whole → new ++ map f (drop (i + 1) bytes) ≡ whole
+mapped_more f line new whole bytes i b l e push so_far =
+    let here : drop i bytes ≡ b ∷ drop (i + 1) bytes = drop_more bytes i b l ∙ ap (λ y. y ∷ drop (i + 1) bytes) (sym e) in
+    let rest = map f (drop (i + 1) bytes) in
+    ap (λ t. t ++ rest) push ∙ (append_assoc line (f b ∷ []) rest ∙ (ap (λ bs. line ++ map f bs) (sym here) ∙ so_far))
+
+pub mapped_end : (f : ℕ → ℕ) (line whole bytes : List ℕ) (i : ℕ) → length bytes ≤ i → line ++ map f (drop i bytes) ≡ whole → line ≡ whole
+mapped_end f line whole bytes i l so_far =
+    sym (append-nil line) ∙ (ap (λ bs. line ++ map f bs) (sym (at_drop_all (λ (bs : List ℕ). bs) bytes i l)) ∙ so_far)
+
 -- ---- names of descriptions
 
 pub descs_more : {A : Type 0} (f : A → List ℕ) (items new : List A) (x : A) (rest behind whole : List (List ℕ)) → new ≡ items ++ x ∷ []
