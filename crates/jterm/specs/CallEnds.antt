@@ -62,7 +62,8 @@ pub record CallEnds {F O E : Type 0} (ports : Ports F O E) (words : List (List �
       × WereHanded ports.held ports.handed files.old files.new (d ∷ cs) (desc ∷ classes)
       × (cert : List ℕ) × (length cert ≤ most_certificate_bytes) × IsAnswer Check (cert ∷ desc ∷ classes) (Ok accepted)
       × Appends (ports.out_taken out.old) (ports.out_taken out.new) (yes_text cert)
-  -- A verdict is the answer for the contents that the files handed over, and what it claims is true of these. Its output is written, or writing failed.
+  -- A verdict is the answer for the contents that the files handed over, and what it claims is true of these. Its output is written, or
+  -- writing failed.
   pub verdict : IfSome result.verdict (λ v. Decided words (ports.held files.old) (handed_between ports files) (Ok v))
   pub written : IfSome result.verdict (λ v. IsWritten ports.out_faults ports.out_taken out.old out.new v result.status)
   pub silent : IfNone result.verdict (IsWithoutVerdict result.status × (out.new ≡ out.old))

@@ -2,6 +2,7 @@
 use Rattle.std.proofs.Common.{◌≡◌, ◌∙◌, ◌⊎◌, ◌+◌, ◌≤◌, ◌<◌, ℕ, zero, suc, not, Bool, true, false, List, [], ◌∷◌, ◌++◌, Option}
 use Rattle.std.proofs.Common.{Some, Ok, Err, length, map, take, get_or, slice_get, refl, sym, ap, subst, inl, inr, arith}
 use Rattle.std.proofs.Common.{add-one}
+use Rattle.std.specs.Prelude.{Contains}
 use Rattle.std.proofs.Common.{append_assoc, append-nil, cond, codes}
 use Rattle.std.specs.Global.{Vec}
 use Rattle.std.proofs.lemmas.List.{length-map, take_all, length-append, map-append}
@@ -20,7 +21,7 @@ use Rattle.io_ports.specs.Handed.{reads_of}
 use Rattle.io_ports.specs.Told.{Told, IsContent}
 use Rattle.io_ports.specs.declared.files.FileFault.{FileFault}
 use Rattle.io_ports.specs.declared.files.FileFault.TheVariants as fails
-use Rattle.survey.specs.Claims.{Surveyed, Among, Contains, NamesOther, IsUsed}
+use Rattle.survey.specs.Claims.{Surveyed, Among, NamesOther, IsUsed}
 use Rattle.survey.specs.Fates.{AreAll}
 use Rattle.survey.specs.Outside.{FilesSeen, IsUnreadFor, SaysUseless}
 use Rattle.survey.specs.inner.Keeping.{DescRead, DescsRead, StoppedReading, StoppedReadingAt, IsUnreadAt}
@@ -129,15 +130,14 @@ stopped_at f files words k word name old mid new Memory less is named held count
 
 -- ---- which are of use
 
-contains_at : {A B : Type 0} (f : A → B) (xs : List A) (i : ℕ) (x : A) → i < length xs → x ≡ get_or xs i x → Contains (f x) (map f xs)
+contains_at : {A B : Type 0} (f : A → B) (xs : List A) (i : ℕ) (x : A) → i < length xs → x ≡ get_or xs i x → Contains (map f xs) (f x)
 contains_at f [] i x l e = absurd (omega (arith, l))
-contains_at f (y ∷ xs) zero x l e = inl (ap f (sym e))
-contains_at f (y ∷ xs) (suc i) x l e = inr (contains_at f xs i x (omega (arith, l)) e)
+contains_at f (y ∷ xs) zero x l e = (0, omega arith, ap f (sym e))
+contains_at f (y ∷ xs) (suc i) x l e =
+    let rest = contains_at f xs i x (omega (arith, l)) e in let less = rest.1 in (suc rest.0, omega (arith, less), rest.2)
 
-contains_same : {A : Type 0} (xs : List A) (i : ℕ) (x : A) → i < length xs → x ≡ get_or xs i x → Contains x xs
-contains_same [] i x l e = absurd (omega (arith, l))
-contains_same (y ∷ xs) zero x l e = inl (sym e)
-contains_same (y ∷ xs) (suc i) x l e = inr (contains_same xs i x (omega (arith, l)) e)
+contains_same : {A : Type 0} (xs : List A) (i : ℕ) (x : A) → i < length xs → x ≡ get_or xs i x → Contains xs x
+contains_same xs i x l e = (i, l, sym e)
 
 pub named_at : {A : Type 0} (f : A → MethodContent) (said : DescText) (class : List ℕ) (methods : List A) (i : ℕ) (m : A)
     → i < length methods → m ≡ get_or methods i m → NamesIn said class (f m) → NamesOne said class (map f methods)

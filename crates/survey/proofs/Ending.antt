@@ -1,8 +1,8 @@
 -- How a survey ends.
 use Rattle.std.proofs.Common.{◌≡◌, ◌∙◌, ◌⊎◌, ◌+◌, ◌-◌, ◌≤◌, ℕ, Bool, true, false, List, [], ◌∷◌, ◌++◌, Option, length, map, refl}
 use Rattle.std.proofs.Common.{sym, ap, subst, inl, inr, arith, cond, ◌&&◌, ◌==◌, nat_lt}
-use Rattle.std.proofs.Common.{append_assoc, append-nil, Ok, Err, IfOk, IfErr}
-use Rattle.std.specs.Prelude.{Result}
+use Rattle.std.proofs.Common.{append_assoc, append-nil, Ok, Err, IfOk}
+use Rattle.std.specs.Prelude.{Result, IfErr}
 use Rattle.std.specs.Global.{Vec}
 use Rattle.std.specs.Io.KnownBytes.{Appends}
 use Rattle.std.proofs.KnownBytes.{Appends-nil, Appends-trans}
@@ -143,6 +143,24 @@ module _ {F S : Type 0} (files : FilesSeen F) (taken : S → Option (List ℕ)) 
           (all_as IsOther (IsTrueLine told) y.lines (others_true told) y.each))
           (subst (AllByRecursion (IsTrueLine told)) z.are.are z.each)
 
+  -- so it does with slices of the lists
+  pub runs_so : (many refused status : ℕ) (counts : FileCounts) (a b c d : S) (used : List (Vec ℕ)) (named : List (List ℕ))
+      → many ≡ length names → used ≡ kept_new.files.items → named ≡ descs → refused ≡ many - length kept_old.files.items
+      → counts.files ≡ length kept_new.files.items
+      → counts.left_out ≡ (many - refused) - length kept_new.files.items → counts.refused ≡ refused
+      → Went taken faults IsOther (HaveRead files names kept_old files_old files_new) a b
+      → Went taken faults IsOther (Leaves kept_old kept_new) b c
+      → Went taken faults (IsTrueLine (surveyed used given)) (IsTail (surveyed used given) named counts status) c d
+      → HasRun files taken faults names descs contents files_old files_new a d status
+  runs_so many refused status counts a b c d used named same is_used is_named few own left none first second third =
+      let whole : Went taken faults (IsTrueLine told) (IsTail told named counts status) c d = subst
+      (λ (u : List (Vec ℕ)). Went taken faults (IsTrueLine (surveyed u given)) (IsTail (surveyed u given) named counts status) c d)
+      is_used third in
+      let last : Went taken faults (IsTrueLine told) (IsTail told descs counts status) c d = subst
+      (λ (n : List (List ℕ)). Went taken faults (IsTrueLine told) (IsTail told n counts status) c d) is_named whole in
+      runs refused status counts a b c d (few ∙ ap (λ (n : ℕ). n - length kept_old.files.items) same) own
+      (left ∙ ap (λ (n : ℕ). (n - refused) - length kept_new.files.items) same) none first second last
+
   -- it stopped behind the class files
   pub breaks : (a b c d : S) (stop : Stop) → Went taken faults IsOther (HaveRead files names kept_old files_old files_new) a b
       → Went taken faults IsOther (Leaves kept_old kept_new) b c → Cut taken faults (IsTrueLine told) c d stop
@@ -156,6 +174,14 @@ module _ {F S : Type 0} (files : FilesSeen F) (taken : S → Option (List ℕ)) 
         (cut_on taken faults (IsTrueLine told) (Leaves kept_old kept_new) b c d stop
         (went_true taken faults told (Leaves kept_old kept_new) b c second) third);
   }
+
+  pub breaks_so : (a b c d : S) (stop : Stop) (used : List (Vec ℕ)) → used ≡ kept_new.files.items
+      → Went taken faults IsOther (HaveRead files names kept_old files_old files_new) a b
+      → Went taken faults IsOther (Leaves kept_old kept_new) b c → Cut taken faults (IsTrueLine (surveyed used given)) c d stop
+      → HasBroken files taken faults names contents files_old files_new a d stop
+  breaks_so a b c d stop used is_used first second third =
+      breaks a b c d stop first second
+      (subst (λ (u : List (Vec ℕ)). Cut taken faults (IsTrueLine (surveyed u given)) c d stop) is_used third)
 
 -- it stopped before anything was surveyed
 pub breaks_early : {F S : Type 0} (files : FilesSeen F) (taken : S → Option (List ℕ)) (faults : S → ℕ) (names contents : List (List ℕ))
@@ -270,6 +296,25 @@ module _ {F S : Type 0} (files : FilesSeen F) (taken : S → Option (List ℕ)) 
       were (inl none) = inl none
       were (inr done) = inr (all_read files names descs contents broken.fates broken.s old mid new held before read done)
 
+  -- so it is with slices of the lists
+  pub ends_so : (status : ℕ) (old mid new : F) (a b : S) (named given : List (List ℕ)) → named ≡ descs → given ≡ contents
+      → files.held mid ≡ files.held old → files.faults old ≤ files.faults mid
+      → DescsRead files named contents old mid → HasRun files taken faults names descs given mid new a b status
+      → HasSurveyed files taken faults names descs old new a b status
+  ends_so status old mid new a b named given is_named is_given held before read run =
+      ends status old mid new a b held before
+      (subst (λ (n : List (List ℕ)). DescsRead files n contents old mid) is_named read)
+      (subst (λ (c : List (List ℕ)). HasRun files taken faults names descs c mid new a b status) is_given run)
+
+  pub stops_so : (stop : Stop) (old mid new : F) (a b : S) (named given : List (List ℕ)) → named ≡ descs → given ≡ contents
+      → files.held mid ≡ files.held old → files.faults old ≤ files.faults mid
+      → DescsRead files named contents old mid → HasBroken files taken faults names given mid new a b stop
+      → HasSurveyed files taken faults names descs old new a b (stop_status stop)
+  stops_so stop old mid new a b named given is_named is_given held before read broken =
+      stops stop old mid new a b held before
+      (subst (λ (n : List (List ℕ)). DescsRead files n contents old mid) is_named read)
+      (subst (λ (c : List (List ℕ)). HasBroken files taken faults names c mid new a b stop) is_given broken)
+
   -- memory is wanting before anything is done
   pub no_room : (old new : F) (a : S) → HasSurveyed files taken faults names descs old new a a 7
   no_room old new a = record {
@@ -298,6 +343,11 @@ module _ {F S : Type 0} (files : FilesSeen F) (taken : S → Option (List ℕ)) 
   }
   unread Write old new a stopped = absurd stopped
   unread Memory old new a stopped = no_room old new a
+
+  pub unread_so : (stop : Stop) (old new : F) (a : S) (named : List (List ℕ)) → named ≡ descs
+      → StoppedReading files named old new stop → HasSurveyed files taken faults names descs old new a a (stop_status stop)
+  unread_so stop old new a named is_named stopped =
+      unread stop old new a (subst (λ (n : List (List ℕ)). StoppedReading files n old new stop) is_named stopped)
 
   -- ---- with the words
 

@@ -16,7 +16,8 @@ use Rattle.io_ports.specs.FileFault.{fault_name}
 use Rattle.io_ports.specs.Told.{Told, IsContent, IsPastLimit, IsNotHeld}
 use Rattle.io_ports.specs.declared.files.FileFault.{FileFault}
 use Rattle.io_ports.specs.declared.files.FileFault.TheVariants as causes
-use Rattle.survey.specs.Fates.{Fate, kept_of, left_count, refused_count, reads_among, IsFate, AreFates, IsSaid, AreSaid}
+use Rattle.survey.specs.Fates.{Fate, kept_of, left_count, refused_count, reads_among, SpellsClass, IsFate, AreFates, IsSaid}
+use Rattle.survey.specs.Fates.{AreSaid}
 use Rattle.survey.specs.Fates.Fate as became
 use Rattle.survey.specs.Outside.{FilesSeen}
 use Rattle.survey.specs.inner.Keeping.{kept_names, contents_of, names_of, AreKept, HaveRead, HasRead, IsReadAs, IsTested, IsSettled}
@@ -49,13 +50,17 @@ no_class bytes (classes.ExtraCode at) other only class spelled = let e = only cl
 no_class bytes (classes.TrailingBytes at) other only class spelled = let e = only class spelled in cc
 no_class bytes classes.Memory other only class spelled = other refl
 
+-- a content that is read spells one
+pub a_class : (bytes : List ℕ) (class : ClassContent) → Spells bytes class → SpellsClass bytes
+a_class bytes class spelled = (class, spelled)
+
 -- a content that was read and tested
 pub read_as : {F : Type 0} (files : FilesSeen F) (name : List ℕ) (old new : F) (bytes : List ℕ) (read : Read)
     → files.handed new ≡ files.handed old ++ (name, bytes) ∷ [] → IsContent (files.held old name) bytes → IsTested bytes read
     → IsReadAs files name old new read
 read_as files name old new bytes (Content content) handed is tested = (
-  subst (λ (b : List ℕ). files.handed new ≡ files.handed old ++ (name, b) ∷ []) (sym tested) handed,
-  subst (IsContent (files.held old name)) (sym tested) is,
+  subst (λ (b : List ℕ). files.handed new ≡ files.handed old ++ (name, b) ∷ []) (sym tested.0) handed,
+  (subst (IsContent (files.held old name)) (sym tested.0) is, subst SpellsClass (sym tested.0) tested.1),
 )
 read_as files name old new bytes (NoClass content words) handed is tested = (
   subst (λ (b : List ℕ). files.handed new ≡ files.handed old ++ (name, b) ∷ []) (sym tested.0) handed,

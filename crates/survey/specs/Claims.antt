@@ -1,6 +1,6 @@
 -- What the lines of a survey say that begin with `YES`.
 use Rattle.std.specs.Prelude.{◌≡◌, ◌≢◌, ◌⊎◌, ◌==◌, ◌<◌, ℕ, Bool, true, false, not, List, [], ◌∷◌, ◌++◌, slice_get, Some, Ok, Err}
-use Rattle.std.specs.Prelude.{IsTrue, is_some, codes, ⊤}
+use Rattle.std.specs.Prelude.{IsTrue, is_some, codes, ⊤, Contains}
 use Rattle.std.specs.List.{list_all, AllByRecursion}
 use Rattle.class_read.specs.Content.{ClassContent, MethodContent}
 use Rattle.class_world.specs.declared.world.MethodRef.{MethodRef}
@@ -35,10 +35,6 @@ nothing = record { files = []; descs = [] }
 abbrev pub Among : {A : Type 0} → (A → Type 0) → List A → Type 0
 Among P [] = ⊥
 Among P (x ∷ xs) = P x ⊎ Among P xs
-
--- it stands in a list
-abbrev pub Contains : {A : Type 0} → A → List A → Type 0
-Contains x xs = Among (λ y. y ≡ x) xs
 
 -- ---- a method is proved
 
@@ -79,9 +75,9 @@ pub record IsUsed (s : Surveyed) (place : ℕ) (text : List ℕ) : Type 0 where
   pub classes : List ClassContent
   pub spelled : AllSpell s.files classes
   pub class : ClassContent
-  pub among : Contains class classes
+  pub among : Contains classes class
   pub method : MethodContent
-  pub declared : Contains method class.methods
+  pub declared : Contains class.methods method
   pub code : IsTrue (is_some method.code)
   pub names : (said.entry.class ≡ class.name) × ((said.entry.method ≡ method.name) × (said.entry.desc ≡ method.desc))
   pub first : (earlier : ℕ) (other : List ℕ) → earlier < place → slice_get s.descs earlier ≡ Some other → NamesOther other said.entry

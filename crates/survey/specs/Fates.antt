@@ -55,16 +55,20 @@ reads_among (name ∷ names) (NoClass content ∷ fates) = (name, content) ∷ r
 reads_among (name ∷ names) (LeftOut content ∷ fates) = (name, content) ∷ reads_among names fates
 reads_among (name ∷ names) (Kept content ∷ fates) = (name, content) ∷ reads_among names fates
 
+-- these bytes spell a class
+abbrev pub SpellsClass : List ℕ → Type 0
+SpellsClass content = (class : ClassContent) × Spells content class
+
 -- A file has this fate: the bytes are its content, where one is told; it wasn't read, since the count of the files' faults rose
--- (`Fails`), it is longer than 1 MiB, or none is held; no class is spelled so.
+-- (`Fails`), it is longer than 1 MiB, or none is held; no class is spelled so. What is left out or surveyed spells one.
 abbrev pub IsFate : Type 0 → Told → Fate → Type 0
 IsFate Fails told (Unread Failed) = Fails
 IsFate Fails told (Unread TooLong) = IsPastLimit told most_file_bytes
 IsFate Fails told (Unread Missing) = IsNotHeld told
 IsFate Fails told (Unread Memory) = ⊥
 IsFate Fails told (NoClass content) = IsContent told content × ((class : ClassContent) → Spells content class → ⊥)
-IsFate Fails told (LeftOut content) = IsContent told content
-IsFate Fails told (Kept content) = IsContent told content
+IsFate Fails told (LeftOut content) = IsContent told content × SpellsClass content
+IsFate Fails told (Kept content) = IsContent told content × SpellsClass content
 
 -- the files of these names have these fates
 abbrev pub AreFates : Type 0 → (List ℕ → Told) → List (List ℕ) → List Fate → Type 0

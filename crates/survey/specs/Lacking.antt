@@ -43,11 +43,15 @@ abbrev pub ResultHasOne : World → Option Slot → Type 0
 ResultHasOne world None = ⊤
 ResultHasOne world (Some slot) = SlotHasOne world slot
 
--- those of a call: the class that the instruction names, the parameters and the result
-pub record CallHasOnes (world : World) (call : Call) : Type 0 where
-  pub class : HasOne world call.class
+-- those of a call: the parameters and the result
+pub record PassedHaveOnes (world : World) (call : Call) : Type 0 where
   pub params : AllByRecursion (SlotHasOne world) call.params
   pub result : ResultHasOne world call.result
+
+-- those of a call on an object: the class that the instruction names too
+pub record CallHasOnes (world : World) (call : Call) : Type 0 where
+  pub class : HasOne world call.class
+  pub passed : PassedHaveOnes world call
 
 -- those of an instance field: the class that the instruction names, and what the field holds
 pub record FieldHasOnes (world : World) (field : FieldUse) : Type 0 where
@@ -60,7 +64,7 @@ OpHasOnes world (Getfield field) = FieldHasOnes world field
 OpHasOnes world (Putfield field) = FieldHasOnes world field
 OpHasOnes world (Invokevirtual call) = CallHasOnes world call
 OpHasOnes world (Invokespecial call) = CallHasOnes world call
-OpHasOnes world (Invokestatic call) = CallHasOnes world call
+OpHasOnes world (Invokestatic call) = PassedHaveOnes world call
 OpHasOnes world (Invokeinterface call) = CallHasOnes world call
 OpHasOnes world (New t) = BaseHasOne world t.base
 OpHasOnes world (Anewarray t) = BaseHasOne world t.base

@@ -12,8 +12,8 @@ ghost use Rattle.input_desc.specs.Entries.{entry_of};
 ghost use Rattle.input_text.specs.Answers.{SaysOf};
 ghost use Rattle.input_text.specs.Descriptions.{description_of};
 ghost use Rattle.desc_steps.specs.Givable.{HasObjects, CanBeGiven};
-ghost use Rattle.survey.specs.Lacking.{HasOne, BaseHasOne, SlotHasOne, ResultHasOne, CallHasOnes, FieldHasOnes, OpHasOnes};
-ghost use Rattle.survey.specs.Lacking.{CaughtHasOne, MethodHasOnes, AllNamedHaveOnes, IsWarned};
+ghost use Rattle.survey.specs.Lacking.{HasOne, BaseHasOne, SlotHasOne, ResultHasOne, PassedHaveOnes, CallHasOnes, FieldHasOnes};
+ghost use Rattle.survey.specs.Lacking.{OpHasOnes, CaughtHasOne, MethodHasOnes, AllNamedHaveOnes, IsWarned};
 ghost use Rattle.survey.specs.inner.Wording.{IsMethodProgram};
 
 use crate::lines::MethodWords;
@@ -173,7 +173,18 @@ fn result_lack(world: &World<'_>, given: Option<Slot>) -> Option<u32>
     }
 }
 
-/// The first such class of a call.
+/// The first such class of a call's parameters and result.
+fn passed_lack(world: &World<'_>, call: &Call) -> Option<u32>
+    ensures { result ≡ None → PassedHaveOnes (classes_of world.now) call.now }
+{
+    match slots_lack(world, call.params.as_slice()) {
+        Some(class) => return Some(class),
+        None => {}
+    }
+    result_lack(world, call.result)
+}
+
+/// The first such class of a call on an object.
 fn call_lack(world: &World<'_>, call: &Call) -> Option<u32>
     ensures { result ≡ None → CallHasOnes (classes_of world.now) call.now }
 {
@@ -181,11 +192,7 @@ fn call_lack(world: &World<'_>, call: &Call) -> Option<u32>
         Some(class) => return Some(class),
         None => {}
     }
-    match slots_lack(world, call.params.as_slice()) {
-        Some(class) => return Some(class),
-        None => {}
-    }
-    result_lack(world, call.result)
+    passed_lack(world, call)
 }
 
 /// The first such class of a field.
@@ -208,7 +215,7 @@ fn op_lack(world: &World<'_>, op: &Op) -> Option<u32>
         Op::Putfield(field) => field_lack(world, field),
         Op::Invokevirtual(call) => call_lack(world, call),
         Op::Invokespecial(call) => call_lack(world, call),
-        Op::Invokestatic(call) => call_lack(world, call),
+        Op::Invokestatic(call) => passed_lack(world, call),
         Op::Invokeinterface(call) => call_lack(world, call),
         Op::New(ty) => base_lack(world, ty.base),
         Op::Anewarray(ty) => base_lack(world, ty.base),

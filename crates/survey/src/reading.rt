@@ -1,7 +1,9 @@
 //! The files that the words name.
-ghost use Rattle.std.specs.Prelude.{◌≡◌, ◌≤◌, ◌<◌, ◌++◌, ◌∷◌, [], length, map, slice_index_or, string_bytes, IfOk, IfErr, IfSome, OnOk};
+ghost use Rattle.std.specs.Prelude.{◌≡◌, ◌≤◌, ◌<◌, ◌++◌, ◌∷◌, [], length, map, slice_index_or, string_bytes};
+ghost use Rattle.std.specs.Prelude.{IfOk, IfErr, IfSome, IfNone, OnOk};
 ghost use Rattle.class_read.specs.Content.{ClassContent};
 ghost use Rattle.class_read.specs.Rules.{Spells};
+ghost use Rattle.survey.specs.Fates.{SpellsClass};
 ghost use Rattle.survey.specs.inner.Wording.{other_line};
 ghost use Rattle.survey.specs.inner.Keeping.{contents_of, names_of, HaveRead, HasRead, IsReadAs, IsTested, IsSettled};
 ghost use Rattle.survey.specs.inner.Keeping.{DescRead, DescsRead, StoppedReading, StoppedReadingAt};
@@ -54,12 +56,13 @@ pub(crate) fn named(
 }
 
 /// Why a content spells no class, in words; None where it spells one.
-#[tactic(auto, using(crate::proofs::Readings::no_class))]
+#[tactic(auto, using(crate::proofs::Readings::no_class, crate::proofs::Readings::a_class))]
 fn class_fault(alloc: Global, content: &[u8]) -> Result<Option<Seq<u8>>, AllocError>
-    ensures { IfOk result (λ found. IfSome found (λ words. (class : ClassContent) → Spells content.now class → ⊥)) }
+    ensures class { IfOk result (λ found. IfNone found (SpellsClass content.now)) }
+    ensures none { IfOk result (λ found. IfSome found (λ words. (class : ClassContent) → Spells content.now class → ⊥)) }
 {
     match ClassView::read(alloc, content) {
-        Ok(_) => Ok(None),
+        Ok(_class) => Ok(None),
         Err(ClassFault::Memory) => Err(AllocError),
         Err(fault) => Ok(Some(fault.text(alloc)?)),
     }
@@ -238,7 +241,7 @@ fn read_desc<F: Files>(
 }
 
 /// The word at a place.
-fn word_at<'a>(words: &[&'a str], place: usize) -> &'a str
+pub(crate) fn word_at<'a>(words: &[&'a str], place: usize) -> &'a str
     requires { place < length words.now }
     ensures { result ≡ slice_index_or words.now place result }
 {

@@ -17,7 +17,7 @@ use crate::failure::Stop;
 use crate::judging::Scope;
 use crate::lines::Head;
 use crate::putting::put_other;
-use crate::reading::named;
+use crate::reading::{named, word_at};
 use crate::walking::{Tally, survey_classes};
 use class_read::{ClassView, MethodView};
 use input_steps::{Refused, read_classes};
@@ -197,7 +197,7 @@ fn put_all_lost<O: Sink>(
 {
     let mut lost: usize = 0;
     for n in 0..names.len() {
-        match put_lost(alloc, names[n], n, scope, out) {
+        match put_lost(alloc, word_at(names, n), n, scope, out) {
             Ok(is_lost) => lost = counted(lost, is_lost),
             Err(stop) => return Err(stop),
         }

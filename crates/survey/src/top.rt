@@ -1,13 +1,10 @@
 //! The call behind the program: from the words of the command line to the exit status.
 ghost use Rattle.std.specs.Prelude.{◌≡◌, ◌≤◌, ◌+◌, ◌-◌, length, map, string_bytes, IfOk, IfErr};
 ghost use Rattle.class_base.specs.Limits.{most_classes};
-ghost use Rattle.survey.specs.Claims.{IsTrueLine};
 ghost use Rattle.survey.specs.Outside.{HasSurveyed, EndsSurvey};
 ghost use Rattle.survey.specs.Words.{class_words, desc_words, are_survey};
-ghost use Rattle.survey.specs.inner.Putting.{Went, Cut, stop_status};
+ghost use Rattle.survey.specs.inner.Putting.{stop_status};
 ghost use Rattle.survey.specs.inner.Running.{HasRun, HasBroken};
-ghost use Rattle.survey.specs.inner.Using.{IsTail};
-ghost use Rattle.survey.specs.inner.Wording.{surveyed};
 
 use crate::failure::Stop;
 use crate::leaving::leave_out;
@@ -18,52 +15,26 @@ use io_ports::{FileFault, Files, Sink};
 use list_views::Seq;
 use std::alloc::{AllocError, Global};
 
-/// How many files there are of each sort, where so many are named and so many of these refused.
-fn counts_of(kept: &Kept<'_>, named: usize, refused: usize) -> FileCounts
-    requires { refused + length kept.now.files.items ≤ named }
+/// How many class files are refused, where so many of the named ones are kept.
+fn refused_of(asked: &Asked<'_>, kept: &Kept<'_>) -> usize
+    requires { length kept.now.files.items ≤ length asked.now.classes.now }
+    ensures { result ≡ length asked.now.classes.now - length kept.now.files.items }
+{
+    asked.classes.len() - kept.files.len()
+}
+
+/// How many class files there are of each sort, where so many of the named ones are refused.
+fn counts_of(asked: &Asked<'_>, kept: &Kept<'_>, refused: usize) -> FileCounts
+    requires { refused + length kept.now.files.items ≤ length asked.now.classes.now }
     ensures files { result.files ≡ length kept.now.files.items }
-    ensures left_out { result.left_out ≡ (named - refused) - length kept.now.files.items }
+    ensures left_out { result.left_out ≡ (length asked.now.classes.now - refused) - length kept.now.files.items }
     ensures refused { result.refused ≡ refused }
 {
     FileCounts {
         files: kept.files.len(),
-        left_out: named - refused - kept.files.len(),
+        left_out: asked.classes.len() - refused - kept.files.len(),
         refused,
     }
-}
-
-/// Puts the lines of a survey of the class files that are left.
-fn survey_left<O: Sink>(
-    alloc: Global,
-    asked: &Asked<'_>,
-    descs: &[Vec<u8>],
-    kept: &Kept<'_>,
-    refused: usize,
-    out: &mut O,
-) -> Result<u8, Stop>
-    requires few { length asked.now.classes.now ≤ most_classes }
-    requires few_descs { length asked.now.descs.items ≤ most_classes }
-    requires same { length asked.now.descs.items ≡ length descs.now }
-    requires room { refused + length kept.now.files.items ≤ length asked.now.classes.now }
-    ensures told { IfOk result (λ status. Went O.taken O.faults (IsTrueLine (surveyed kept.now.files.items descs.now))
-        (IsTail (surveyed kept.now.files.items descs.now) (map (λ name. name.now) asked.now.descs.items)
-        (record {
-          files = length kept.now.files.items;
-          left_out = (length asked.now.classes.now - refused) - length kept.now.files.items;
-          refused = refused;
-        }) status) out.old out.new) }
-    ensures begun { IfErr result (Cut O.taken O.faults (IsTrueLine (surveyed kept.now.files.items descs.now)) out.old out.new) }
-{
-    let counts = counts_of(kept, asked.classes.len(), refused);
-    survey_kept(
-        alloc,
-        asked.descs.as_slice(),
-        descs,
-        kept.files.as_slice(),
-        counts,
-        asked.why,
-        out,
-    )
 }
 
 /// Puts the lines of a survey of class files whose descriptions are read.
@@ -90,9 +61,20 @@ fn survey_described<F: Files, O: Sink>(
         Ok(kept) => kept,
         Err(stop) => return Err(stop),
     };
-    let refused = asked.classes.len() - kept.files.len();
+    let refused = refused_of(asked, &kept);
     match leave_out(alloc, &mut kept, out) {
-        Ok(()) => survey_left(alloc, asked, descs, &kept, refused, out),
+        Ok(()) => match survey_kept(
+            alloc,
+            asked.descs.as_slice(),
+            descs,
+            kept.files.as_slice(),
+            counts_of(asked, &kept, refused),
+            asked.why,
+            out,
+        ) {
+            Ok(status) => Ok(status),
+            Err(stop) => Err(stop),
+        },
         Err(stop) => Err(stop),
     }
 }
@@ -202,8 +184,8 @@ fn without<E: Sink>(line: &[u8], status: u8, err: &mut E) -> u8
 /// A method is proved under the first description that names it, then `described` stands behind it, else under its
 /// template. Behind a YES stands `no-input` where some input of it can't be given with these classes, so that no state begins it;
 /// `no-class=C` for the first type that its program names and that no object of these classes is of; and a word for each premise that
-/// its program touches: `handles-errors`, `compares-exceptions`, `constant-value`. With `--why` lines of advice follow, which begin with blanks. To `err` it
-/// puts a line where it ends before the counts. The exit status is
+/// its program touches: `handles-errors`, `compares-exceptions`, `constant-value`. With `--why` lines of advice follow, which begin with
+/// blanks. To `err` it puts a line where it ends before the counts. The exit status is
 ///
 /// - 0: each method with code of each named class file is proved;
 /// - 1: some aren't, or a class file is left out;

@@ -4,12 +4,7 @@ use Rattle.std.specs.Str.{bytes_eq}
 use Rattle.check_call.specs.FillAnswers.{Answers}
 use Rattle.check_call.specs.declared.outcome.Outcome.{Outcome}
 use Rattle.survey.specs.Outside.{FilesSeen}
-use Rattle.tools_cli.specs.Reading.{WereHanded, IsPut, HasNone}
-
--- the words behind the command name a certificate, a description and class files; those behind `loop` none of a certificate
-abbrev pub named : List (List ℕ) → List (List ℕ)
-named [] = []
-named (command ∷ names) = names
+use Rattle.tools_cli.specs.Reading.{behind_first, WereHanded, IsPut, HasNone}
 
 -- an outcome is that of `fill` for these contents
 abbrev pub IsFilled : List (List ℕ) → Outcome → Type 0
@@ -28,11 +23,12 @@ abbrev pub IsOutcome : List (List ℕ) → List (List ℕ) → Outcome → Type 
 IsOutcome [] contents outcome = ⊥
 IsOutcome (command ∷ names) contents outcome = IsOutcomeOf command contents outcome
 
--- The files that the words name were read, and what is put is the outcome for these contents.
+-- The files that the words behind the command name were read: a certificate, a description and class files, of `loop` no certificate.
+-- What is put is the outcome for these contents.
 pub record HasCertified {F S : Type 0} (files : FilesSeen F) (taken : S → Option (List ℕ)) (faults : S → ℕ) (words : List (List ℕ))
     (files_old files_new : F) (old new : S) (status : ℕ) : Type 0 where
   pub contents : List (List ℕ)
-  pub read : WereHanded files (named words) contents files_old files_new
+  pub read : WereHanded files (behind_first words) contents files_old files_new
   pub outcome : Outcome
   pub is : IsOutcome words contents outcome
   pub put : IsPut taken faults old new outcome.out outcome.status status

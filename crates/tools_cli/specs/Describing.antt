@@ -2,13 +2,12 @@
 use Rattle.std.specs.Prelude.{◌≡◌, ◌⊎◌, ℕ, List, [], ◌∷◌, Option}
 use Rattle.class_calls.specs.describe.Calls.{ListsMethods, Describes}
 use Rattle.survey.specs.Outside.{FilesSeen}
-use Rattle.tools_cli.specs.Reading.{WereHanded, IsPut, HasNone}
+use Rattle.tools_cli.specs.Reading.{behind_first, WereHanded, IsPut, HasNone}
 
 -- the words that name class files: the first, and those behind the method
 abbrev pub file_words : List (List ℕ) → List (List ℕ)
 file_words [] = []
-file_words (class ∷ []) = class ∷ []
-file_words (class ∷ method ∷ words) = class ∷ words
+file_words (class ∷ words) = class ∷ behind_first words
 
 -- what is put for words and the contents of the files that they name: the lines of the first class's methods; or, where a word names
 -- a method, a template of its program (`Describes`), which leaves no input out

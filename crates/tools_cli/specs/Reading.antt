@@ -1,11 +1,16 @@
 -- What a tool reads.
-use Rattle.std.specs.Prelude.{◌≡◌, ◌⊎◌, ◌++◌, ℕ, List, Option}
+use Rattle.std.specs.Prelude.{◌≡◌, ◌⊎◌, ◌++◌, ℕ, List, [], ◌∷◌, Option}
 use Rattle.std.specs.Io.KnownBytes.{Appends}
 use Rattle.io_ports.specs.Count.{Rose}
 use Rattle.io_ports.specs.Handed.{reads_of, HaveHanded}
 use Rattle.io_ports.specs.Taken.{AppendsPrefix}
 use Rattle.survey.specs.Fates.{AreAll}
 use Rattle.survey.specs.Outside.{FilesSeen}
+
+-- the words behind the first
+abbrev pub behind_first : List (List ℕ) → List (List ℕ)
+behind_first [] = []
+behind_first (first ∷ words) = words
 
 -- The contents under these names are the bytes that the reads of a call handed over, each name once and in their order, and no others;
 -- where the files tell their contents, they are those.

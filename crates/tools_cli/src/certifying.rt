@@ -3,9 +3,9 @@
 //!
 //! The words are `fill` or `bound`, the name of a file with a certificate, that of one with a description, and those of 1 to 256 class
 //! files; or `loop` and the same without a certificate.
-ghost use Rattle.std.specs.Prelude.{◌≤◌, ◌^◌, length, map, string_bytes, IfOk, IfSome};
+ghost use Rattle.std.specs.Prelude.{◌≤◌, ◌+◌, ◌^◌, length, map, string_bytes, IfOk, IfSome};
 ghost use Rattle.class_base.specs.Limits.{most_classes};
-ghost use Rattle.tools_cli.specs.Certifying.{IsOutcomeOf, EndsCertifying};
+ghost use Rattle.tools_cli.specs.Certifying.{IsFilled, IsOutcomeOf, EndsCertifying};
 ghost use Rattle.tools_cli.specs.inner.Outputs.{IsCertified};
 
 use crate::failures::{Cause, Failure, put_out, told};
@@ -81,7 +81,22 @@ fn first_limit(before: usize) -> usize
     }
 }
 
+/// The outcome of `fill` for the contents of a certificate, of a description and of class files.
+#[tactic(auto, using(crate::proofs::Taking::is_filled))]
+fn filled(alloc: Global, contents: &[Vec<u8>]) -> Result<Outcome, Refused>
+    requires there { 2 ≤ length contents.now }
+    requires few { length contents.now ≤ most_classes + 2 }
+    ensures { IfOk result (IsFilled (map (λ content. content.items) contents.now)) }
+{
+    let (cert, desc) = (contents[0].as_slice(), contents[1].as_slice());
+    match fill_line(alloc, cert, desc, &contents[2..]) {
+        Ok(outcome) => Ok(outcome),
+        Err(refused) => Err(refused),
+    }
+}
+
 /// What a command makes of the contents of its files; none where these are too few or too many, or it is no command.
+#[tactic(auto, using(crate::proofs::Taking::fills, crate::proofs::Taking::finds))]
 fn outcome_of(
     alloc: Global,
     command: &[u8],
@@ -94,8 +109,7 @@ fn outcome_of(
         if contents.len() < 3 || contents.len() > MOST_CLASSES + 2 {
             return None;
         }
-        let (cert, desc) = (contents[0].as_slice(), contents[1].as_slice());
-        return Some(fill_line(alloc, cert, desc, &contents[2..]));
+        return Some(filled(alloc, contents));
     }
     if command == b"bound".as_slice() {
         if contents.len() < 3 || contents.len() > MOST_CLASSES + 2 {

@@ -3,9 +3,10 @@
 //! The words are the name of a class file; behind it may stand the name of a method, or its name and descriptor in one word; behind
 //! that may stand the names of the other class files of the program.
 ghost use Rattle.std.specs.Prelude.{◌≡◌, ◌≤◌, length, map, string_bytes, IfOk};
+ghost use Rattle.tools_cli.specs.Reading.{behind_first};
 ghost use Rattle.class_base.specs.Limits.{most_classes};
 ghost use Rattle.tools_cli.specs.Describing.{file_words, IsDescription, EndsDescribing};
-ghost use Rattle.tools_cli.specs.inner.Outputs.{first_words, IsOutput};
+ghost use Rattle.tools_cli.specs.inner.Outputs.{IsOutput};
 
 use crate::failures::{Cause, Failure, put_out, told};
 use crate::reading::{Tool, push_words, read_names};
@@ -19,27 +20,27 @@ use std::alloc::{AllocError, Global};
 /// The most words: the class files and a method.
 const MOST_WORDS: usize = MOST_CLASSES + 1;
 
-/// The words behind the first two.
-#[tactic(auto, using(crate::proofs::Taking::behind_two, crate::proofs::Taking::behind_few))]
-fn behind_method(words: &[String]) -> &[String]
-    ensures { file_words (map string_bytes words.now) ≡ first_words (map string_bytes words.now) (map string_bytes result.now) }
+/// The words behind the first.
+fn behind_first(words: &[String]) -> &[String]
+    ensures { map string_bytes result.now ≡ behind_first (map string_bytes words.now) }
 {
-    if words.len() < 2 {
-        return &words[words.len()..];
+    match words.split_first() {
+        Some((_, rest)) => rest,
+        None => words,
     }
-    &words[2..]
 }
 
 /// The names of the class files: the first word, and those behind the second.
-#[tactic(auto, using(crate::proofs::Taking::first_named))]
+#[tactic(auto, using(crate::proofs::Taking::files_named))]
 fn file_names(alloc: Global, words: &[String]) -> Result<Vec<&str>, AllocError>
-    ensures names { IfOk result (λ names. map (λ name. name.now) names.items ≡ file_words (map string_bytes words.now)) }
+    ensures { IfOk result (λ names. map (λ name. name.now) names.items ≡ file_words (map string_bytes words.now)) }
 {
     let mut names = Vec::new(alloc);
-    if let Some(class) = words.first() {
-        names.push(class.as_str())?;
-    }
-    push_words(&mut names, behind_method(words))?;
+    let Some((class, behind)) = words.split_first() else {
+        return Ok(names);
+    };
+    names.push(class.as_str())?;
+    push_words(&mut names, behind_first(behind))?;
     Ok(names)
 }
 
@@ -64,16 +65,23 @@ fn usage(alloc: Global) -> Failure {
 }
 
 /// What is printed for the words and the contents of the files that they name.
+#[tactic(auto, using(crate::proofs::Taking::lists, crate::proofs::Taking::templates))]
 fn printed(alloc: Global, words: &[String], contents: &[Vec<u8>]) -> Result<Vec<u8>, DescribeFault>
     requires { length contents.now ≤ most_classes }
     ensures { IfOk result (λ text. IsDescription (map string_bytes words.now) (map (λ content. content.items) contents.now) text.items) }
 {
-    if words.is_empty() {
+    let Some((_class, behind)) = words.split_first() else {
         return Err(DescribeFault::NoMethod);
-    }
-    match words.get(1) {
-        Some(method) => template_of(alloc, contents, method.as_bytes()),
-        None => methods_of(alloc, contents),
+    };
+    match behind.split_first() {
+        Some((method, _)) => match template_of(alloc, contents, method.as_bytes()) {
+            Ok(text) => Ok(text),
+            Err(fault) => Err(fault),
+        },
+        None => match methods_of(alloc, contents) {
+            Ok(lines) => Ok(lines),
+            Err(fault) => Err(fault),
+        },
     }
 }
 

@@ -41,6 +41,7 @@ fn usage<E: Sink>(err: &mut E) -> u8
 }
 
 /// Runs the tool that the first word says, on the words behind it; the status.
+#[tactic(auto, using(crate::proofs::Taking::describes, crate::proofs::Taking::certifies, crate::proofs::Taking::surveys, crate::proofs::Taking::no_tool, crate::proofs::Taking::no_words, crate::proofs::Taking::none_said))]
 fn run<F: Files, O: Sink, E: Sink>(
     alloc: Global,
     words: &[String],

@@ -8,7 +8,8 @@ use Rattle.io_ports.specs.FileFault.{fault_name}
 use Rattle.io_ports.specs.Handed.{reads_of}
 use Rattle.io_ports.specs.Told.{Told, IsContent}
 use Rattle.io_ports.specs.declared.files.FileFault.{FileFault}
-use Rattle.survey.specs.Fates.{Fate, kept_of, left_count, refused_count, reads_among, IsFate, AreFates, AreAll, AreSaid, IsSaid}
+use Rattle.survey.specs.Fates.{Fate, kept_of, left_count, refused_count, reads_among, SpellsClass, IsFate, AreFates, AreAll}
+use Rattle.survey.specs.Fates.{AreSaid, IsSaid}
 use Rattle.survey.specs.Fates.Fate as became
 use Rattle.survey.specs.Outside.{FilesSeen, IsUnreadFor}
 use Rattle.survey.specs.inner.Wording.{other_line}
@@ -88,15 +89,15 @@ pub record HasRead {F : Type 0} (files : FilesSeen F) (name : List ℕ) (kept_ol
 -- what a read of a class file gives: its content, of a class or of none; or a cause why it wasn't read
 abbrev pub IsReadAs : {F : Type 0} → FilesSeen F → List ℕ → F → F → Read → Type 0
 IsReadAs files name old new (Content content) = (files.handed new ≡ files.handed old ++ (name, content.items) ∷ [])
-    × IsContent (files.held old name) content.items
+    × (IsContent (files.held old name) content.items × SpellsClass content.items)
 IsReadAs files name old new (NoClass content words) = (files.handed new ≡ files.handed old ++ (name, content.items) ∷ [])
     × (IsContent (files.held old name) content.items × ((class : ClassContent) → Spells content.items class → ⊥))
 IsReadAs files name old new (Broken fault) = (files.handed new ≡ files.handed old)
     × IsFate (Rose (files.faults old) (files.faults new)) (files.held old name) (became.Unread fault)
 
--- a content is given as it is, and where it spells no class, this is said
+-- a content is given as it is, and it is said whether it spells a class
 abbrev pub IsTested : List ℕ → Read → Type 0
-IsTested bytes (Content content) = content.items ≡ bytes
+IsTested bytes (Content content) = (content.items ≡ bytes) × SpellsClass bytes
 IsTested bytes (NoClass content words) = (content.items ≡ bytes) × ((class : ClassContent) → Spells bytes class → ⊥)
 IsTested bytes (Broken fault) = ⊥
 

@@ -1,9 +1,10 @@
 -- Words for inner calls: which descriptions are of use, and what is put behind the lines of files.
 use Rattle.std.specs.Prelude.{◌≡◌, ◌⊎◌, ◌+◌, ◌<◌, ℕ, Bool, true, false, List, [], ◌∷◌, ◌++◌, length, slice_get, Some, Ok, IsTrue, is_some}
+use Rattle.std.specs.Prelude.{Contains}
 use Rattle.std.specs.List.{AllByRecursion}
 use Rattle.class_read.specs.Content.{ClassContent, MethodContent}
 use Rattle.input_text.specs.declared.texts.DescText.{DescText}
-use Rattle.survey.specs.Claims.{Surveyed, Among, Contains, NamesOther, IsUsed, IsTrueLine, AreAllProved}
+use Rattle.survey.specs.Claims.{Surveyed, Among, NamesOther, IsUsed, IsTrueLine, AreAllProved}
 use Rattle.survey.specs.Lines.{Counts, count_line}
 use Rattle.survey.specs.Outside.{SaysUseless, status_of}
 use Rattle.survey.specs.inner.Wording.{all_proved}
@@ -20,11 +21,11 @@ pub record NamesIn (said : DescText) (class : List ℕ) (method : MethodContent)
 
 -- it names one of some methods of that class
 abbrev pub NamesOne : DescText → List ℕ → List MethodContent → Type 0
-NamesOne said class methods = (method : MethodContent) × (Contains method methods × NamesIn said class method)
+NamesOne said class methods = (method : MethodContent) × (Contains methods method × NamesIn said class method)
 
 -- it names a method with code of one of some classes
 abbrev pub NamesAmong : DescText → List ClassContent → Type 0
-NamesAmong said classes = (class : ClassContent) × (Contains class classes × NamesOne said class.name class.methods)
+NamesAmong said classes = (class : ClassContent) × (Contains classes class × NamesOne said class.name class.methods)
 
 -- no description in front of a place names its method
 abbrev pub ComesFirst : List (List ℕ) → ℕ → DescText → Type 0

@@ -1,15 +1,10 @@
 -- Words for inner calls: what a tool makes of what it reads.
-use Rattle.std.specs.Prelude.{ℕ, List, [], ◌∷◌}
+use Rattle.std.specs.Prelude.{ℕ, List}
 use Rattle.check_call.specs.declared.outcome.Outcome.{Outcome}
 use Rattle.survey.specs.Outside.{FilesSeen}
 use Rattle.tools_cli.specs.Reading.{WereHanded}
 use Rattle.tools_cli.specs.Describing.{file_words, IsDescription}
 use Rattle.tools_cli.specs.Certifying.{IsOutcomeOf}
-
--- the first of some words, and others behind it
-abbrev pub first_words : List (List ℕ) → List (List ℕ) → List (List ℕ)
-first_words [] rest = []
-first_words (word ∷ words) rest = word ∷ rest
 
 -- what `describe` puts for words, of the contents that were handed over
 abbrev pub IsOutput : {F : Type 0} → FilesSeen F → List (List ℕ) → F → F → List ℕ → Type 0

@@ -6,7 +6,7 @@ pub returns-in-Err-clause-stopped : goal.returns-in-Err-clause-stopped
 returns-in-Err-clause-stopped g c = stopped_at (λ name. name.now)
     (record { held = g.F.Files.held; handed = g.F.Files.handed; faults = g.F.Files.faults }) c.args.words.now c.loop-place.place
     c.word_at.result
-    c.word_at.result.now c.args.files.now c.loop-place.files c.read_desc.new.files _ (omega arith) c.word_at.ensures refl
+    c.word_at.result.now c.args.files.now c.loop-place.files c.read_desc.new.files c.in-Err.stop (omega arith) c.word_at.ensures refl
     c.loop-place.invariant.held c.loop-place.invariant.counts c.in-Err.ensures.stopped
 
 pub loop-place-preserved : goal.loop-place-preserved

@@ -13,7 +13,7 @@ invariant-loop-method g l =
     let s = surveyed l.scope.files.now l.scope.descs.now in
     let each = AllByRecursion (IsProvedMethod s l.class) in
     record {
-      told : Went g.O.Sink.taken g.O.Sink.faults (IsTrueLine s) (λ lines. l.so_far.all ≡ (l.initial.tally.all && all_proved lines))
+      told : Went g.O.Sink.taken g.O.Sink.faults (IsTrueLine s) (λ lines. l.so_far.all ≡ (l.fn.tally.all && all_proved lines))
           l.initial.out l.out;
       proved : IsTrue l.so_far.all → each (map method_content (drop l.method-index l.methods)) → each (map method_content l.methods);
     }
