@@ -1,5 +1,6 @@
 -- What is said of one method, put together.
-use Rattle.std.proofs.Common.{◌≡◌, ℕ, zero, suc, ◌<◌, ◌≤◌, true, false, List, [], ◌∷◌, length, map, get_or, slice_get, Some, sym, ap, arith}
+use Rattle.std.proofs.Common.{◌≡◌, ◌∙◌, ℕ, zero, suc, ◌<◌, ◌≤◌, not, Bool, true, false, List, [], ◌∷◌, length, map, get_or}
+use Rattle.std.proofs.Common.{slice_get, Some, None, Ok, refl, sym, ap, subst, arith}
 use Rattle.std.specs.Global.{Vec}
 use Rattle.std.specs.List.{AllByRecursion}
 use Rattle.std.proofs.lemmas.List.{length-map}
@@ -13,10 +14,21 @@ use Rattle.class_program.specs.Programs.{Program}
 use Rattle.input_steps.specs.Classes.{AllSpell, IsWorldOf}
 use Rattle.input_steps.specs.Programs.{IsProgramOf}
 use Rattle.input_steps.proofs.Files.{spell_length, spell_read}
-use Rattle.prove_call.specs.DescStepsHeadline.{AllEnd}
+use Rattle.desc_steps.specs.Headline.{AllEnd}
 use Rattle.class_calls.specs.describe.Templates.{IsTemplate}
-use Rattle.survey.specs.Claims.{Surveyed, NamesMethod, IsGivenText, IsOpenText, IsProved}
-use Rattle.survey.specs.inner.Wording.{IsMethodProgram}
+use Rattle.desc_steps.specs.Givable.{CanBeGiven}
+use Rattle.input_desc.specs.Descs.{desc_fault, IsDescribed}
+use Rattle.input_desc.specs.Entries.{entry_of}
+use Rattle.input_desc.specs.declared.desc.Desc.{Desc}
+use Rattle.input_text.specs.Answers.{SaysOf}
+use Rattle.input_text.specs.Descriptions.{description_of}
+use Rattle.input_text.specs.declared.texts.DescText.{DescText}
+use Rattle.survey.specs.Claims.{Surveyed, NamesMethod, IsGivenText, IsOpenText}
+use Rattle.survey.specs.Lacking.{AllNamedHaveOnes, IsWarned}
+use Rattle.survey.specs.inner.Wording.{IsMethodProgram, IsUnder, IsJudged}
+use Rattle.survey.specs.declared.judging.Judged.TheVariants.{Yes}
+use Rattle.survey.specs.declared.lacking.Lacks.{Lacks}
+use Rattle.survey.specs.declared.survey_notes.touching.Touched.{Touched}
 
 -- ---- files and their classes
 
@@ -32,7 +44,8 @@ classes_read files classes spelled = spell_read files classes spelled
 
 -- ---- a method's program
 
-pub method_program : (files : List (List ℕ)) (class name desc : List ℕ) (classes : List ClassContent) (world : World) (entry : MethodRef)
+pub method_program : (files : List (List ℕ)) (class name desc : List ℕ) (classes : List ClassContent) (world : World)
+    (entry : MethodRef)
     (p : Program) → AllSpell files classes → IsWorldOf classes world → find_method world class name desc ≡ Some entry
     → IsProgramOf world entry p → IsMethodProgram files class name desc p
 method_program files class name desc classes world entry p spelled makes found program = record {
@@ -72,9 +85,45 @@ is_open files class name desc text p program template = record {
 -- ---- it is proved under it
 
 pub proved_as_given : (s : Surveyed) (class name desc text : List ℕ) → IsGivenText s.descs class name desc text → AllEnd s.files text
-    → IsProved s true class name desc
-proved_as_given s class name desc text given ends = record { text = text; is = given; ends = ends }
+    → IsUnder s true class name desc text
+proved_as_given s class name desc text given ends = (given, ends)
 
 pub proved_as_open : (s : Surveyed) (class name desc text : List ℕ) → IsOpenText s.files class name desc text → AllEnd s.files text
-    → IsProved s false class name desc
-proved_as_open s class name desc text opened ends = record { text = text; is = opened; ends = ends }
+    → IsUnder s false class name desc text
+proved_as_open s class name desc text opened ends = (opened, ends)
+
+pub judged_yes : (s : Surveyed) (class name desc text : List ℕ) (given : Bool) (lacks : Lacks) (touched : Touched)
+    → IsUnder s given class name desc text → IsWarned s.files text lacks → IsJudged s class name desc (Yes given lacks touched)
+judged_yes s class name desc text given lacks touched under warned = (text, (under, warned))
+
+-- ---- what is missing behind that
+
+not_false : (b : Bool) → not b ≡ false → b ≡ true
+not_false true e = refl
+not_false false e = absurd (let f : true ≡ false = e in cc)
+
+-- the program and its description are those that the files and the text name
+pub is_warned : (files : List (List ℕ)) (class name desc text : List ℕ) (p : Program) (said : DescText) (described : Desc)
+    (lacks : Lacks)
+    (all : Bool) → IsMethodProgram files class name desc p → SaysOf description_of text (Ok said)
+    → entry_of p.world said.entry ≡ Ok p.entry
+    → (desc_fault p said ≡ None) × IsDescribed p said described
+    → (all ≡ true → AllByRecursion (CanBeGiven p.world) described.inputs) → lacks.no_input ≡ not all
+    → (lacks.no_class ≡ None → AllNamedHaveOnes p) → IsWarned files text lacks
+is_warned files class name desc text p said described lacks all program says entry fits given no_input classes = record {
+  program = p;
+  described = described;
+  named = record {
+    classes = program.classes;
+    spelled = program.spelled;
+    linked = subst (IsWorldOf program.classes) (sym program.program.world_is) program.makes;
+    text = said;
+    said = says;
+    entry = entry;
+    closed = program.program.closed;
+    faultless = fits.0;
+    is_described = fits.1;
+  };
+  inputs = λ e. given (not_false all (sym no_input ∙ e));
+  classes = classes;
+}

@@ -1,7 +1,11 @@
 pub mod Asking
+pub mod Descs
 pub mod Ending
+pub mod Fating
 pub mod Judgements
-pub mod Kept
-pub mod Telling
+pub mod Leavings
+pub mod Readings
+pub mod Tails
 pub mod Truths
 pub mod Walks
+pub mod Went

@@ -1,45 +1,44 @@
 -- True lines, and texts of them.
-use Rattle.std.proofs.Common.{◌≡◌, ◌∙◌, ℕ, ◌==◌, ◌||◌, ◌&&◌, not, nat_lt, Bool, true, false, List, [], ◌∷◌, ◌++◌, map, refl, sym, ap, subst, arith}
+use Rattle.std.proofs.Common.{◌≡◌, ◌∙◌, ℕ, ◌==◌, ◌||◌, ◌&&◌, not, nat_lt, Bool, true, false, List, [], ◌∷◌, ◌++◌, map, Option}
+use Rattle.std.proofs.Common.{Some, None, refl, sym, ap, subst, arith}
 use Rattle.std.proofs.Common.{append_assoc, append-nil, codes, cond}
 use Rattle.std.specs.List.{AllByRecursion, list_all}
 use Rattle.std.proofs.lemmas.Grind.{flat_map-append}
 use Rattle.std.proofs.lemmas.List.Folds.{list_all-append}
-use Rattle.survey.specs.declared.survey_notes.touching.Touched.{Touched}
-use Rattle.survey.specs.Claims.{Surveyed, IsProved, IsTrueLine, AreTrue}
 use Rattle.list_views.specs.FaultWords.{joined}
 use Rattle.list_views.specs.Shown.{is_hidden, has_no_hidden_byte, method_text, shown}
 use Rattle.list_views.proofs.ReadBack.{names_plain}
 use Rattle.std.proofs.lemmas.Bool.{eqb-true}
-use Rattle.survey.specs.Lines.{yes_line, words_text, given_text, errors_text, exceptions_text, constants_text, printed, ended, text_of}
-use Rattle.survey.specs.inner.Wording.{head_text, other_line, GrowsTrue}
+use Rattle.survey.specs.declared.lacking.Lacks.{Lacks}
+use Rattle.survey.specs.declared.survey_notes.touching.Touched.{Touched}
 use Rattle.survey.specs.declared.lines.Head.{Head}
 use Rattle.survey.specs.declared.lines.Head.TheVariants.{Maybe, Refused, LeftOut, Count, Why}
+use Rattle.survey.specs.Claims.{Surveyed, IsProved, IsTrueLine, AreTrue}
+use Rattle.survey.specs.Lines.{yes_line, words_text, lacks_text, no_input_text, no_class_text, touched_text, given_text}
+use Rattle.survey.specs.Lines.{errors_text, exceptions_text, constants_text}
+use Rattle.survey.specs.Lines.{printed, ended, text_of}
+use Rattle.survey.specs.inner.Putting.{IsOther}
+use Rattle.survey.specs.inner.Wording.{head_text, head_of, other_line, IsYesJudged, all_proved, AreLines}
 
--- ---- texts
+-- ---- lists of lines
 
-all_both : {X : Type 0} (P : X → Type 0) (xs ys : List X) → AllByRecursion P xs → AllByRecursion P ys → AllByRecursion P (xs ++ ys)
+pub all_both : {X : Type 0} (P : X → Type 0) (xs ys : List X) → AllByRecursion P xs → AllByRecursion P ys → AllByRecursion P (xs ++ ys)
 all_both P [] ys a b = b
 all_both P (x ∷ xs) ys a b = (a.0, all_both P xs ys a.1 b)
 
-pub nothing_true : (s : Surveyed) → AreTrue s []
-nothing_true s = record { lines = []; are = refl; each = tt }
+pub all_as : {X : Type 0} (P Q : X → Type 0) (xs : List X) → ((x : X) → P x → Q x) → AllByRecursion P xs → AllByRecursion Q xs
+all_as P Q [] as' a = tt
+all_as P Q (x ∷ xs) as' a = (as' x a.0, all_as P Q xs as' a.1)
 
-pub both_true : (s : Surveyed) (a b : List ℕ) → AreTrue s a → AreTrue s b → AreTrue s (a ++ b)
-both_true s a b x y = record {
-  lines = x.lines ++ y.lines;
-  are = ap (λ t. t ++ b) x.are ∙ (ap (λ t. text_of x.lines ++ t) y.are ∙ sym (flat_map-append ended x.lines y.lines));
-  each = all_both (IsTrueLine s) x.lines y.lines x.each y.each;
-}
+pub text_both : (a b : List (List ℕ)) → text_of (a ++ b) ≡ text_of a ++ text_of b
+text_both a b = flat_map-append ended a b
 
-one_true : (s : Surveyed) (line : List ℕ) → IsTrueLine s line → AreTrue s (line ++ 10 ∷ [])
-one_true s line h = record { lines = line ∷ []; are = sym (append-nil (line ++ 10 ∷ [])); each = (h, tt) }
+pub text_one : (line : List ℕ) → text_of (line ∷ []) ≡ ended line
+text_one line = append-nil (ended line)
 
 -- a line more, and a newline
-pub one_more : (s : Surveyed) (old between new line : List ℕ) → between ≡ old ++ line → new ≡ between ++ 10 ∷ [] → IsTrueLine s line
-    → AreTrue s old → AreTrue s new
-one_more s old between new line e f h so_far =
-    let whole : new ≡ old ++ (line ++ 10 ∷ []) = f ∙ (ap (λ t. t ++ 10 ∷ []) e ∙ append_assoc old line (10 ∷ [])) in
-    subst (AreTrue s) (sym whole) (both_true s old (line ++ 10 ∷ []) so_far (one_true s line h))
+pub line_ended : (old between new line : List ℕ) → between ≡ old ++ line → new ≡ between ++ 10 ∷ [] → new ≡ old ++ ended line
+line_ended old between new line e f = f ∙ (ap (λ t. t ++ 10 ∷ []) e ∙ append_assoc old line (10 ∷ []))
 
 -- ---- bytes that end no line
 
@@ -49,11 +48,12 @@ stays b = not (b == 10)
 both_stay : (xs ys : List ℕ) → list_all stays xs ≡ true → list_all stays ys ≡ true → list_all stays (xs ++ ys) ≡ true
 both_stay xs ys a b = list_all-append stays xs ys ∙ (ap (λ t. t && list_all stays ys) a ∙ b)
 
-all_stay : (pieces : List (List ℕ)) → AllByRecursion (λ piece. list_all stays piece ≡ true) pieces → list_all stays (joined pieces) ≡ true
+all_stay : (pieces : List (List ℕ)) → AllByRecursion (λ piece. list_all stays piece ≡ true) pieces
+    → list_all stays (joined pieces) ≡ true
 all_stay [] h = refl
 all_stay (piece ∷ pieces) h = both_stay piece (joined pieces) h.0 (all_stay pieces h.1)
 
-both_true_bits : (a b : Bool) → (a && b) ≡ true → (a ≡ true) × (b ≡ true)
+pub both_true_bits : (a b : Bool) → (a && b) ≡ true → (a ≡ true) × (b ≡ true)
 both_true_bits true b e = (refl, e)
 both_true_bits false b e = absurd cc
 
@@ -99,14 +99,8 @@ other_true s head rest = record {
   holds = λ begins. absurd (begins_not head rest begins.0 begins.1);
 }
 
--- a line that claims nothing more
-pub other_grows : (old new line : List ℕ) (head : Head) (rest : List ℕ) → line ≡ other_line head rest
-    → ((s : Surveyed) → IsTrueLine s line → AreTrue s old → AreTrue s new) → GrowsTrue old new
-other_grows old new line head rest e grows s so_far = grows s (subst (IsTrueLine s) (sym e) (other_true s head rest)) so_far
-
--- from no lines on
-pub grown_true : (text : List ℕ) → GrowsTrue [] text → (s : Surveyed) → AreTrue s text
-grown_true text grows s = grows s (nothing_true s)
+pub others_true : (s : Surveyed) (line : List ℕ) → IsOther line → IsTrueLine s line
+others_true s line other = subst (IsTrueLine s) (sym other.1.1) (other_true s other.0 other.1.0)
 
 -- ---- lines that begin with YES
 
@@ -135,6 +129,14 @@ given_stays : (given : Bool) → list_all stays (given_text given) ≡ true
 given_stays true = refl
 given_stays false = refl
 
+no_input_stays : (no_input : Bool) → list_all stays (no_input_text no_input) ≡ true
+no_input_stays true = refl
+no_input_stays false = refl
+
+no_class_stays : (no_class : Option (List ℕ)) → list_all stays (no_class_text no_class) ≡ true
+no_class_stays None = refl
+no_class_stays (Some name) = both_stay (codes " no-class=") (shown name) refl (name_stays name)
+
 errors_stay : (touched : Touched) → list_all stays (errors_text touched) ≡ true
 errors_stay touched = go touched.errors
   where
@@ -156,25 +158,81 @@ constants_stay touched = go touched.constants
     go true = refl
     go false = refl
 
-module _ (s : Surveyed) (class name desc : List ℕ) (given : Bool) (touched : Touched) where
-  yes_stays : list_all stays (yes_line class name desc given touched) ≡ true
-  yes_stays = both_stay (joined (codes "YES " ∷ method_text class name desc ∷ [])) (words_text given touched)
+module _ (s : Surveyed) (class name desc : List ℕ) (given : Bool) (lacks : Lacks) (touched : Touched) where
+  yes_stays : list_all stays (yes_line class name desc given lacks touched) ≡ true
+  yes_stays = both_stay (joined (codes "YES " ∷ method_text class name desc ∷ [])) (words_text given lacks touched)
       (all_stay (codes "YES " ∷ method_text class name desc ∷ []) (refl, (method_stays class name desc, tt)))
-      (both_stay ((given_text given ++ errors_text touched) ++ exceptions_text touched) (constants_text touched)
-      (both_stay (given_text given ++ errors_text touched) (exceptions_text touched)
-      (both_stay (given_text given) (errors_text touched) (given_stays given) (errors_stay touched)) (exceptions_stay touched))
-      (constants_stay touched))
+      (both_stay (given_text given ++ lacks_text lacks) (touched_text touched)
+      (both_stay (given_text given) (lacks_text lacks) (given_stays given)
+      (both_stay (no_input_text lacks.no_input) (no_class_text lacks.no_class) (no_input_stays lacks.no_input)
+      (no_class_stays lacks.no_class)))
+      (both_stay (errors_text touched ++ exceptions_text touched) (constants_text touched)
+      (both_stay (errors_text touched) (exceptions_text touched) (errors_stay touched) (exceptions_stay touched))
+      (constants_stay touched)))
 
-  pub yes_true : IsProved s given class name desc → IsTrueLine s (yes_line class name desc given touched)
-  yes_true proved = record {
+  pub yes_true : IsYesJudged s class name desc given lacks → IsTrueLine s (yes_line class name desc given lacks touched)
+  yes_true judged = record {
     one = yes_stays;
-    holds = λ begins. record
-        { class = class; name = name; desc = desc; given = given; touched = touched; is = refl; proved = proved };
+    holds = λ begins. record {
+      class = class;
+      name = name;
+      desc = desc;
+      given = given;
+      lacks = lacks;
+      touched = touched;
+      is = refl;
+      proved = record { text = judged.0; is = judged.1.0.0; ends = judged.1.0.1 };
+      warned = judged.1.1;
+    };
   }
 
--- the lines of a method whose every run ends
-pub yes_lined : (class name desc line text : List ℕ) (given : Bool) (touched : Touched) → line ≡ yes_line class name desc given touched
-    → ((s : Surveyed) → IsTrueLine s line → AreTrue s [] → AreTrue s text)
-    → (s : Surveyed) → IsProved s given class name desc → AreTrue s text
-yes_lined class name desc line text given touched e grows s proved =
-    grows s (subst (IsTrueLine s) (sym e) (yes_true s class name desc given touched proved)) (nothing_true s)
+-- such a line is no other
+yes_proved : (class name desc : List ℕ) (given : Bool) (lacks : Lacks) (touched : Touched)
+    → all_proved (yes_line class name desc given lacks touched ∷ []) ≡ true
+yes_proved class name desc given lacks touched = refl
+
+-- ---- the lines of a method
+
+-- of one whose every run ends
+pub yes_lined : (class name desc line before text : List ℕ) (given : Bool) (lacks : Lacks) (touched : Touched)
+    → line ≡ yes_line class name desc given lacks touched → before ≡ [] → text ≡ before ++ ended line
+    → (s : Surveyed) → IsYesJudged s class name desc given lacks → AreLines s true text
+yes_lined class name desc line before text given lacks touched e none grown s judged = record {
+  lines = line ∷ [];
+  are = grown ∙ (ap (λ t. t ++ ended line) none ∙ sym (text_one line));
+  each = (subst (IsTrueLine s) (sym e) (yes_true s class name desc given lacks touched judged), tt);
+  sort = subst (λ (l : List ℕ). all_proved (l ∷ []) ≡ true) (sym e) (yes_proved class name desc given lacks touched);
+}
+
+-- of one of which no more is known: its first line
+pub first_other : (s : Surveyed) (refused : Bool) (line before text : List ℕ) → before ≡ []
+    → text ≡ before ++ ended (other_line (head_of refused) line) → AreLines s false text
+first_other s refused line before text none grown = record {
+  lines = other_line (head_of refused) line ∷ [];
+  are = grown ∙ (ap (λ t. t ++ ended (other_line (head_of refused) line)) none ∙ sym (text_one (other_line (head_of refused) line)));
+  each = (other_true s (head_of refused) line, tt);
+  sort = sorted refused;
+}
+  where
+    sorted : (refused : Bool) → all_proved (other_line (head_of refused) line ∷ []) ≡ false
+    sorted true = refl
+    sorted false = refl
+
+-- and advice
+pub one_advice : (s : Surveyed) (old new words : List ℕ) → new ≡ old ++ ended (other_line Why words) → AreLines s false old
+    → AreLines s false new
+one_advice s old new words grown so_far =
+    let line = other_line Why words in
+    record {
+      lines = so_far.lines ++ line ∷ [];
+      are = grown ∙ (ap (λ t. t ++ ended line) so_far.are ∙ (ap (λ t. text_of so_far.lines ++ t) (sym (text_one line))
+          ∙ sym (text_both so_far.lines (line ∷ []))));
+      each = all_both (IsTrueLine s) so_far.lines (line ∷ []) so_far.each (other_true s Why words, tt);
+      sort = list_all-append _ so_far.lines (line ∷ []) ∙ ap (λ b. b && all_proved (line ∷ [])) so_far.sort;
+    }
+
+-- it is proved
+pub judged_proved : (s : Surveyed) (class name desc : List ℕ) (given : Bool) (lacks : Lacks) → IsYesJudged s class name desc given lacks
+    → (under : Bool) × IsProved s under class name desc
+judged_proved s class name desc given lacks judged =
+    (given, record { text = judged.0; is = judged.1.0.0; ends = judged.1.0.1 })

@@ -1,5 +1,6 @@
--- Words for inner calls.
-use Rattle.std.specs.Prelude.{◌≡◌, ◌⊎◌, ℕ, List, [], ◌∷◌, ◌++◌, map, Some, codes}
+-- Words for inner calls: what is said of a method.
+use Rattle.std.specs.Prelude.{◌≡◌, ◌∷◌, [], ℕ, Bool, true, false, not, List, ◌++◌, map, Some, codes}
+use Rattle.std.specs.List.{list_all, AllByRecursion}
 use Rattle.std.specs.Global.{Vec}
 use Rattle.class_read.specs.Content.{ClassContent}
 use Rattle.class_world.specs.declared.world.MethodRef.{MethodRef}
@@ -8,16 +9,17 @@ use Rattle.class_world.specs.Members.{find_method}
 use Rattle.class_program.specs.Programs.{Program}
 use Rattle.input_steps.specs.Classes.{AllSpell, IsWorldOf}
 use Rattle.input_steps.specs.Programs.{IsProgramOf}
-use Rattle.survey.specs.Claims.{Surveyed, IsProved, AreTrue}
-use Rattle.io_ports.specs.Told.{Told, IsContent}
-use Rattle.survey.specs.Lines.{printed}
-use Rattle.survey.specs.Outside.{AreSome}
+use Rattle.desc_steps.specs.Headline.{AllEnd}
+use Rattle.survey.specs.Claims.{Surveyed, IsTextOf, IsTrueLine}
+use Rattle.survey.specs.Lacking.{IsWarned}
+use Rattle.survey.specs.Lines.{printed, is_unproved, text_of}
+use Rattle.survey.specs.declared.lacking.Lacks.{Lacks}
 use Rattle.survey.specs.declared.lines.Head.{Head}
 use Rattle.survey.specs.declared.lines.Head.TheVariants.{Maybe, Refused, LeftOut, Count, Why}
-use Rattle.survey.specs.declared.reading.Read.{Read}
-use Rattle.survey.specs.declared.reading.Read.TheVariants.{Content, Broken}
 use Rattle.survey.specs.declared.judging.Judged.{Judged}
 use Rattle.survey.specs.declared.judging.Judged.TheVariants.{Yes, No}
+use Rattle.survey.specs.declared.walking.Sort.{Sort}
+use Rattle.survey.specs.declared.walking.Sort.TheVariants as sorts
 
 -- what is surveyed, as code holds it
 abbrev pub surveyed : List (Vec ℕ) → List (Vec ℕ) → Surveyed
@@ -35,6 +37,11 @@ head_text Why = codes "  "
 abbrev pub other_line : Head → List ℕ → List ℕ
 other_line head rest = head_text head ++ map printed rest
 
+-- what the first line of a method begins with of which no more is known
+abbrev pub head_of : Bool → Head
+head_of true = Refused
+head_of false = Maybe
+
 -- the program of a method that is declared by the class of a name
 pub record IsMethodProgram (files : List (List ℕ)) (class name desc : List ℕ) (p : Program) : Type 0 where
   pub classes : List ClassContent
@@ -45,24 +52,31 @@ pub record IsMethodProgram (files : List (List ℕ)) (class name desc : List ℕ
   pub found : find_method world class name desc ≡ Some entry
   pub program : IsProgramOf world entry p
 
--- where a method's runs are said to end, it is proved
+-- a method is proved under a text
+abbrev pub IsUnder : Surveyed → Bool → List ℕ → List ℕ → List ℕ → List ℕ → Type 0
+IsUnder s given class name desc text = IsTextOf given s class name desc text × AllEnd s.files text
+
+-- where a method's runs are said to end, it is proved under some text, and what is missing is said
+abbrev pub IsYesJudged : Surveyed → List ℕ → List ℕ → List ℕ → Bool → Lacks → Type 0
+IsYesJudged s class name desc given lacks = (text : List ℕ) × (IsUnder s given class name desc text × IsWarned s.files text lacks)
+
 abbrev pub IsJudged : Surveyed → List ℕ → List ℕ → List ℕ → Judged → Type 0
-IsJudged s class name desc (Yes given touched) = IsProved s given class name desc
-IsJudged s class name desc (No head rest) = Unit {0}
+IsJudged s class name desc (Yes given lacks touched) = IsYesJudged s class name desc given lacks
+IsJudged s class name desc (No refused line advice) = Unit {0}
 
--- more true lines follow
-abbrev pub GrowsTrue : List ℕ → List ℕ → Type 0
-GrowsTrue old new = (s : Surveyed) → AreTrue s old → AreTrue s new
+-- a line begins with YES
+abbrev pub is_yes : Sort → Bool
+is_yes sorts.Yes = true
+is_yes sorts.Maybe = false
+is_yes sorts.Refused = false
 
--- a content of which this holds was read; else it is said why there is none
-abbrev pub IsRead : (List ℕ → Type 0) → Read → Type 0
-IsRead Is (Content content) = Is content.items
-IsRead Is (Broken words) = Unit {0}
+-- none of some lines is that of a method of which no more is known
+abbrev pub all_proved : List (List ℕ) → Bool
+all_proved lines = list_all (λ line. not (is_unproved line)) lines
 
--- contents that were read under some names stay such
-abbrev pub StayRead : List (List ℕ) → List (List ℕ) → Type 0
-StayRead old new = (held : List ℕ → Told) (names : List (List ℕ)) → AreSome held names old → AreSome held names new
-
--- the files stay as they are, or one more is kept, whose content is no other than the told one
-abbrev pub GrowsRead : Told → List (Vec ℕ) → List (Vec ℕ) → Type 0
-GrowsRead told old new = (new ≡ old) ⊎ ((content : Vec ℕ) × (IsContent told content.items × (new ≡ old ++ content ∷ [])))
+-- a text of true lines, which are all proved or not
+pub record AreLines (s : Surveyed) (proved : Bool) (text : List ℕ) : Type 0 where
+  pub lines : List (List ℕ)
+  pub are : text ≡ text_of lines
+  pub each : AllByRecursion (IsTrueLine s) lines
+  pub sort : all_proved lines ≡ proved

@@ -1,5 +1,7 @@
-use Rattle.survey.specs.Claims.{Surveyed, AreTrue}
+use Rattle.std.proofs.Common.{false}
+use Rattle.survey.specs.Claims.{Surveyed}
+use Rattle.survey.specs.inner.Wording.{AreLines}
 use Rattle.survey.proofs.walking.no_lines.Given as goal
 
-abbrev pub invariant-loop-line : goal.invariant-loop-line
-invariant-loop-line l = (s : Surveyed) → AreTrue s l.text
+abbrev pub invariant-loop-words : goal.invariant-loop-words
+invariant-loop-words l = (s : Surveyed) → AreLines s false l.text
