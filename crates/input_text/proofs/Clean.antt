@@ -1,7 +1,7 @@
 -- No reader of a value says that the text is no JSON.
 use Rattle.std.proofs.Common.{◌≡◌, ℕ, zero, suc, ℤ, ◌==◌, ◌&&◌, Bool, true, false, cond, List, [], ◌∷◌, Result, Ok, Err, Option}
 use Rattle.std.proofs.Common.{Some, None, refl, sym, subst, codes}
-use Rattle.std.specs.Prelude.{option_map, int_le}
+use Rattle.std.specs.Prelude.{option_map, int_le, nat_lt}
 use Rattle.std.specs.Option.{ok_or}
 use Rattle.std.specs.Str.{bytes_eq}
 use Rattle.serde_json.specs.Data.{Data, null, boolean, number, string, array, object, Items, no_items, item, Members}
@@ -19,11 +19,13 @@ use Rattle.input_text.specs.Fields.{◌>>=◌, field, items_from, list_of, an_in
 use Rattle.input_text.specs.Values.{int_value, ref_value, value_by, value_of}
 use Rattle.input_text.specs.Objects.{instance_of, a_byte, kind_of, nums_of, refs_of, object_of}
 use Rattle.input_text.specs.Inputs.{int_input, shape_of, ref_fields, ref_input, input_of, number_in, nth_number, both_numbers, pair_of}
+use Rattle.input_text.specs.WorldLines.{text_in, nth_text, name_behind, line_with, line_of_items, world_line, is_third_form, world_lines}
 use Rattle.input_text.specs.Descriptions.{is_first_form, static_inputs, desc_end, desc_fields, description_of}
 use Rattle.input_text.specs.States.{static_values, state_end, state_fields, state_of}
 use Rattle.input_text.specs.declared.fault.DescFault.{DescFault}
 use Rattle.input_text.specs.declared.texts.EntryName.{EntryName}
 use Rattle.input_text.specs.declared.texts.InputText.{InputText}
+use Rattle.input_text.specs.declared.texts.WorldLine.{WorldLine}
 
 abbrev IsOther : JsonFault → Type 0
 IsOther NotJson = ⊥
@@ -221,13 +223,44 @@ of_pair : AreClean pair_of
 unfolding pair_of
 of_pair here = bind _ _ (items here) (λ count. choice (count == 2) _ _ (of_both here) tt)
 
+in_text : (place : List ℕ) (there : Option Located) → IsClean (text_in place there)
+in_text place (Some there) = text there
+in_text place None = tt
+
+of_nth : (n : ℕ) → AreClean (nth_text n)
+unfolding nth_text
+of_nth n here = in_text here.place (item_of n here)
+
+of_name : (count : ℕ) → AreClean (name_behind count)
+unfolding name_behind
+of_name count here = choice (count == 2) _ _ (of_nth 1 here) tt
+
+of_line_with : (word : List ℕ) (count : ℕ) → AreClean (line_with word count)
+unfolding line_with
+of_line_with word count here =
+    choice (bytes_eq word (codes "initialised")) _ _ (bind _ _ (of_name count here) (λ _. tt))
+    (choice (bytes_eq word (codes "passed")) _ _ (bind _ _ (of_name count here) (λ _. tt)) tt)
+
+of_line_items : (count : ℕ) → AreClean (line_of_items count)
+unfolding line_of_items
+of_line_items count here = choice (nat_lt 0 count) _ _ (bind _ _ (of_nth 0 here) (λ word. of_line_with word count here)) tt
+
+of_line : AreClean world_line
+unfolding world_line
+of_line here = bind _ _ (items here) (λ count. of_line_items count here)
+
+of_world : (form : ℤ) → AreClean (world_lines form)
+unfolding world_lines
+of_world form here = choice (is_third_form form) _ _ (of_field (codes "world") (list_of world_line) (of_list world_line of_line) here) tt
+
 of_statics : (form : ℤ) → AreClean (static_inputs form)
 unfolding static_inputs
 of_statics form here = choice (is_first_form form) _ _ tt (of_field (codes "statics") (list_of input_of) (of_list input_of of_input) here)
 
-of_desc_end : (form : ℤ) (entry : EntryName) (params : List InputText) → AreClean (desc_end form entry params)
+of_desc_end : (form : ℤ) (entry : EntryName) (world : List WorldLine) (params : List InputText)
+    → AreClean (desc_end form entry world params)
 unfolding desc_end
-of_desc_end form entry params here =
+of_desc_end form entry world params here =
     bind _ _ (of_field (codes "same") (list_of pair_of) (of_list pair_of of_pair) here) (λ _.
     bind _ _ (of_field (codes "share") (list_of pair_of) (of_list pair_of of_pair) here) (λ _.
     bind _ _ (of_statics form here) (λ _. tt)))
@@ -237,11 +270,12 @@ unfolding desc_fields
 of_desc_fields form here =
     bind _ _ (only _ here) (λ _.
     bind _ _ (of_entry here) (λ entry.
+    bind _ _ (of_world form here) (λ world.
     bind _ _ (of_field (codes "params") (list_of input_of) (of_list input_of of_input) here)
-    (λ params. of_desc_end form entry params here)))
+    (λ params. of_desc_end form entry world params here))))
 
 of_form : {A : Type 0} (next : ℤ → Reader A) → ((form : ℤ) → AreClean (next form)) → (here : Located)
-    → IsClean (field (codes "form") (int_of (Rattle.std.proofs.Common.pos 1) (Rattle.std.proofs.Common.pos 2)) here >>= λ form. next
+    → IsClean (field (codes "form") (int_of (Rattle.std.proofs.Common.pos 1) (Rattle.std.proofs.Common.pos 3)) here >>= λ form. next
     form here)
 of_form next c here = bind _ _ (of_field (codes "form") (int_of _ _) (int _ _) here) (λ form. c form here)
 
@@ -254,16 +288,19 @@ unfolding static_values
 of_static_values form here = choice (is_first_form form) _ _ tt
     (bind _ _ (of_field (codes "statics") (list_of value_of) (of_list value_of of_value) here) (λ _. tt))
 
-of_state_end : (form : ℤ) (entry : EntryName) → AreClean (state_end form entry)
+of_state_end : (form : ℤ) (entry : EntryName) (world : List WorldLine) → AreClean (state_end form entry world)
 unfolding state_end
-of_state_end form entry here =
+of_state_end form entry world here =
     bind _ _ (of_field (codes "args") (list_of value_of) (of_list value_of of_value) here) (λ _.
     bind _ _ (of_field (codes "heap") (list_of object_of) (of_list object_of of_object) here) (λ _.
     bind _ _ (of_static_values form here) (λ _. tt)))
 
 of_state_fields : (form : ℤ) → AreClean (state_fields form)
 unfolding state_fields
-of_state_fields form here = bind _ _ (only _ here) (λ _. bind _ _ (of_entry here) (λ entry. of_state_end form entry here))
+of_state_fields form here =
+    bind _ _ (only _ here) (λ _.
+    bind _ _ (of_entry here) (λ entry.
+    bind _ _ (of_world form here) (λ world. of_state_end form entry world here)))
 
 pub of_state : AreClean state_of
 unfolding state_of

@@ -4,9 +4,11 @@ use Rattle.std.proofs.Common.{append_assoc, append-nil, codes, cond}
 use Rattle.std.specs.List.{AllByRecursion, list_all}
 use Rattle.std.proofs.lemmas.Grind.{flat_map-append}
 use Rattle.std.proofs.lemmas.List.Folds.{list_all-append}
+use Rattle.survey.specs.declared.assuming.Assumed.{Assumed}
 use Rattle.survey.specs.declared.survey_notes.touching.Touched.{Touched}
 use Rattle.survey.specs.Claims.{Surveyed, IsProved, IsTrueLine, AreTrue}
 use Rattle.list_views.specs.FaultWords.{joined}
+use Rattle.survey.specs.Lines.{narrow_text, others_text, passed_text, assumed_text}
 use Rattle.survey.specs.Lines.{yes_line, words_text, given_text, errors_text, exceptions_text, constants_text, is_name_byte, is_plain, printed, ended, text_of}
 use Rattle.survey.specs.inner.Wording.{head_text, other_line, GrowsTrue}
 use Rattle.survey.specs.declared.lines.Head.{Head}
@@ -124,6 +126,33 @@ given_stays : (given : Bool) → list_all stays (given_text given) ≡ true
 given_stays true = refl
 given_stays false = refl
 
+narrow_stays : (assumed : Assumed) → list_all stays (narrow_text assumed) ≡ true
+narrow_stays assumed = go assumed.narrow
+  where
+    go : (b : Bool) → list_all stays (cond b (codes " narrow") []) ≡ true
+    go true = refl
+    go false = refl
+
+passed_stays : (assumed : Assumed) → list_all stays (passed_text assumed) ≡ true
+passed_stays assumed = go assumed.passed
+  where
+    go : (b : Bool) → list_all stays (cond b (codes " passed") []) ≡ true
+    go true = refl
+    go false = refl
+
+others_stay : (others : List (List ℕ)) → list_all is_plain others ≡ true → list_all stays (others_text others) ≡ true
+others_stay [] e = refl
+others_stay (name ∷ others) e =
+    let both = both_true_bits (is_plain name) (list_all is_plain others) e in
+    both_stay (codes " initialised=" ++ name) (others_text others)
+    (both_stay (codes " initialised=") name refl (name_stays name both.0)) (others_stay others both.1)
+
+assumed_stay : (assumed : Assumed) → list_all is_plain assumed.others ≡ true → list_all stays (assumed_text assumed) ≡ true
+assumed_stay assumed e =
+    both_stay (narrow_text assumed ++ others_text assumed.others) (passed_text assumed)
+    (both_stay (narrow_text assumed) (others_text assumed.others) (narrow_stays assumed) (others_stay assumed.others e))
+    (passed_stays assumed)
+
 errors_stay : (touched : Touched) → list_all stays (errors_text touched) ≡ true
 errors_stay touched = go touched.errors
   where
@@ -145,29 +174,43 @@ constants_stay touched = go touched.constants
     go true = refl
     go false = refl
 
-module _ (s : Surveyed) (class name desc : List ℕ) (given : Bool) (touched : Touched) where
-  yes_stays : is_plain class ≡ true → is_plain name ≡ true → is_plain desc ≡ true
-      → list_all stays (yes_line class name desc given touched) ≡ true
-  yes_stays c n d = both_stay (joined (codes "YES " ∷ class ∷ codes "." ∷ name ∷ desc ∷ [])) (words_text given touched)
+module _ (s : Surveyed) (class name desc : List ℕ) (given : Bool) (assumed : Assumed) (touched : Touched) where
+  abbrev front : List ℕ
+  front = given_text given ++ assumed_text assumed
+
+  yes_stays : is_plain class ≡ true → is_plain name ≡ true → is_plain desc ≡ true → list_all is_plain assumed.others ≡ true
+      → list_all stays (yes_line class name desc given assumed touched) ≡ true
+  yes_stays c n d o = both_stay (joined (codes "YES " ∷ class ∷ codes "." ∷ name ∷ desc ∷ [])) (words_text given assumed touched)
       (all_stay (codes "YES " ∷ class ∷ codes "." ∷ name ∷ desc ∷ [])
       (refl, (name_stays class c, (refl, (name_stays name n, (name_stays desc d, tt))))))
-      (both_stay ((given_text given ++ errors_text touched) ++ exceptions_text touched) (constants_text touched)
-      (both_stay (given_text given ++ errors_text touched) (exceptions_text touched)
-      (both_stay (given_text given) (errors_text touched) (given_stays given) (errors_stay touched)) (exceptions_stay touched))
+      (both_stay ((front ++ errors_text touched) ++ exceptions_text touched) (constants_text touched)
+      (both_stay (front ++ errors_text touched) (exceptions_text touched)
+      (both_stay front (errors_text touched)
+      (both_stay (given_text given) (assumed_text assumed) (given_stays given) (assumed_stay assumed o)) (errors_stay touched))
+      (exceptions_stay touched))
       (constants_stay touched))
 
-  pub yes_true : is_plain class ≡ true → is_plain name ≡ true → is_plain desc ≡ true → IsProved s given class name desc
-      → IsTrueLine s (yes_line class name desc given touched)
-  yes_true c n d proved = record {
-    one = yes_stays c n d;
-    holds = λ begins. record
-        { class = class; name = name; desc = desc; given = given; touched = touched; is = refl; plain = (c, (n, d)); proved = proved };
+  pub yes_true : is_plain class ≡ true → is_plain name ≡ true → is_plain desc ≡ true → list_all is_plain assumed.others ≡ true
+      → IsProved s given assumed class name desc → IsTrueLine s (yes_line class name desc given assumed touched)
+  yes_true c n d o proved = record {
+    one = yes_stays c n d o;
+    holds = λ begins. record {
+      class = class;
+      name = name;
+      desc = desc;
+      given = given;
+      assumed = assumed;
+      touched = touched;
+      is = refl;
+      plain = (c, (n, (d, o)));
+      proved = proved;
+    };
   }
 
 -- the lines of a method whose every run ends
-pub yes_lined : (class name desc line text : List ℕ) (given : Bool) (touched : Touched) → is_plain class ≡ true → is_plain name ≡ true
-    → is_plain desc ≡ true → line ≡ yes_line class name desc given touched
-    → ((s : Surveyed) → IsTrueLine s line → AreTrue s [] → AreTrue s text)
-    → (s : Surveyed) → IsProved s given class name desc → AreTrue s text
-yes_lined class name desc line text given touched c n d e grows s proved =
-    grows s (subst (IsTrueLine s) (sym e) (yes_true s class name desc given touched c n d proved)) (nothing_true s)
+pub yes_lined : (class name desc line text : List ℕ) (given : Bool) (assumed : Assumed) (touched : Touched) → is_plain class ≡ true
+    → is_plain name ≡ true → is_plain desc ≡ true → list_all is_plain assumed.others ≡ true
+    → line ≡ yes_line class name desc given assumed touched → ((s : Surveyed) → IsTrueLine s line → AreTrue s [] → AreTrue s text)
+    → (s : Surveyed) → IsProved s given assumed class name desc → AreTrue s text
+yes_lined class name desc line text given assumed touched c n d o e grows s proved =
+    grows s (subst (IsTrueLine s) (sym e) (yes_true s class name desc given assumed touched c n d o proved)) (nothing_true s)

@@ -2,16 +2,18 @@
 use Rattle.std.specs.Prelude.{◌≡◌, ◌==◌, ℕ, Bool, true, false, not, List, ◌++◌, slice_get, Some, Ok, IsTrue, is_some, codes}
 use Rattle.std.specs.List.{list_all, AllByRecursion}
 use Rattle.class_read.specs.Content.{ClassContent, MethodContent}
-use Rattle.class_world.specs.declared.world.MethodRef.{MethodRef}
-use Rattle.class_world.specs.World.{World}
-use Rattle.class_world.specs.Members.{find_method}
+use Rattle.class_program.specs.Programs.{Program}
 use Rattle.input_text.specs.Answers.{SaysOf}
 use Rattle.input_text.specs.Descriptions.{description_of}
 use Rattle.input_text.specs.declared.texts.DescText.{DescText}
-use Rattle.input_steps.specs.Classes.{AllSpell, IsWorldOf}
+use Rattle.input_text.specs.declared.texts.WorldLine.{WorldLine}
+use Rattle.input_steps.specs.Classes.{AllSpell}
 use Rattle.prove_call.specs.DescStepsHeadline.{AllEnd}
-use Rattle.class_calls.specs.describe.Calls.{DescribesEntry}
+use Rattle.class_calls.specs.describe.Calls.{IsMethodProgram}
+use Rattle.class_calls.specs.describe.Templates.{IsTemplate}
+use Rattle.survey.specs.declared.assuming.Assumed.{Assumed}
 use Rattle.survey.specs.declared.survey_notes.touching.Touched.{Touched}
+use Rattle.survey.specs.Assumptions.{Shows}
 use Rattle.survey.specs.Lines.{yes_line, is_plain, text_of}
 
 -- What is surveyed: the bytes of the class files, and those of the descriptions that were handed in.
@@ -21,16 +23,14 @@ pub record Surveyed : Type 0 where
 
 -- ---- a method is proved
 
--- A description that leaves no input of a method out: the files spell classes, which make a world; the class of that name declares a
--- method of that name and descriptor; and this is a template of its program, as `describe` writes it (`IsTemplate` of `describe`).
-pub record IsOpenText (files : List (List ℕ)) (class name desc text : List ℕ) : Type 0 where
-  pub classes : List ClassContent
-  pub spelled : AllSpell files classes
-  pub world : World
-  pub makes : IsWorldOf classes world
-  pub entry : MethodRef
-  pub found : find_method world class name desc ≡ Some entry
-  pub described : DescribesEntry world entry text
+-- A description that leaves no input of a method out: this is a template of the method's program, as `describe` writes it (`IsTemplate`
+-- of `describe`), in the world that the classes make as its lines say; and all that the lines take to be so is shown.
+pub record IsOpenText (assumed : Assumed) (files : List (List ℕ)) (class name desc text : List ℕ) : Type 0 where
+  pub lines : List WorldLine
+  pub p : Program
+  pub program : IsMethodProgram lines files class name desc p
+  pub shown : Shows p.world class lines assumed
+  pub template : IsTemplate assumed.narrow lines p text
 
 -- a text is a description, and names a method
 pub record NamesMethod (class name desc text : List ℕ) : Type 0 where
@@ -47,30 +47,35 @@ pub record IsGivenText (descs : List (List ℕ)) (class name desc text : List �
   pub names : NamesMethod class name desc text
 
 -- the description under which a method is proved: one that was handed in, or the method's template
-abbrev pub IsTextOf : Bool → Surveyed → List ℕ → List ℕ → List ℕ → List ℕ → Type 0
-IsTextOf true s = IsGivenText s.descs
-IsTextOf false s = IsOpenText s.files
+abbrev pub IsTextOf : Bool → Assumed → Surveyed → List ℕ → List ℕ → List ℕ → List ℕ → Type 0
+IsTextOf true assumed s = IsGivenText s.descs
+IsTextOf false assumed s = IsOpenText assumed s.files
 
 -- The headline of `prove` for the method and that description (`AllEnd` of `desc_steps`): every state that it fits comes to a return,
 -- or to a throw that nothing catches, and no state on the way is stuck.
-pub record IsProved (s : Surveyed) (given : Bool) (class name desc : List ℕ) : Type 0 where
+pub record IsProved (s : Surveyed) (given : Bool) (assumed : Assumed) (class name desc : List ℕ) : Type 0 where
   pub text : List ℕ
-  pub is : IsTextOf given s class name desc text
+  pub is : IsTextOf given assumed s class name desc text
   pub ends : AllEnd s.files text
+
+-- a method is proved under one description or the other, with whatever assumptions
+abbrev pub IsProvedSo : Surveyed → List ℕ → List ℕ → List ℕ → Type 0
+IsProvedSo s class name desc = (given : Bool) × ((assumed : Assumed) × IsProved s given assumed class name desc)
 
 -- ---- lines
 
--- What a line that begins with `YES` says is true: it names a method, says under which description, and the method is
--- proved under that. None of the names has a blank, so that the words behind them are no part of one.
+-- What a line that begins with `YES` says is true: it names a method, says under which description and with which assumptions, and the
+-- method is proved so. None of the names has a blank, so that the words behind them are no part of one.
 pub record HoldsYes (s : Surveyed) (line : List ℕ) : Type 0 where
   pub class : List ℕ
   pub name : List ℕ
   pub desc : List ℕ
   pub given : Bool
+  pub assumed : Assumed
   pub touched : Touched
-  pub is : line ≡ yes_line class name desc given touched
-  pub plain : IsTrue (is_plain class) × (IsTrue (is_plain name) × IsTrue (is_plain desc))
-  pub proved : IsProved s given class name desc
+  pub is : line ≡ yes_line class name desc given assumed touched
+  pub plain : IsTrue (is_plain class) × (IsTrue (is_plain name) × (IsTrue (is_plain desc) × IsTrue (list_all is_plain assumed.others)))
+  pub proved : IsProved s given assumed class name desc
 
 -- a line begins with `YES`
 abbrev pub BeginsYes : List ℕ → Type 0
@@ -89,9 +94,9 @@ pub record AreTrue (s : Surveyed) (text : List ℕ) : Type 0 where
 
 -- ---- the whole
 
--- a method that has code is proved, under one description or the other
+-- a method that has code is proved, under one description or the other, with whatever assumptions its line shows
 abbrev pub IsProvedMethod : Surveyed → List ℕ → MethodContent → Type 0
-IsProvedMethod s class m = IsTrue (is_some m.code) → (given : Bool) × IsProved s given class m.name m.desc
+IsProvedMethod s class m = IsTrue (is_some m.code) → IsProvedSo s class m.name m.desc
 
 -- every method of a class that has code is proved
 abbrev pub IsProvedClass : Surveyed → ClassContent → Type 0

@@ -1,3 +1,4 @@
+pub mod Assumptions
 pub mod Claims
 pub mod Lines
 pub mod Outside

@@ -2,6 +2,7 @@
 use Rattle.std.specs.Prelude.{ℕ, ◌==◌, ◌||◌, ◌&&◌, not, Bool, List, [], ◌∷◌, ◌++◌, nat_lt, codes, if◌then◌else◌}
 use Rattle.std.specs.List.{list_all, flat_map}
 use Rattle.list_views.specs.FaultWords.{joined}
+use Rattle.survey.specs.declared.assuming.Assumed.{Assumed}
 use Rattle.survey.specs.declared.survey_notes.touching.Touched.{Touched}
 
 -- ---- where every run ends
@@ -25,13 +26,30 @@ exceptions_text touched = if touched.exceptions then codes " compares-exceptions
 abbrev pub constants_text : Touched → List ℕ
 constants_text touched = if touched.constants then codes " constant-value" else []
 
--- the words behind a proved method: whether its description was handed in, and the premises that its program touches
-abbrev pub words_text : Bool → Touched → List ℕ
-words_text given touched = ((given_text given ++ errors_text touched) ++ exceptions_text touched) ++ constants_text touched
+-- the word behind a method whose parameters of type boolean, byte, char and short have the numbers of their types alone
+abbrev pub narrow_text : Assumed → List ℕ
+narrow_text assumed = if assumed.narrow then codes " narrow" else []
+
+-- a word for each other class that is taken to be initialised before the run
+abbrev pub others_text : List (List ℕ) → List ℕ
+others_text others = flat_map (λ name. codes " initialised=" ++ name) others
+
+-- the word behind a method in whose world an interface is passed over
+abbrev pub passed_text : Assumed → List ℕ
+passed_text assumed = if assumed.passed then codes " passed" else []
+
+-- the words for all that is assumed
+abbrev pub assumed_text : Assumed → List ℕ
+assumed_text assumed = (narrow_text assumed ++ others_text assumed.others) ++ passed_text assumed
+
+-- the words behind a proved method: whether its description was handed in, what is assumed, and the premises that its program touches
+abbrev pub words_text : Bool → Assumed → Touched → List ℕ
+words_text given assumed touched = (((given_text given ++ assumed_text assumed) ++ errors_text touched) ++ exceptions_text touched) ++ constants_text touched
 
 -- the line of a proved method: `YES CLASS.NAMEDESC`, and its words
-abbrev pub yes_line : List ℕ → List ℕ → List ℕ → Bool → Touched → List ℕ
-yes_line class name desc given touched = joined (codes "YES " ∷ class ∷ codes "." ∷ name ∷ desc ∷ []) ++ words_text given touched
+abbrev pub yes_line : List ℕ → List ℕ → List ℕ → Bool → Assumed → Touched → List ℕ
+yes_line class name desc given assumed touched = joined (codes "YES " ∷ class ∷ codes "." ∷ name ∷ desc ∷ []) ++ words_text given
+    assumed touched
 
 -- A name stands in such a line as it is, so none of its bytes ends or divides the line: it has no blank and no control character.
 abbrev pub is_name_byte : ℕ → Bool

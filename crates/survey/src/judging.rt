@@ -1,28 +1,27 @@
 //! What is said of one method.
 ghost use Rattle.std.specs.Prelude.{◌≡◌, ◌≤◌, length, map, slice_get, Some, IfOk, IfSome, IsTrue};
-ghost use Rattle.std.specs.List.{AllByRecursion};
 ghost use Rattle.class_base.specs.Limits.{most_classes};
-ghost use Rattle.class_world.specs.Linking.{CanBeRead};
-ghost use Rattle.class_world.specs.Members.{find_method};
-ghost use Rattle.class_world.specs.Resolve.{has_body};
 ghost use Rattle.class_world.specs.Worlds.{classes_of};
 ghost use Rattle.class_program.specs.Views.{program_of};
 ghost use Rattle.input_text.specs.Answers.{SaysOf};
 ghost use Rattle.input_text.specs.Descriptions.{description_of};
+ghost use Rattle.class_calls.specs.describe.Calls.{IsMethodProgram};
 ghost use Rattle.class_calls.specs.describe.Templates.{IsTemplate};
+ghost use Rattle.survey.specs.Assumptions.{Shows};
 ghost use Rattle.prove_call.specs.Headline.{IsProved as SaysYes};
 ghost use Rattle.survey.specs.Claims.{Surveyed, NamesMethod, IsGivenText, IsOpenText, IsProved};
-ghost use Rattle.survey.specs.inner.Wording.{surveyed, IsMethodProgram, IsJudged};
+ghost use Rattle.survey.specs.inner.Wording.{surveyed, IsJudged};
 
+use crate::assuming::{Assumed, assumed_of, has_narrow, nothing_assumed};
 use crate::lines::{Head, MethodWords, method_text};
 use crate::survey_notes::{Sources, Touched, premises_of};
 use crate::survey_why::{NARROWINGS, narrowed, put_advice, reason_text};
-use class_calls::describe::{DescribeFault, template};
+use class_calls::describe::{DescribeFault, MethodNames, UnderLines, program_under, template};
 use class_program::Program;
 use class_read::ClassView;
-use class_world::{LinkFault, MethodRef, World};
-use input_steps::{Fault, Place, Refused, close, link, read_classes};
-use input_text::{DescFault, DescText};
+use class_world::LinkFault;
+use input_steps::{Fault, Place, Refused};
+use input_text::{DescFault, DescText, WorldLine};
 use list_views::Seq;
 use prove_call::{Answer, prove_line};
 use std::alloc::{AllocError, Global};
@@ -39,6 +38,10 @@ pub(crate) struct Scope<'s, 'a> {
     pub(crate) classes: &'s [ClassView<'a>],
     /// The descriptions that were handed in.
     pub(crate) descs: &'s [Vec<u8>],
+    /// The interfaces that are passed over, as lines about classes.
+    pub(crate) lines: &'s [WorldLine],
+    /// Whether nothing is assumed of classes and parameters.
+    pub(crate) strict: bool,
     /// Whether advice is given.
     pub(crate) why: bool,
 }
@@ -60,6 +63,8 @@ pub(crate) enum Judged {
     Yes {
         /// Under a description that was handed in; else under its template.
         given: bool,
+        /// What is assumed of classes and parameters.
+        assumed: Assumed,
         /// The premises that its program touches.
         touched: Touched,
     },
@@ -87,43 +92,36 @@ fn no_entry(alloc: Global, method: &MethodWords<'_>) -> Result<Refused, AllocErr
     })
 }
 
-/// The method of these names, which has a body.
-fn entry_in(
+/// The program of a method, under the lines that are given and, where leave to assume is given, those that it needs.
+fn method_program<'a>(
     alloc: Global,
-    world: &World<'_>,
+    files: &'a [Vec<u8>],
+    lines: &[WorldLine],
     method: &MethodWords<'_>,
-) -> Result<MethodRef, Refused>
-    ensures found { IfOk result (λ entry. find_method (classes_of world.now) method.now.class.now method.now.name.now
-        method.now.desc.now ≡ Some entry) }
-    ensures body { IfOk result (λ entry. IsTrue (has_body (classes_of world.now) entry)) }
+    assuming: bool,
+) -> Result<UnderLines<'a>, Refused>
+    requires { length files.now ≤ most_classes }
+    ensures { IfOk result (λ under. IsMethodProgram under.lines (map (λ file. file.items) files.now) method.now.class.now
+        method.now.name.now method.now.desc.now (program_of under.program)) }
 {
-    match world.find(method.class, method.name, method.desc) {
-        Some(entry) => {
-            if world.has_body(entry) {
-                Ok(entry)
-            } else {
-                Err(no_entry(alloc, method)?)
-            }
-        }
+    let names = MethodNames {
+        class: method.class,
+        name: method.name,
+        desc: method.desc,
+    };
+    match program_under(alloc, files, lines, &names, assuming)? {
+        Some(under) => Ok(under),
         None => Err(no_entry(alloc, method)?),
     }
 }
 
-/// The program of a method.
-#[tactic(auto, using(crate::proofs::Judgements::method_program, crate::proofs::Judgements::few_classes, crate::proofs::Judgements::classes_read))]
-fn method_program<'a>(
-    alloc: Global,
-    files: &'a [Vec<u8>],
-    method: &MethodWords<'_>,
-) -> Result<Program<'a>, Refused>
-    requires { length files.now ≤ most_classes }
-    ensures { IfOk result (λ program. IsMethodProgram (map (λ file. file.items) files.now) method.now.class.now method.now.name.now
-        method.now.desc.now (program_of program)) }
-{
-    let classes = read_classes(alloc, files)?;
-    let world = link(alloc, classes)?;
-    let entry = entry_in(alloc, &world, method)?;
-    close(alloc, world, entry)
+/// The lines about classes that a description says. One that can't be read says none.
+fn lines_said(alloc: Global, text: &[u8]) -> Result<Seq<WorldLine>, AllocError> {
+    match DescText::read(alloc, text) {
+        Ok(said) => Ok(said.world),
+        Err(DescFault::Memory) => Err(AllocError),
+        Err(_) => Ok(Seq::new(alloc)),
+    }
 }
 
 /// Whether a description's text names a method.
@@ -286,18 +284,23 @@ fn told(
     method: &MethodWords<'_>,
     program: &Program<'_>,
     given: bool,
+    assumed: Assumed,
     template: Option<&[u8]>,
     answer: &Answer,
 ) -> Result<Judged, Refused>
     requires few { length scope.now.files.now ≤ most_classes }
-    requires proved { answer.now.status ≡ 0 → IsProved (surveyed scope.now.files.now scope.now.descs.now) given method.now.class.now
-        method.now.name.now method.now.desc.now }
+    requires proved { answer.now.status ≡ 0 → IsProved (surveyed scope.now.files.now scope.now.descs.now) given assumed
+        method.now.class.now method.now.name.now method.now.desc.now }
     ensures { IfOk result (IsJudged (surveyed scope.now.files.now scope.now.descs.now) method.now.class.now method.now.name.now
         method.now.desc.now) }
 {
     if answer.status == 0 {
         let touched = premises_of(alloc, &scope.sources(), program)?;
-        Ok(Judged::Yes { given, touched })
+        Ok(Judged::Yes {
+            given,
+            assumed,
+            touched,
+        })
     } else {
         Ok(maybe(alloc, scope, method, program, template, answer)?)
     }
@@ -309,7 +312,6 @@ fn judged_as_given(
     alloc: Global,
     scope: &Scope<'_, '_>,
     method: &MethodWords<'_>,
-    program: &Program<'_>,
     text: &[u8],
 ) -> Result<Judged, Refused>
     requires few { length scope.now.files.now ≤ most_classes }
@@ -318,8 +320,19 @@ fn judged_as_given(
     ensures { IfOk result (IsJudged (surveyed scope.now.files.now scope.now.descs.now) method.now.class.now method.now.name.now
         method.now.desc.now) }
 {
+    let lines = lines_said(alloc, text)?;
+    let under = method_program(alloc, scope.files, lines.as_slice(), method, false)?;
     let answer = prove_line(alloc, text, scope.files, NODES)?;
-    told(alloc, scope, method, program, true, None, &answer)
+    told(
+        alloc,
+        scope,
+        method,
+        &under.program,
+        true,
+        nothing_assumed(alloc),
+        None,
+        &answer,
+    )
 }
 
 /// What is said of a method under its template.
@@ -329,40 +342,77 @@ fn judged_as_open(
     scope: &Scope<'_, '_>,
     method: &MethodWords<'_>,
     program: &Program<'_>,
+    assumed: Assumed,
     text: &[u8],
 ) -> Result<Judged, Refused>
     requires few { length scope.now.files.now ≤ most_classes }
-    requires open { IsOpenText (map (λ file. file.items) scope.now.files.now) method.now.class.now method.now.name.now
+    requires open { IsOpenText assumed (map (λ file. file.items) scope.now.files.now) method.now.class.now method.now.name.now
         method.now.desc.now text.now }
     ensures { IfOk result (IsJudged (surveyed scope.now.files.now scope.now.descs.now) method.now.class.now method.now.name.now
         method.now.desc.now) }
 {
     let answer = prove_line(alloc, text, scope.files, NODES)?;
-    told(alloc, scope, method, program, false, Some(text), &answer)
+    told(
+        alloc,
+        scope,
+        method,
+        program,
+        false,
+        assumed,
+        Some(text),
+        &answer,
+    )
 }
 
-/// What is said of a method for which no description was handed in.
+/// What is said of a method under the template of its program.
 #[tactic(auto, using(crate::proofs::Judgements::is_open))]
-fn judged_by_template(
+fn judged_under(
     alloc: Global,
     scope: &Scope<'_, '_>,
     method: &MethodWords<'_>,
-    program: &Program<'_>,
+    under: &UnderLines<'_>,
+    narrow: bool,
 ) -> Result<Judged, Refused>
     requires few { length scope.now.files.now ≤ most_classes }
-    requires program { IsMethodProgram (map (λ file. file.items) scope.now.files.now) method.now.class.now method.now.name.now
-        method.now.desc.now (program_of program.now) }
+    requires program { IsMethodProgram under.now.lines (map (λ file. file.items) scope.now.files.now) method.now.class.now
+        method.now.name.now method.now.desc.now (program_of under.now.program) }
     ensures { IfOk result (IsJudged (surveyed scope.now.files.now scope.now.descs.now) method.now.class.now method.now.name.now
         method.now.desc.now) }
 {
-    match template(alloc, program) {
-        Ok(text) => judged_as_open(alloc, scope, method, program, text.as_slice()),
+    let lines = under.lines.as_slice();
+    let assumed = assumed_of(alloc, &under.program.world, method.class, lines, narrow)?;
+    match template(alloc, &under.program, lines, narrow) {
+        Ok(text) => judged_as_open(
+            alloc,
+            scope,
+            method,
+            &under.program,
+            assumed,
+            text.as_slice(),
+        ),
         Err(DescribeFault::Memory) => Err(Refused::Memory),
         Err(_) => Ok(refused_for(alloc, method, b" description: Unwritable")?),
     }
 }
 
-/// What is said of a method: by the first description that was handed in and names it, else by its template.
+/// What is said of a method for which no description was handed in.
+fn judged_by_template(
+    alloc: Global,
+    scope: &Scope<'_, '_>,
+    method: &MethodWords<'_>,
+) -> Result<Judged, Refused>
+    requires { length scope.now.files.now ≤ most_classes }
+    ensures { IfOk result (IsJudged (surveyed scope.now.files.now scope.now.descs.now) method.now.class.now method.now.name.now
+        method.now.desc.now) }
+{
+    let under = method_program(alloc, scope.files, scope.lines, method, !scope.strict)?;
+    let narrow = !scope.strict && has_narrow(&under.program);
+    judged_under(alloc, scope, method, &under, narrow)
+}
+
+/// What is said of a method: by the first description that was handed in and names it, else by its template. Where nothing is said of
+/// it, each further class that the method's program would initialise is taken to be initialised before, and parameters of type boolean,
+/// byte, char and short have the numbers of their types; a strict survey assumes neither.
 ///
 /// # Errors
 ///
@@ -376,9 +426,8 @@ pub(crate) fn judge(
     ensures { IfOk result (IsJudged (surveyed scope.now.files.now scope.now.descs.now) method.now.class.now method.now.name.now
         method.now.desc.now) }
 {
-    let program = method_program(alloc, scope.files, method)?;
     match given_for(alloc, scope.descs, method)? {
-        Some(text) => judged_as_given(alloc, scope, method, &program, text.as_slice()),
-        None => judged_by_template(alloc, scope, method, &program),
+        Some(text) => judged_as_given(alloc, scope, method, text.as_slice()),
+        None => judged_by_template(alloc, scope, method),
     }
 }

@@ -10,8 +10,9 @@ use crate::lines::Head;
 use crate::putting::put_other;
 use crate::reading::{Kept, named};
 use class_read::ClassView;
-use class_world::LinkFault;
+use class_world::{LinkFault, is_built_in};
 use input_steps::{Fault, Refused, link, read_classes};
+use input_text::WorldLine;
 use io_ports::Sink;
 use list_views::Seq;
 use std::alloc::{AllocError, Global};
@@ -88,21 +89,21 @@ fn culprit_of(alloc: Global, files: &[Vec<u8>], fault: &Fault) -> Result<Culprit
     })
 }
 
-/// Whether classes make a world, or the fault that they have.
-#[tactic(auto, using(crate::proofs::Judgements::few_classes, crate::proofs::Judgements::classes_read))]
-fn tried(alloc: Global, files: &[Vec<u8>]) -> Result<(), Refused>
+/// Whether classes make a world as some lines say, or the fault that they have.
+#[tactic(auto, using(crate::proofs::Judgements::few_classes, crate::proofs::Judgements::classes_link))]
+fn tried(alloc: Global, files: &[Vec<u8>], lines: &[WorldLine]) -> Result<(), Refused>
     requires { length files.now ≤ most_classes }
 {
     let classes = read_classes(alloc, files)?;
-    let _world = link(alloc, classes)?;
+    let _world = link(alloc, lines, classes)?;
     Ok(())
 }
 
 /// The class file that can't be linked with the others, where there is one.
-fn unlinked(alloc: Global, files: &[Vec<u8>]) -> Result<Option<Culprit>, Stop>
+fn unlinked(alloc: Global, files: &[Vec<u8>], lines: &[WorldLine]) -> Result<Option<Culprit>, Stop>
     requires { length files.now ≤ most_classes }
 {
-    let fault = match tried(alloc, files) {
+    let fault = match tried(alloc, files, lines) {
         Ok(()) => return Ok(None),
         Err(Refused::At { fault, .. }) => fault,
         Err(Refused::Memory) => return Err(Stop::Memory),
@@ -148,6 +149,7 @@ fn left_line(
 fn leave_one<O: Sink>(
     alloc: Global,
     words: &[String],
+    lines: &[WorldLine],
     kept: &mut Kept,
     out: &mut O,
 ) -> Result<bool, Stop>
@@ -157,7 +159,7 @@ fn leave_one<O: Sink>(
     ensures stay { StayRead (map (λ file. file.items) kept.old.files.items) (map (λ file. file.items) kept.new.files.items) }
     ensures fewer { length kept.new.files.items ≤ length kept.old.files.items }
 {
-    let found = match unlinked(alloc, kept.files.as_slice()) {
+    let found = match unlinked(alloc, kept.files.as_slice(), lines) {
         Ok(Some(found)) => found,
         Ok(None) => return Ok(false),
         Err(stop) => return Err(stop),
@@ -175,11 +177,88 @@ fn leave_one<O: Sink>(
     }
 }
 
-/// Leaves class files out until the others make a world. A line is put for each.
+/// Whether a class of this name is built in or among some, or the name is that of an interface that arrays implement.
+fn is_there(classes: &[ClassView<'_>], name: &[u8]) -> bool {
+    if name == b"java/lang/Cloneable".as_slice() || name == b"java/io/Serializable".as_slice() {
+        return true;
+    }
+    if is_built_in(name) {
+        return true;
+    }
+    for class in classes {
+        if class.name == name {
+            return true;
+        }
+    }
+    false
+}
+
+/// Whether a line passes an interface over.
+fn is_passed(lines: &[WorldLine], name: &[u8]) -> bool {
+    for line in lines {
+        match line {
+            WorldLine::Passed(interface) => {
+                if interface.as_slice() == name {
+                    return true;
+                }
+            }
+            WorldLine::Initialised(_) => {}
+        }
+    }
+    false
+}
+
+/// Puts a line for each interface that a class lists and that none of the classes is.
+fn pass_listed(
+    alloc: Global,
+    classes: &[ClassView<'_>],
+    class: &ClassView<'_>,
+    lines: &mut Seq<WorldLine>,
+) -> Result<(), AllocError> {
+    for interface in class.interfaces.as_slice() {
+        if !is_there(classes, *interface) && !is_passed(lines.as_slice(), *interface) {
+            lines.push(WorldLine::Passed(Seq::from_slice(alloc, *interface)?))?;
+        }
+    }
+    Ok(())
+}
+
+/// The lines that pass over each interface that a class of the files lists and that none of them is.
+fn missing_interfaces(alloc: Global, files: &[Vec<u8>]) -> Result<Seq<WorldLine>, Refused>
+    requires { length files.now ≤ most_classes }
+{
+    let classes = read_classes(alloc, files)?;
+    let mut lines = Seq::new(alloc);
+    for class in classes.iter() {
+        pass_listed(alloc, classes.as_slice(), class, &mut lines)?;
+    }
+    Ok(lines)
+}
+
+/// The lines that pass over the interfaces which are missing in lists of interfaces; none in a strict survey. An interface that is handed
+/// in is never passed over, though its file may be left out later.
+pub(crate) fn passing_lines(
+    alloc: Global,
+    strict: bool,
+    files: &[Vec<u8>],
+) -> Result<Seq<WorldLine>, Stop>
+    requires { length files.now ≤ most_classes }
+{
+    if strict {
+        return Ok(Seq::new(alloc));
+    }
+    match missing_interfaces(alloc, files) {
+        Ok(lines) => Ok(lines),
+        Err(_) => Err(Stop::Memory),
+    }
+}
+
+/// Leaves class files out until the others make a world, as some lines about classes say. A line is put for each.
 #[tactic(auto, using(crate::proofs::Telling::nothing_told, crate::proofs::Telling::told_all, crate::proofs::Telling::begun_all, crate::proofs::Kept::stay, crate::proofs::Kept::stay_on))]
 pub(crate) fn leave_out<O: Sink>(
     alloc: Global,
     words: &[String],
+    lines: &[WorldLine],
     kept: &mut Kept,
     out: &mut O,
 ) -> Result<(), Stop>
@@ -190,7 +269,7 @@ pub(crate) fn leave_out<O: Sink>(
     ensures few { length kept.new.files.items ≤ most_classes }
 {
     for _round in 0..kept.files.len() {
-        match leave_one(alloc, words, kept, out) {
+        match leave_one(alloc, words, lines, kept, out) {
             Ok(true) => {}
             Ok(false) => return Ok(()),
             Err(stop) => return Err(stop),

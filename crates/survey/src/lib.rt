@@ -5,6 +5,7 @@
 //! written), `specs/Words` (the words) and `specs/Outside` (what a survey reads and puts, and what its status says).
 #![tactic(auto)]
 
+mod assuming;
 mod failure;
 pub mod java_lines;
 mod judging;

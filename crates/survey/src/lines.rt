@@ -1,9 +1,12 @@
 //! Lines, as they are written.
 ghost use Rattle.std.specs.Prelude.{◌≡◌, ◌++◌, map, codes, IfOk, OnOk};
+ghost use Rattle.std.specs.List.{list_all};
+ghost use Rattle.survey.specs.Lines.{narrow_text, others_text, passed_text, assumed_text};
 ghost use Rattle.survey.specs.Lines.{given_text, errors_text, exceptions_text, constants_text, words_text};
 ghost use Rattle.survey.specs.Lines.{is_name_byte, is_plain, printed, yes_line};
 ghost use Rattle.survey.specs.inner.Wording.{head_text, other_line};
 
+use crate::assuming::Assumed;
 use crate::survey_notes::Touched;
 use list_views::Seq;
 use list_views::fault_words::joined;
@@ -77,6 +80,18 @@ pub(crate) fn is_plain(name: &[u8]) -> bool
     name.iter().all(|byte| is_name_byte(*byte))
 }
 
+/// Whether names can stand in such a line.
+pub(crate) fn are_plain(names: &[Seq<u8>]) -> bool
+    ensures { result ≡ list_all is_plain names.now }
+{
+    for name in names {
+        if !is_plain(name.as_slice()) {
+            return false;
+        }
+    }
+    true
+}
+
 fn given_text(given: bool) -> &'static [u8]
     ensures { result.now ≡ given_text given }
 {
@@ -113,6 +128,40 @@ fn constants_text(touched: Touched) -> &'static [u8]
     }
 }
 
+fn narrow_text(assumed: &Assumed) -> &'static [u8]
+    ensures { result.now ≡ narrow_text assumed.now }
+{
+    if assumed.narrow { b" narrow" } else { b"" }
+}
+
+fn passed_text(assumed: &Assumed) -> &'static [u8]
+    ensures { result.now ≡ passed_text assumed.now }
+{
+    if assumed.passed { b" passed" } else { b"" }
+}
+
+/// Puts a word for each other class that is taken to be initialised behind a line.
+#[tactic(auto, using(crate::proofs::Walks::others_more, crate::proofs::Walks::others_end))]
+fn put_others(line: &mut Seq<u8>, others: &[Seq<u8>]) -> Result<(), AllocError>
+    ensures { OnOk result (line.new ≡ line.old ++ others_text others.now) }
+{
+    for name in others {
+        line.extend_from_slice(b" initialised=")?;
+        line.extend_from_slice(name.as_slice())?;
+    }
+    Ok(())
+}
+
+/// The words for all that is assumed.
+fn assumed_text(alloc: Global, assumed: &Assumed) -> Result<Seq<u8>, AllocError>
+    ensures { IfOk result (λ text. text ≡ assumed_text assumed.now) }
+{
+    let mut text = Seq::from_slice(alloc, narrow_text(assumed))?;
+    put_others(&mut text, assumed.others.as_slice())?;
+    text.extend_from_slice(passed_text(assumed))?;
+    Ok(text)
+}
+
 /// A method by its class, its name and its descriptor.
 #[derive(Clone, Copy)]
 pub(crate) struct MethodWords<'a> {
@@ -125,10 +174,17 @@ pub(crate) struct MethodWords<'a> {
 }
 
 /// The words behind a method whose every run ends.
-fn words_text(alloc: Global, given: bool, touched: Touched) -> Result<Seq<u8>, AllocError>
-    ensures { IfOk result (λ text. text ≡ words_text given touched) }
+fn words_text(
+    alloc: Global,
+    given: bool,
+    assumed: &Assumed,
+    touched: Touched,
+) -> Result<Seq<u8>, AllocError>
+    ensures { IfOk result (λ text. text ≡ words_text given assumed.now touched) }
 {
     let mut text = Seq::from_slice(alloc, given_text(given))?;
+    let words = assumed_text(alloc, assumed)?;
+    text.extend_from_slice(words.as_slice())?;
     text.extend_from_slice(errors_text(touched))?;
     text.extend_from_slice(exceptions_text(touched))?;
     text.extend_from_slice(constants_text(touched))?;
@@ -140,11 +196,13 @@ pub(crate) fn yes_line(
     alloc: Global,
     method: &MethodWords<'_>,
     given: bool,
+    assumed: &Assumed,
     touched: Touched,
 ) -> Result<Seq<u8>, AllocError>
-    ensures { IfOk result (λ line. line ≡ yes_line method.now.class.now method.now.name.now method.now.desc.now given touched) }
+    ensures { IfOk result (λ line. line ≡ yes_line method.now.class.now method.now.name.now method.now.desc.now given assumed.now
+        touched) }
 {
-    let words = words_text(alloc, given, touched)?;
+    let words = words_text(alloc, given, assumed, touched)?;
     let mut line = joined(
         alloc,
         &[b"YES ", method.class, b".", method.name, method.desc],

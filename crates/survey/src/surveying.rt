@@ -15,7 +15,7 @@ use crate::walking::{Tally, survey_classes};
 use crate::words::Asked;
 use class_read::ClassView;
 use input_steps::{Refused, read_classes};
-use input_text::{DescFault, DescText};
+use input_text::{DescFault, DescText, WorldLine};
 use io_ports::Sink;
 use list_views::Seq;
 use std::alloc::{AllocError, Global};
@@ -149,6 +149,7 @@ fn count_text(
 ) -> Result<Seq<u8>, AllocError> {
     let mut text = Seq::new(alloc);
     put_count(alloc, &mut text, b"yes=", tally.yes)?;
+    put_count(alloc, &mut text, b" assumed=", tally.assumed)?;
     put_count(alloc, &mut text, b" maybe=", tally.maybe)?;
     put_count(alloc, &mut text, b" refused=", tally.refused)?;
     put_count(alloc, &mut text, b" files=", kept.files.len())?;
@@ -236,13 +237,14 @@ fn classes_of_files<'a>(alloc: Global, files: &'a [Vec<u8>]) -> Result<Vec<Class
     }
 }
 
-/// Puts the lines of a survey of class files that can be linked.
+/// Puts the lines of a survey of class files that can be linked, as some lines about classes say.
 #[tactic(auto, using(crate::proofs::Telling::nothing_begun))]
 pub(crate) fn survey_kept<O: Sink>(
     alloc: Global,
     asked: &Asked<'_>,
     descs: &[Vec<u8>],
     kept: &Kept,
+    lines: &[WorldLine],
     out: &mut O,
 ) -> Result<u8, Stop>
     requires { length kept.now.files.items ≤ most_classes }
@@ -259,6 +261,8 @@ pub(crate) fn survey_kept<O: Sink>(
         files: kept.files.as_slice(),
         classes: classes.as_slice(),
         descs,
+        lines,
+        strict: asked.strict,
         why: asked.why,
     };
     survey_scope(alloc, asked, &scope, kept, out)

@@ -5,7 +5,7 @@ ghost use Rattle.survey.specs.Outside.{AreSome, HasSurveyed};
 ghost use Rattle.survey.specs.Words.{class_words, desc_words};
 
 use crate::failure::Stop;
-use crate::leaving::leave_out;
+use crate::leaving::{leave_out, passing_lines};
 use crate::reading::{read_descs, read_files};
 use crate::surveying::survey_kept;
 use crate::words::Asked;
@@ -34,8 +34,12 @@ fn survey_described<F: Files, O: Sink>(
         Ok(kept) => kept,
         Err(stop) => return Err(stop),
     };
-    match leave_out(alloc, asked.classes, &mut kept, out) {
-        Ok(()) => match survey_kept(alloc, asked, descs, &kept, out) {
+    let lines = match passing_lines(alloc, asked.strict, kept.files.as_slice()) {
+        Ok(lines) => lines,
+        Err(stop) => return Err(stop),
+    };
+    match leave_out(alloc, asked.classes, lines.as_slice(), &mut kept, out) {
+        Ok(()) => match survey_kept(alloc, asked, descs, &kept, lines.as_slice(), out) {
             Ok(status) => Ok(status),
             Err(stop) => Err(stop),
         },
@@ -94,7 +98,7 @@ fn stop_line(alloc: Global, asked: &Asked<'_>, stop: Stop) -> Result<Seq<u8>, Al
 }
 
 /// The words of a survey.
-const USAGE: &[u8] = b"survey: usage\n[--why] [--desc FILE].. CLASS..\n";
+const USAGE: &[u8] = b"survey: usage\n[--strict] [--why] [--desc FILE].. CLASS..\n";
 
 /// That memory ran out.
 const MEMORY: &[u8] = b"survey: memory\n";
@@ -133,7 +137,7 @@ fn without<E: Sink>(line: &[u8], status: u8, err: &mut E) -> u8
     status
 }
 
-/// Surveys the class files that the words name: `[--why] [--desc FILE].. CLASS..`, 1 to 256 class files and at most
+/// Surveys the class files that the words name: `[--strict] [--why] [--desc FILE].. CLASS..`, 1 to 256 class files and at most
 /// 256 descriptions. To `out` it puts, each as soon as it is known:
 ///
 /// - `REFUSED FILE class: FAULT` and `REFUSED FILE read: CAUSE` for a file that spells no class or wasn't read;
@@ -144,11 +148,13 @@ fn without<E: Sink>(line: &[u8], status: u8, err: &mut E) -> u8
 /// - a line of counts.
 ///
 /// A method is proved under the first description that names it, then `described` stands behind it, else under its
-/// template. Behind a YES stands a word for each premise that its program touches: `handles-errors`,
-/// `compares-exceptions`, `constant-value`. With `--why` lines of advice follow, which begin with blanks. To `err` it
+/// template. Behind a YES stands what was assumed: `narrow`, where parameters of type boolean, byte, char and short have the numbers
+/// of their types alone; `initialised=CLASS` for each class that is taken to be initialised before, but the method's own and those above
+/// it; `passed`, where an interface that is missing is passed over. With `--strict` none of this is assumed. Then stands a word for each
+/// premise that its program touches: `handles-errors`, `compares-exceptions`, `constant-value`. With `--why` lines of advice follow, which begin with blanks. To `err` it
 /// puts a line where it ends before the counts. The exit status is
 ///
-/// - 0: each method with code of each named class file is proved;
+/// - 0: each method with code of each named class file is proved, with what its line says is assumed;
 /// - 1: some aren't, or a class file is left out;
 /// - 3: a class file or a description is refused;
 /// - 4: the words are none of a survey;

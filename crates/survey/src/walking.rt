@@ -1,15 +1,16 @@
 //! The methods of the classes, one after another.
-ghost use Rattle.std.specs.Prelude.{◌≡◌, ◌≤◌, true, length, map, IfOk, IfErr, OnErr, IsTrue, Bool};
+ghost use Rattle.std.specs.Prelude.{◌≡◌, ◌≤◌, true, length, map, IfOk, IfErr, OnErr, IsTrue};
 ghost use Rattle.std.specs.List.{AllByRecursion};
 ghost use Rattle.class_base.specs.Limits.{most_classes};
 ghost use Rattle.class_read.specs.View.{method_content};
-ghost use Rattle.survey.specs.Claims.{Surveyed, AreTrue, IsProved, IsProvedMethod, IsProvedClass};
+ghost use Rattle.survey.specs.Claims.{Surveyed, AreTrue, IsProved, IsProvedSo, IsProvedMethod, IsProvedClass};
 ghost use Rattle.survey.specs.Outside.{Tells, BeginsToTell};
 ghost use Rattle.survey.specs.inner.Wording.{surveyed, IsJudged};
 
+use crate::assuming::Assumed;
 use crate::failure::Stop;
 use crate::judging::{Judged, Scope, behind_method, judge};
-use crate::lines::{Head, MethodWords, is_plain, method_text, yes_line};
+use crate::lines::{Head, MethodWords, are_plain, is_plain, method_text, yes_line};
 use crate::putting::{add_line, add_other, put_text};
 use crate::survey_notes::{Touched, put_fault_place, put_refusal, refusal_advice};
 use class_read::{ClassView, MethodView};
@@ -38,6 +39,8 @@ pub(crate) struct Tally {
     pub(crate) maybe: usize,
     /// Lines that begin with REFUSED.
     pub(crate) refused: usize,
+    /// Lines that begin with YES and show that something is taken to be so of classes.
+    pub(crate) assumed: usize,
     /// Whether all lines begin with YES.
     pub(crate) all: bool,
 }
@@ -50,19 +53,26 @@ pub(crate) fn no_tally() -> Tally
         yes: 0,
         maybe: 0,
         refused: 0,
+        assumed: 0,
         all: true,
     }
 }
 
+/// A count with one more, where there is one.
+fn one_more(count: usize, more: bool) -> usize {
+    if more { count.saturating_add(1) } else { count }
+}
+
 impl Tally {
-    /// One line more.
-    fn with(self, sort: Sort) -> Tally
+    /// One line more, and whether it shows that something is taken to be so of classes.
+    fn with(self, sort: Sort, assumed: bool) -> Tally
         ensures all { IsTrue result.all → IsTrue self.all }
         ensures yes { IsTrue result.all → sort ≡ Sort.Yes }
     {
         match sort {
             Sort::Yes => Tally {
                 yes: self.yes.saturating_add(1),
+                assumed: one_more(self.assumed, assumed),
                 ..self
             },
             Sort::Maybe => Tally {
@@ -83,6 +93,8 @@ impl Tally {
 #[derive(Drop)]
 struct MethodLines {
     sort: Sort,
+    /// Whether the line shows that something is taken to be so of classes.
+    assumed: bool,
     text: Seq<u8>,
 }
 
@@ -92,17 +104,23 @@ fn yes_lines(
     alloc: Global,
     method: &MethodWords<'_>,
     given: bool,
+    assumed: &Assumed,
     touched: Touched,
 ) -> Result<MethodLines, AllocError>
-    ensures { IfOk result (λ lines. (s : Surveyed) → IsProved s given method.now.class.now method.now.name.now method.now.desc.now
+    ensures { IfOk result (λ lines. (s : Surveyed) → IsProved s given assumed.now method.now.class.now method.now.name.now method.now.desc.now
         → AreTrue s lines.text) }
 {
-    if is_plain(method.class) && is_plain(method.name) && is_plain(method.desc) {
-        let line = yes_line(alloc, method, given, touched)?;
+    if is_plain(method.class)
+        && is_plain(method.name)
+        && is_plain(method.desc)
+        && are_plain(assumed.others.as_slice())
+    {
+        let line = yes_line(alloc, method, given, assumed, touched)?;
         let mut text = Seq::new(alloc);
         add_line(&mut text, line.as_slice())?;
         Ok(MethodLines {
             sort: Sort::Yes,
+            assumed: assumed.is_shown(),
             text,
         })
     } else {
@@ -122,6 +140,7 @@ fn unprintable(alloc: Global, method: &MethodWords<'_>) -> Result<MethodLines, A
     add_other(alloc, &mut text, Head::Refused, rest.as_slice())?;
     Ok(MethodLines {
         sort: Sort::Refused,
+        assumed: false,
         text,
     })
 }
@@ -178,6 +197,7 @@ fn other_lines(alloc: Global, head: Head, rest: &[Seq<u8>]) -> Result<MethodLine
     let text = no_lines(alloc, head, rest)?;
     Ok(MethodLines {
         sort: sort_of(head),
+        assumed: false,
         text,
     })
 }
@@ -200,6 +220,7 @@ fn refused_lines(
 }
 
 /// The lines of a method of which this is said.
+#[tactic(auto, using(crate::proofs::Judgements::proved_so))]
 fn judged_lines(
     alloc: Global,
     method: &MethodWords<'_>,
@@ -209,10 +230,14 @@ fn judged_lines(
         judged.now → AreTrue s lines.text) }
     ensures proved { IfOk result (λ lines. lines.sort ≡ Sort.Yes → (s : Surveyed) → IsJudged s method.now.class.now
         method.now.name.now method.now.desc.now judged.now
-        → (given : Bool) × IsProved s given method.now.class.now method.now.name.now method.now.desc.now) }
+        → IsProvedSo s method.now.class.now method.now.name.now method.now.desc.now) }
 {
     match judged {
-        Judged::Yes { given, touched } => yes_lines(alloc, method, *given, *touched),
+        Judged::Yes {
+            given,
+            assumed,
+            touched,
+        } => yes_lines(alloc, method, *given, assumed, *touched),
         Judged::No { head, rest } => other_lines(alloc, *head, rest.as_slice()),
     }
 }
@@ -226,8 +251,7 @@ fn method_lines(
     requires { length scope.now.files.now ≤ most_classes }
     ensures text { IfOk result (λ lines. AreTrue (surveyed scope.now.files.now scope.now.descs.now) lines.text) }
     ensures proved { IfOk result (λ lines. lines.sort ≡ Sort.Yes
-        → (given : Bool) × IsProved (surveyed scope.now.files.now scope.now.descs.now) given method.now.class.now method.now.name.now
-        method.now.desc.now) }
+        → IsProvedSo (surveyed scope.now.files.now scope.now.descs.now) method.now.class.now method.now.name.now method.now.desc.now) }
 {
     match judge(alloc, scope, method) {
         Ok(judged) => judged_lines(alloc, method, &judged),
@@ -235,24 +259,23 @@ fn method_lines(
     }
 }
 
-/// Puts the lines of a method with code.
+/// Puts the lines of a method with code. Their sort, and whether they show that something is taken to be so of classes.
 #[tactic(auto, using(crate::proofs::Telling::nothing_begun))]
 fn survey_words<O: Sink>(
     alloc: Global,
     scope: &Scope<'_, '_>,
     method: &MethodWords<'_>,
     out: &mut O,
-) -> Result<Sort, Stop>
+) -> Result<(Sort, bool), Stop>
     requires { length scope.now.files.now ≤ most_classes }
     ensures told { IfOk result (λ sort. Tells O.taken (surveyed scope.now.files.now scope.now.descs.now) out.old out.new) }
     ensures begun { OnErr result (BeginsToTell O.taken (surveyed scope.now.files.now scope.now.descs.now) out.old out.new) }
-    ensures proved { IfOk result (λ sort. sort ≡ Sort.Yes
-        → (given : Bool) × IsProved (surveyed scope.now.files.now scope.now.descs.now) given method.now.class.now method.now.name.now
-        method.now.desc.now) }
+    ensures proved { IfOk result (λ sort. sort.0 ≡ Sort.Yes
+        → IsProvedSo (surveyed scope.now.files.now scope.now.descs.now) method.now.class.now method.now.name.now method.now.desc.now) }
 {
     match method_lines(alloc, scope, method) {
         Ok(lines) => match put_text(out, lines.text.as_slice()) {
-            Ok(()) => Ok(lines.sort),
+            Ok(()) => Ok((lines.sort, lines.assumed)),
             Err(stop) => Err(stop),
         },
         Err(AllocError) => Err(Stop::Memory),
@@ -285,7 +308,7 @@ fn survey_method<O: Sink>(
         desc: method.desc,
     };
     match survey_words(alloc, scope, &words, out) {
-        Ok(sort) => Ok(tally.with(sort)),
+        Ok((sort, assumed)) => Ok(tally.with(sort, assumed)),
         Err(stop) => Err(stop),
     }
 }

@@ -1,7 +1,7 @@
 //! The words of the command line.
 ghost use Rattle.std.specs.Prelude.{◌≡◌, ◌∷◌, ◌≤◌, ◌<◌, [], length, map, string_bytes, IfOk, IfSome, MatchOption, IsTrue};
 ghost use Rattle.std.specs.List.{list_all};
-ghost use Rattle.survey.specs.Words.{behind_why, behind_descs, descs_in, desc_words, class_words, is_file_word, AreSurvey};
+ghost use Rattle.survey.specs.Words.{behind_strict, behind_why, behind_descs, descs_in, desc_words, class_words, is_file_word, AreSurvey};
 ghost use Rattle.class_base.specs.Limits.{most_classes};
 
 use class_base::MOST_CLASSES;
@@ -10,6 +10,8 @@ use std::alloc::{AllocError, Global};
 /// What the words of a command line ask for.
 #[derive(Drop)]
 pub(crate) struct Asked<'a> {
+    /// Whether nothing is to be assumed of classes and parameters.
+    pub(crate) strict: bool,
     /// Whether advice is asked for.
     pub(crate) why: bool,
     /// The words that name descriptions.
@@ -23,6 +25,22 @@ pub(crate) struct Asked<'a> {
 struct DescWords<'a> {
     descs: Vec<&'a str>,
     rest: &'a [String],
+}
+
+/// The words behind `--strict`, which may stand first.
+fn behind_strict(words: &[String]) -> &[String]
+    ensures { map string_bytes result.now ≡ behind_strict (map string_bytes words.now) }
+{
+    match words.split_first() {
+        Some((first, rest)) => {
+            if first.as_bytes() == b"--strict".as_slice() {
+                rest
+            } else {
+                words
+            }
+        }
+        None => words,
+    }
 }
 
 /// The words behind `--why`, which may stand first.
@@ -126,10 +144,12 @@ impl<'a> Asked<'a> {
             (λ asked. map (λ name. name.now) asked.descs.items ≡ desc_words (map string_bytes words.now))) }
         ensures few { IfOk result (λ found. IfSome found (λ asked. length asked.classes.now ≤ most_classes)) }
     {
-        let behind = behind_why(words);
+        let unstrict = behind_strict(words);
+        let behind = behind_why(unstrict);
         let found = described(alloc, behind)?;
         let asked = Asked {
-            why: behind.len() < words.len(),
+            strict: unstrict.len() < words.len(),
+            why: behind.len() < unstrict.len(),
             descs: found.descs,
             classes: found.rest,
         };

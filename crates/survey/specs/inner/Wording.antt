@@ -1,13 +1,6 @@
 -- Words for inner calls.
 use Rattle.std.specs.Prelude.{◌≡◌, ◌⊎◌, ℕ, List, [], ◌∷◌, ◌++◌, map, Some, codes}
 use Rattle.std.specs.Global.{Vec}
-use Rattle.class_read.specs.Content.{ClassContent}
-use Rattle.class_world.specs.declared.world.MethodRef.{MethodRef}
-use Rattle.class_world.specs.World.{World}
-use Rattle.class_world.specs.Members.{find_method}
-use Rattle.class_program.specs.Programs.{Program}
-use Rattle.input_steps.specs.Classes.{AllSpell, IsWorldOf}
-use Rattle.input_steps.specs.Programs.{IsProgramOf}
 use Rattle.survey.specs.Claims.{Surveyed, IsProved, AreTrue}
 use Rattle.io_ports.specs.Told.{Told, IsContent}
 use Rattle.survey.specs.Lines.{printed}
@@ -35,19 +28,9 @@ head_text Why = codes "  "
 abbrev pub other_line : Head → List ℕ → List ℕ
 other_line head rest = head_text head ++ map printed rest
 
--- the program of a method that is declared by the class of a name
-pub record IsMethodProgram (files : List (List ℕ)) (class name desc : List ℕ) (p : Program) : Type 0 where
-  pub classes : List ClassContent
-  pub spelled : AllSpell files classes
-  pub world : World
-  pub makes : IsWorldOf classes world
-  pub entry : MethodRef
-  pub found : find_method world class name desc ≡ Some entry
-  pub program : IsProgramOf world entry p
-
 -- where a method's runs are said to end, it is proved
 abbrev pub IsJudged : Surveyed → List ℕ → List ℕ → List ℕ → Judged → Type 0
-IsJudged s class name desc (Yes given touched) = IsProved s given class name desc
+IsJudged s class name desc (Yes given assumed touched) = IsProved s given assumed class name desc
 IsJudged s class name desc (No head rest) = Unit {0}
 
 -- more true lines follow

@@ -1,6 +1,6 @@
 use Rattle.std.proofs.Common.{map, string_bytes}
 use Rattle.survey.specs.inner.Wording.{surveyed}
-use Rattle.survey.proofs.Telling.{told_on, begun_on}
+use Rattle.survey.proofs.Telling.{told_on, begun_on, nothing_begun}
 use Rattle.survey.proofs.Ending.{nothing, ends_early, breaks, ends, same_count}
 use Rattle.survey.proofs.top.survey_described.Goals as goal
 
@@ -37,3 +37,10 @@ returns-clause-begun g c = λ status broken.
     (map (λ name. name.now) c.args.asked.now.descs.items) c.args.out.now c.leave_out.new.out status broken
     (begun_on g.O.Sink.taken nothing c.args.out.now c.read_files.new.out c.leave_out.new.out (c.in-Ok.ensures.told nothing)
     (c.in-Err-leave_out.ensures.begun nothing))
+
+pub returns-in-Err-passing_lines-clause-begun : goal.returns-in-Err-passing_lines-clause-begun
+returns-in-Err-passing_lines-clause-begun g c = λ status broken.
+    ends_early (g.F.Files.held c.args.files.now) g.O.Sink.taken (map string_bytes c.args.asked.now.classes.now)
+    (map (λ name. name.now) c.args.asked.now.descs.items) c.args.out.now c.read_files.new.out status broken
+    (begun_on g.O.Sink.taken nothing c.args.out.now c.read_files.new.out c.read_files.new.out (c.in-Ok.ensures.told nothing)
+    (nothing_begun g.O.Sink.taken nothing c.read_files.new.out))
