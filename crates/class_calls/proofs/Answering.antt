@@ -90,7 +90,8 @@ module _ (fuel : ℕ) (text : StateText) where
       (then_refused (IsNamed world) (RefusesEntry world text) (AnswersEntry fuel text world) refused h)
 
   pub named_runs : (classes : List ClassContent) (world : World) (entry : MethodRef) (result : Answer)
-      → IsWorldOf (set_up text.world classes) world → entry_of world text.entry ≡ Ok entry → AnswersEntry fuel text world entry result → AnswersNamed fuel text classes result
+      → IsWorldOf (set_up text.world classes) world → entry_of world text.entry ≡ Ok entry
+      → AnswersEntry fuel text world entry result → AnswersNamed fuel text classes result
   named_runs classes world entry result w e h =
       then_goes (IsWorldOf (entered classes)) (RefusesWorld (entered classes)) WithEntry world result w
       (then_goes (IsNamed world) (RefusesEntry world text) (AnswersEntry fuel text world) entry result e h)

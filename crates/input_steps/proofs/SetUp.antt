@@ -25,12 +25,13 @@ module _ {A : Type 0} (p : A → Bool) where
   -- what is kept of a list of images is the images of what is kept
   pub filter_of_map : {B : Type 0} (f : B → A) (xs : List B) → map f (filter (λ x. p (f x)) xs) ≡ filter p (map f xs)
   filter_of_map f [] = refl
-  filter_of_map {B} f (x ∷ xs) = go (p (f x))
+  filter_of_map f (x ∷ xs) = go (p (f x)) (filter_of_map f xs)
     where
-      go : (b : Bool) → map f (cond b (x ∷ filter (λ y. p (f y)) xs) (filter (λ y. p (f y)) xs))
+      go : (b : Bool) → map f (filter (λ y. p (f y)) xs) ≡ filter p (map f xs)
+          → map f (cond b (x ∷ filter (λ y. p (f y)) xs) (filter (λ y. p (f y)) xs))
           ≡ cond b (f x ∷ filter p (map f xs)) (filter p (map f xs))
-      go true = ap (λ ys. f x ∷ ys) (filter_of_map f xs)
-      go false = filter_of_map f xs
+      go true h = ap (λ ys. f x ∷ ys) h
+      go false h = h
 
   all_kept : (xs : List A) → ((x : A) → p x ≡ true) → filter p xs ≡ xs
   all_kept [] h = refl
@@ -38,36 +39,38 @@ module _ {A : Type 0} (p : A → Bool) where
 
   fewer : (xs : List A) → length (filter p xs) ≤ length xs
   fewer [] = omega arith
-  fewer (x ∷ xs) = go (p x)
+  fewer (x ∷ xs) = go (p x) (fewer xs)
     where
-      go : (b : Bool) → length (cond b (x ∷ filter p xs) (filter p xs)) ≤ suc (length xs)
-      go true = let less = fewer xs in omega (arith, less)
-      go false = let less = fewer xs in omega (arith, less)
+      go : (b : Bool) → length (filter p xs) ≤ length xs → length (cond b (x ∷ filter p xs) (filter p xs)) ≤ suc (length xs)
+      go true less = omega (arith, less)
+      go false less = omega (arith, less)
 
   all_stays : (q : A → Bool) (xs : List A) → list_all q xs ≡ true → list_all q (filter p xs) ≡ true
   all_stays q [] h = refl
-  all_stays q (x ∷ xs) h = go (p x) (and_parts (q x) (list_all q xs) h)
+  all_stays q (x ∷ xs) h =
+      let parts = and_parts (q x) (list_all q xs) h in
+      go (p x) parts.0 (all_stays q xs parts.1)
     where
-      go : (b : Bool) → (q x ≡ true) × (list_all q xs ≡ true) → list_all q (cond b (x ∷ filter p xs) (filter p xs)) ≡ true
-      go true parts = and_from (q x) (list_all q (filter p xs)) parts.0 (all_stays q xs parts.1)
-      go false parts = all_stays q xs parts.1
+      go : (b : Bool) → q x ≡ true → list_all q (filter p xs) ≡ true → list_all q (cond b (x ∷ filter p xs) (filter p xs)) ≡ true
+      go true first rest = and_from (q x) (list_all q (filter p xs)) first rest
+      go false first rest = rest
 
   pub every_kept : (P : A → Type 0) (xs : List A) → AllByRecursion P xs → AllByRecursion P (filter p xs)
   every_kept P [] h = tt
-  every_kept P (x ∷ xs) h = go (p x)
+  every_kept P (x ∷ xs) h = go (p x) (every_kept P xs h.1)
     where
-      go : (b : Bool) → AllByRecursion P (cond b (x ∷ filter p xs) (filter p xs))
-      go true = (h.0, every_kept P xs h.1)
-      go false = every_kept P xs h.1
+      go : (b : Bool) → AllByRecursion P (filter p xs) → AllByRecursion P (cond b (x ∷ filter p xs) (filter p xs))
+      go true rest = (h.0, rest)
+      go false rest = rest
 
   every_stays : {K : Type 0} (key : A → K) (Q : K → Type 0) (xs : List A) → AllByRecursion Q (map key xs)
       → AllByRecursion Q (map key (filter p xs))
   every_stays key Q [] h = tt
-  every_stays key Q (x ∷ xs) h = go (p x)
+  every_stays key Q (x ∷ xs) h = go (p x) (every_stays key Q xs h.1)
     where
-      go : (b : Bool) → AllByRecursion Q (map key (cond b (x ∷ filter p xs) (filter p xs)))
-      go true = (h.0, every_stays key Q xs h.1)
-      go false = every_stays key Q xs h.1
+      go : (b : Bool) → AllByRecursion Q (map key (filter p xs)) → AllByRecursion Q (map key (cond b (x ∷ filter p xs) (filter p xs)))
+      go true rest = (h.0, rest)
+      go false rest = rest
 
   distinct_stays : {K : Type 0} (same : K → K → Bool) (key : A → K) (xs : List A) → IsDistinct same (map key xs)
       → IsDistinct same (map key (filter p xs))
@@ -83,14 +86,14 @@ module _ {A : Type 0} (p : A → Bool) where
 
 -- a class without its initialisers
 module _ (c : ClassContent) (h : IsLinkable c) where
-  abbrev kept : List MethodContent
-  kept = filter (λ m. not (is_initialiser m)) c.methods
+  abbrev others : List MethodContent
+  others = filter (λ m. not (is_initialiser m)) c.methods
 
   still_few : has_few_members (without_initialiser c) ≡ true
   still_few =
       let parts = and_parts _ _ h.few in
-      let less : length kept ≤ length c.methods = fewer (λ m. not (is_initialiser m)) c.methods in
-      and_from _ _ parts.0 (lt-ltb (length kept) 65536 (omega (arith, less, ltb-true (length c.methods) 65536 parts.1)))
+      let less : length others ≤ length c.methods = fewer (λ m. not (is_initialiser m)) c.methods in
+      and_from _ _ parts.0 (lt-ltb (length others) 65536 (omega (arith, less, ltb-true (length c.methods) 65536 parts.1)))
 
   without_links : IsLinkable (without_initialiser c)
   without_links = record {
