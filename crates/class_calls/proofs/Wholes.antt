@@ -1,11 +1,12 @@
 -- Descriptions that leave no input out: each state with which the method can begin fits them.
 use Rattle.std.proofs.Common.{◌≡◌, ◌≢◌, ℕ, ◌<◌, ℤ, ◌≤ℤ◌, Bool, true, false, List, [], ◌∷◌, ◌++◌, length, Some, None, Ok, ◌⊎◌, inl, inr}
 use Rattle.std.proofs.Common.{sym, refl, ap, subst, ◌∙◌, arith}
-use Rattle.std.specs.Prelude.{slice_get, int_le, ◌||◌}
+use Rattle.std.specs.Prelude.{slice_get, ◌||◌}
 use Rattle.std.specs.List.{AllZip, list_all}
 use Rattle.std.specs.Option.{option_map_or}
+use Rattle.std.specs.Ordering.{int_eq}
 use Rattle.std.proofs.lemmas.Bool.{false≢true, and_parts, cases_order}
-use Rattle.std.proofs.lemmas.Int.{ints}
+use Rattle.std.proofs.lemmas.Bool.Decides.{Decides-int_eq}
 use Rattle.std.proofs.lemmas.List.{length-map}
 use Rattle.std.proofs.lemmas.Slice.Zip.{AllZip-long}
 use Rattle.list_views.proofs.Truths.{or_either}
@@ -36,7 +37,8 @@ use Rattle.input_desc.specs.declared.desc.Input.{Input}
 use Rattle.input_desc.specs.declared.desc.Input.TheVariants.{Int, Ref}
 use Rattle.input_desc.specs.declared.desc.Desc.{Desc}
 use Rattle.input_desc.specs.Entries.{entry_of}
-use Rattle.input_desc.specs.Given.{params_of, statics_of, argument_slot, arguments_of, slots_in}
+use Rattle.input_desc.specs.Given.{params_of, statics_of, argument_slot}
+use Rattle.input_desc.specs.Narrow.{arguments_of, slots_in}
 use Rattle.input_desc.specs.Descs.{has_receiver, desc_fault, IsDescribed}
 use Rattle.input_desc.specs.Fitting.{FitsInput, IsListed, FitsDescription}
 use Rattle.input_desc.proofs.Unfit.{all_fitting}
@@ -45,14 +47,20 @@ use Rattle.input_desc.proofs.Zipped.{zip_before}
 use Rattle.class_calls.specs.declared.describe.inputs.Listed.TheVariants.{Same, Share}
 use Rattle.class_calls.specs.describe.Starts.{HasReceiver, IsStartState}
 use Rattle.class_calls.specs.describe.Whole.{is_any, is_open, is_nullable, behind, are_comparable, ListsAll, IsWhole}
-use Rattle.class_calls.specs.describe.Templates.{IsTemplate}
+use Rattle.class_calls.specs.describe.Templates.{HasNumbers, IsTemplate}
 use Rattle.class_calls.proofs.Pairs.{swapped, listed_behind}
 
 -- ---- one input
 
-within : (least greatest lo hi n : ℤ) → int_le lo least ≡ true → int_le greatest hi ≡ true → least ≤ℤ n → n ≤ℤ greatest
-    → (lo ≤ℤ n) × (n ≤ℤ hi)
-within least greatest lo hi n low high l h = (omega (arith, ints), omega (arith, ints))
+within : (least greatest lo hi n : ℤ) → lo ≡ least → hi ≡ greatest → least ≤ℤ n → n ≤ℤ greatest → (lo ≤ℤ n) × (n ≤ℤ hi)
+within least greatest lo hi n low high l h = (subst (λ (m : ℤ). m ≤ℤ n) (sym low) l, subst (λ (m : ℤ). n ≤ℤ m) (sym high) h)
+
+has_numbers : (world : World) (slot : Slot) (input : Input) → is_open world slot input ≡ true → HasNumbers slot input
+has_numbers world (slots.Num kind) (Int interval) o =
+    let both = and_parts (int_eq interval.lo (least_of kind)) (int_eq interval.hi (greatest_of kind)) o in
+    ((Decides-int_eq interval.lo (least_of kind)).0 both.0, (Decides-int_eq interval.hi (greatest_of kind)).0 both.1)
+has_numbers world (slots.Num kind) (Ref s has shape) o = absurd (false≢true o)
+has_numbers world (slots.Ref t) input o = tt
 
 any_shape : (shape : Shape) (heap : Heap) (value : Value) → is_any shape ≡ true → HasShape shape heap value
 any_shape shapes.Tree heap value e = absurd (false≢true e)
@@ -63,7 +71,7 @@ fits_open : (world : World) (heap : Heap) (slot : Slot) (input : Input) (value :
     → is_open world slot input ≡ true → (value ≡ values.Null → is_nullable input ≡ true) → Holds (types_of world) heap slot value
     → FitsInput (types_of world) heap input value
 fits_open world heap (slots.Num kind) (Int interval) (values.Int n) laws o null h =
-    let both = and_parts (int_le interval.lo (least_of kind)) (int_le (greatest_of kind) interval.hi) o in
+    let both = has_numbers world (slots.Num kind) (Int interval) o in
     (n, (refl, within (least_of kind) (greatest_of kind) interval.lo interval.hi n both.0 both.1 h.0 h.1))
 fits_open world heap (slots.Num kind) (Int interval) values.Null laws o null h = absurd h
 fits_open world heap (slots.Num kind) (Int interval) (values.Ref r) laws o null h = absurd h
@@ -241,5 +249,6 @@ is_template narrow lines p bytes said desc closed says lines_are entry described
   fits = described.0;
   desc = desc;
   described = described.1;
+  numbers = all_fitting (is_open p.world) HasNumbers (has_numbers p.world) 0 (slots_in narrow p) desc.inputs whole.count whole.opened;
   whole = λ state start. whole_fits narrow p desc state (world_laws p.world closed.known.linked) whole start;
 }

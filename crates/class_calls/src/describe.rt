@@ -13,5 +13,5 @@ mod written;
 pub use calls::{Asked, UnderLines, methods_of, program_under, template_of};
 pub use checked::template;
 pub use fault::DescribeFault;
-pub use lines::{line_again, line_needed};
+pub use lines::{Leave, line_again};
 pub use methods::MethodNames;

@@ -141,8 +141,8 @@ fn members_of<'a>(alloc: Global, roster: &Roster<'a>) -> Result<Members<'a>, All
 }
 
 impl<'a> World<'a> {
-    /// Links the classes, which are numbered from 15 in their order. Classes as files spell them are such classes, by
-    /// `read_can_be_linked`.
+    /// Links the classes, which are numbered from 15 in their order. What is asked of each of them holds of each class that is read
+    /// (`read_can_be_linked`).
     ///
     /// # Errors
     ///

@@ -1,5 +1,5 @@
 -- What a program asks for: a value for each parameter of its entry method and for each of its static fields. These are its inputs.
-use Rattle.std.specs.Prelude.{ℕ, Bool, List, [], ◌++◌, slice_get, map, Option, Some, None, if◌then◌else◌}
+use Rattle.std.specs.Prelude.{ℕ, List, [], ◌++◌, slice_get, map, Option, Some, None}
 use Rattle.std.specs.Option.{option_map_or}
 use Rattle.jvm_values.specs.declared.types.Kind.TheVariants as kinds
 use Rattle.jvm_values.specs.declared.types.Slot.{Slot}
@@ -33,14 +33,6 @@ inputs_of params fields = map argument_slot params ++ fields
 -- what the inputs of a program hold, by their numbers
 abbrev pub slots_of : Program → List Slot
 slots_of p = inputs_of (params_of p) (statics_of p)
-
--- what arguments are asked for: only the numbers of the parameters' own kinds, or any ints for them
-abbrev pub arguments_of : Bool → List Slot → List Slot
-arguments_of narrow params = if narrow then params else map argument_slot params
-
--- what the inputs of a program hold, where arguments are asked for so
-abbrev pub slots_in : Bool → Program → List Slot
-slots_in narrow p = arguments_of narrow (params_of p) ++ statics_of p
 
 -- the values of the static fields: those that are given, or the initial ones (JVM specification, sections 2.3 and 2.4)
 abbrev pub static_values : List Slot → Option (List Value) → List Value

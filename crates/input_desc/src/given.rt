@@ -1,7 +1,8 @@
 //! What a program asks for.
 ghost use Rattle.std.specs.Prelude.{◌≡◌, IfOk, map};
 ghost use Rattle.class_program.specs.Views.{program_of};
-ghost use Rattle.input_desc.specs.Given.{argument_slot, arguments_of, field_slot, slots_in, slots_of, statics_of, static_values};
+ghost use Rattle.input_desc.specs.Given.{argument_slot, field_slot, slots_of, statics_of, static_values};
+ghost use Rattle.input_desc.specs.Narrow.{arguments_of, slots_in};
 
 use class_program::{Program, StaticField};
 use jvm_values::{Kind, Slot, Value, initial_values};

@@ -1,7 +1,8 @@
 -- What holds of the classes as they enter the world.
-use Rattle.std.proofs.Common.{◌≡◌, ◌∙◌, ◌≤◌, ℕ, suc, Bool, true, false, not, ◌||◌, cond, List, [], ◌∷◌, ◌++◌, length, map, refl, sym, ap}
-use Rattle.std.proofs.Common.{subst, arith}
-use Rattle.std.specs.List.{filter, list_any, list_all, IsDistinct, AllByRecursion}
+use Rattle.std.proofs.Common.{◌≡◌, ◌∙◌, ◌≤◌, ◌+◌, ℕ, suc, Bool, true, false, not, ◌||◌, ◌&&◌, cond, List, [], ◌∷◌, ◌++◌, length, map}
+use Rattle.std.proofs.Common.{Some, None, nat_lt, refl, sym, ap, subst, arith}
+use Rattle.std.specs.Prelude.{position, is_none}
+use Rattle.std.specs.List.{filter, list_any, list_all, position_or_len, IsDistinct, AllByRecursion}
 use Rattle.std.specs.Str.{bytes_eq}
 use Rattle.std.proofs.lemmas.Bool.{and_from, and_parts, lt-ltb, ltb-true}
 use Rattle.std.proofs.lemmas.List.Folds.{list_any-append}
@@ -10,14 +11,14 @@ use Rattle.list_views.proofs.Items.{length_mapped}
 use Rattle.class_read.specs.Content.{ClassContent, MethodContent}
 use Rattle.class_read.specs.View.{method_content}
 use Rattle.class_read.specs.declared.view.MethodView.{MethodView}
-use Rattle.class_world.specs.World.{built_in_names}
+use Rattle.class_world.specs.World.{World, built_in, built_in_names, built_ins, world_of, class_of}
 use Rattle.class_world.specs.Linking.{IsLinkable, HasDistinctMembers, has_few_members, has_short_code, has_short_codes}
 use Rattle.class_world.specs.Linking.{method_content_key, same_key}
 use Rattle.class_world.specs.Resolve.{is_initialiser}
 use Rattle.input_text.specs.declared.texts.WorldLine.{WorldLine}
-use Rattle.input_steps.specs.SetUp.{initialises, without_initialiser, initialised, is_there, is_passed, without_passed, entering}
-use Rattle.input_steps.specs.SetUp.{names_of, set_up}
-use Rattle.input_steps.specs.SetUpLaws.{SetUpLinks, SetUpNothing, SetUpNames}
+use Rattle.input_steps.specs.SetUp.{initialises, without_initialiser, past_initialiser, passes, is_passed, without_passed, entering, set_up}
+use Rattle.input_steps.specs.SetUpLaws.{names_of, SetUpLinks, SetUpNothing, SetUpNames, SayTheSame, SetUpSame}
+use Rattle.input_steps.specs.inner.ByNames.{is_there, is_passed_by, without_passed_by, entering_by}
 
 -- ---- lists of which some items are kept
 
@@ -105,71 +106,98 @@ module _ (c : ClassContent) (h : IsLinkable c) where
     short = all_stays (λ m. not (is_initialiser m)) has_short_code c.methods h.short;
   }
 
-initialised_links : (lines : List WorldLine) (c : ClassContent) → IsLinkable c → IsLinkable (initialised lines c)
-initialised_links lines c h = go (list_any (initialises c.name) lines)
+past_links : (lines : List WorldLine) (c : ClassContent) → IsLinkable c → IsLinkable (past_initialiser lines c)
+past_links lines c h = go (list_any (initialises c.name) lines)
   where
     go : (b : Bool) → IsLinkable (cond b (without_initialiser c) c)
     go true = without_links c h
     go false = h
 
-passed_links : (lines : List WorldLine) (names : List (List ℕ)) (c : ClassContent) → IsLinkable c
-    → IsLinkable (without_passed lines names c)
-passed_links lines names c h = record {
+passed_links : (lines : List WorldLine) (world : World) (c : ClassContent) → IsLinkable c → IsLinkable (without_passed lines world c)
+passed_links lines world c h = record {
   distinct = record { methods = h.distinct.methods; fields = h.distinct.fields };
   few = h.few;
   short = h.short;
 }
 
-all_link : (lines : List WorldLine) (names : List (List ℕ)) (cs : List ClassContent) → AllByRecursion IsLinkable cs
-    → AllByRecursion IsLinkable (map (entering lines names) cs)
-all_link lines names [] h = tt
-all_link lines names (c ∷ cs) h = (
-  passed_links lines names (initialised lines c) (initialised_links lines c h.0),
-  all_link lines names cs h.1,
+all_link : (lines : List WorldLine) (world : World) (cs : List ClassContent) → AllByRecursion IsLinkable cs
+    → AllByRecursion IsLinkable (map (entering lines world) cs)
+all_link lines world [] h = tt
+all_link lines world (c ∷ cs) h = (
+  passed_links lines world (past_initialiser lines c) (past_links lines c h.0),
+  all_link lines world cs h.1,
 )
 
 pub set_up_links : SetUpLinks
 unfolding set_up
-set_up_links lines classes h = all_link lines (names_of classes) classes h
+set_up_links lines classes h = all_link lines (world_of classes) classes h
 
 -- as many classes
 pub set_up_length : (lines : List WorldLine) (classes : List ClassContent) → length (set_up lines classes) ≡ length classes
 unfolding set_up
-set_up_length lines classes = length_mapped (entering lines (names_of classes)) classes
+set_up_length lines classes = length_mapped (entering lines (world_of classes)) classes
 
 -- ---- names
 
-name_stays : (lines : List WorldLine) (c : ClassContent) → (initialised lines c).name ≡ c.name
+name_stays : (lines : List WorldLine) (c : ClassContent) → (past_initialiser lines c).name ≡ c.name
 name_stays lines c = go (list_any (initialises c.name) lines)
   where
     go : (b : Bool) → (cond b (without_initialiser c) c).name ≡ c.name
     go true = refl
     go false = refl
 
-names_stay : (lines : List WorldLine) (names : List (List ℕ)) (cs : List ClassContent) → names_of (map (entering lines names) cs)
-    ≡ names_of cs
-names_stay lines names [] = refl
-names_stay lines names (c ∷ cs) =
-    ap (λ n. n ∷ names_of (map (entering lines names) cs)) (name_stays lines c) ∙ ap (λ ns. c.name ∷ ns) (names_stay lines names cs)
+names_stay : (lines : List WorldLine) (world : World) (cs : List ClassContent) → names_of (map (entering lines world) cs) ≡ names_of cs
+names_stay lines world [] = refl
+names_stay lines world (c ∷ cs) =
+    ap (λ n. n ∷ names_of (map (entering lines world) cs)) (name_stays lines c) ∙ ap (λ ns. c.name ∷ ns) (names_stay lines world cs)
 
 pub set_up_names : SetUpNames
 unfolding set_up
-set_up_names lines classes = names_stay lines (names_of classes) classes
+set_up_names lines classes = names_stay lines (world_of classes) classes
 
 -- ---- no lines
 
-nothing_passed : (names : List (List ℕ)) (c : ClassContent) → without_passed [] names c ≡ c
-nothing_passed names c = ap (λ (is : List (List ℕ)). record c { interfaces = is })
-    (all_kept (λ (name : List ℕ). not (is_passed [] names name)) c.interfaces (λ name. refl))
+nothing_passed : (world : World) (c : ClassContent) → without_passed [] world c ≡ c
+nothing_passed world c = ap (λ (is : List (List ℕ)). record c { interfaces = is })
+    (all_kept (λ (name : List ℕ). not (is_passed [] world name)) c.interfaces (λ name. refl))
 
-all_as_they_are : (names : List (List ℕ)) (cs : List ClassContent) → map (entering [] names) cs ≡ cs
-all_as_they_are names [] = refl
-all_as_they_are names (c ∷ cs) =
-    ap (λ d. d ∷ map (entering [] names) cs) (nothing_passed names c) ∙ ap (λ ds. c ∷ ds) (all_as_they_are names cs)
+all_as_they_are : (world : World) (cs : List ClassContent) → map (entering [] world) cs ≡ cs
+all_as_they_are world [] = refl
+all_as_they_are world (c ∷ cs) =
+    ap (λ d. d ∷ map (entering [] world) cs) (nothing_passed world c) ∙ ap (λ ds. c ∷ ds) (all_as_they_are world cs)
 
 pub set_up_nothing : SetUpNothing
 unfolding set_up
-set_up_nothing classes = all_as_they_are (names_of classes) classes
+set_up_nothing classes = all_as_they_are (world_of classes) classes
+
+-- ---- lines that say the same
+
+kept_alike : {A : Type 0} (p q : A → Bool) → ((x : A) → p x ≡ q x) → (xs : List A) → filter p xs ≡ filter q xs
+kept_alike p q same [] = refl
+kept_alike p q same (x ∷ xs) =
+    ap (λ b. cond b (x ∷ filter p xs) (filter p xs)) (same x) ∙ ap (λ ys. cond (q x) (x ∷ ys) ys) (kept_alike p q same xs)
+
+module _ (lines others : List WorldLine) (same : SayTheSame lines others) where
+  past_alike : (c : ClassContent) → past_initialiser lines c ≡ past_initialiser others c
+  past_alike c = ap (λ b. cond b (without_initialiser c) c) (same.initialised c.name)
+
+  passed_alike : (world : World) (c : ClassContent) → without_passed lines world c ≡ without_passed others world c
+  passed_alike world c = ap (λ (is : List (List ℕ)). record c { interfaces = is })
+      (kept_alike (λ (name : List ℕ). not (is_passed lines world name)) (λ (name : List ℕ). not (is_passed others world name))
+      (λ name. ap (λ b. not (b && is_none (class_of world name))) (same.passed name)) c.interfaces)
+
+  enter_alike : (world : World) (c : ClassContent) → entering lines world c ≡ entering others world c
+  enter_alike world c =
+      passed_alike world (past_initialiser lines c) ∙ ap (λ (d : ClassContent). without_passed others world d) (past_alike c)
+
+  all_alike : (world : World) (cs : List ClassContent) → map (entering lines world) cs ≡ map (entering others world) cs
+  all_alike world [] = refl
+  all_alike world (c ∷ cs) =
+      ap (λ d. d ∷ map (entering lines world) cs) (enter_alike world c) ∙ ap (λ ds. entering others world c ∷ ds) (all_alike world cs)
+
+pub set_up_same : SetUpSame
+unfolding set_up
+set_up_same lines others classes same = all_alike lines others same (world_of classes) classes
 
 -- ---- classes of which something holds that initialisers and interfaces don't matter to
 
@@ -183,10 +211,10 @@ set_up_keeps P without with_other lines classes h = go classes h
     by c k true = without c k
     by c k false = k
 
-    go : (cs : List ClassContent) → AllByRecursion P cs → AllByRecursion P (map (entering lines (names_of classes)) cs)
+    go : (cs : List ClassContent) → AllByRecursion P cs → AllByRecursion P (map (entering lines (world_of classes)) cs)
     go [] k = tt
     go (c ∷ cs) k = (
-      with_other (initialised lines c) _ (by c k.0 (list_any (initialises c.name) lines)),
+      with_other (past_initialiser lines c) _ (by c k.0 (list_any (initialises c.name) lines)),
       go cs k.1,
     )
 
@@ -213,3 +241,74 @@ unfolding is_there
 there names name built among e f =
     ap (λ b. b || among) e ∙ ap (λ b. list_any (bytes_eq name) (map (λ n. n.0) built_in_names) || b) f
     ∙ sym (list_any-append (bytes_eq name) (map (λ n. n.0) built_in_names) names)
+
+-- ---- a class of a name is there
+
+-- a place passes a test where some item does
+module _ {A : Type 0} (p : A → Bool) where
+  shifted : (m n : ℕ) (b : Bool) → nat_lt m n ≡ b → nat_lt (1 + m) (suc n) ≡ b
+  shifted m n b h = h
+
+  at_all : (xs : List A) → nat_lt (position_or_len p xs) (length xs) ≡ list_any p xs
+  at_all [] = refl
+  at_all (x ∷ xs) = go (p x) (at_all xs)
+    where
+      go : (b : Bool) → nat_lt (position_or_len p xs) (length xs) ≡ list_any p xs
+          → nat_lt (cond (not b) (1 + position_or_len p xs) 0) (suc (length xs)) ≡ (b || list_any p xs)
+      go true h = refl
+      go false h = shifted (position_or_len p xs) (length xs) (list_any p xs) h
+
+  nowhere : (xs : List A) → is_none (position p xs) ≡ not (list_any p xs)
+  nowhere xs = ap (λ b. is_none (cond b (Some (position_or_len p xs)) None)) (at_all xs) ∙ go (list_any p xs)
+    where
+      go : (b : Bool) → is_none (cond b (Some (position_or_len p xs)) None) ≡ not b
+      go true = refl
+      go false = refl
+
+names_more : (xs ys : List ClassContent) → names_of (xs ++ ys) ≡ names_of xs ++ names_of ys
+names_more [] ys = refl
+names_more (c ∷ xs) ys = ap (λ ns. c.name ∷ ns) (names_more xs ys)
+
+names_built : (ns : List (List ℕ × List ℕ)) → names_of (map (λ n. built_in n.0 n.1) ns) ≡ map (λ n. n.0) ns
+names_built [] = refl
+names_built (n ∷ ns) = ap (λ xs. n.0 ∷ xs) (names_built ns)
+
+any_named : (name : List ℕ) (cs : List ClassContent) → list_any (λ (c : ClassContent). bytes_eq name c.name) cs
+    ≡ list_any (bytes_eq name) (names_of cs)
+any_named name [] = refl
+any_named name (c ∷ cs) = ap (λ b. bytes_eq name c.name || b) (any_named name cs)
+
+module _ (classes : List ClassContent) where
+  -- a class has a number where one of its name is built in or handed in
+  numbered : (name : List ℕ) → is_none (class_of (world_of classes) name) ≡ not (is_there (names_of classes) name)
+  unfolding is_there
+  numbered name =
+      nowhere (λ (c : ClassContent). bytes_eq name c.name) (built_ins ++ classes)
+      ∙ ap not (any_named name (built_ins ++ classes)
+      ∙ ap (list_any (bytes_eq name)) (names_more built_ins classes
+      ∙ ap (λ ns. ns ++ names_of classes) (names_built built_in_names)))
+
+  passed_by_names : (lines : List WorldLine) (name : List ℕ) → is_passed_by lines (names_of classes) name
+      ≡ is_passed lines (world_of classes) name
+  passed_by_names lines name = ap (λ b. list_any (passes name) lines && b) (sym (numbered name))
+
+  enter_by_names : (lines : List WorldLine) (c : ClassContent) → entering_by lines (names_of classes) c
+      ≡ entering lines (world_of classes) c
+  enter_by_names lines c = ap (λ (is : List (List ℕ)). record (past_initialiser lines c) { interfaces = is })
+      (kept_alike (λ (name : List ℕ). not (is_passed_by lines (names_of classes) name))
+      (λ (name : List ℕ). not (is_passed lines (world_of classes) name)) (λ name. ap not (passed_by_names lines name))
+      (past_initialiser lines c).interfaces)
+
+  all_by_names : (lines : List WorldLine) (cs : List ClassContent) → map (entering_by lines (names_of classes)) cs
+      ≡ map (entering lines (world_of classes)) cs
+  all_by_names lines [] = refl
+  all_by_names lines (c ∷ cs) =
+      ap (λ d. d ∷ map (entering_by lines (names_of classes)) cs) (enter_by_names lines c)
+      ∙ ap (λ ds. entering lines (world_of classes) c ∷ ds) (all_by_names lines cs)
+
+-- classes that entered beside these names entered the world
+pub entered : (lines : List WorldLine) (names : List (List ℕ)) (classes all : List ClassContent) → names ≡ names_of classes
+    → all ≡ map (entering_by lines names) classes → all ≡ set_up lines classes
+unfolding set_up
+entered lines names classes all e h =
+    h ∙ ap (λ ns. map (entering_by lines ns) classes) e ∙ all_by_names classes lines classes

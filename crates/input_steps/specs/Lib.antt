@@ -3,5 +3,6 @@ pub mod Texts
 pub mod Classes
 pub mod SetUp
 pub mod SetUpLaws
+pub mod inner
 pub mod Programs
 pub mod Lines

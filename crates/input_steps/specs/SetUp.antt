@@ -1,13 +1,14 @@
 -- How the classes that files spell enter the world, by the lines of a description or a state.
 --
 -- A class that is initialised before the run has no initialiser left to run (JVM specification, sections 2.9 and 5.5). An interface
--- that is passed over is left out of the lists of interfaces: a class that implements it needs no class file of it, and isn't below
--- it. Nothing else is changed, and without lines nothing is.
-use Rattle.std.specs.Prelude.{ℕ, Bool, false, not, ◌&&◌, ◌++◌, List, map, if◌then◌else◌}
+-- that is passed over is left out of the lists of interfaces: a class that lists it needs no class file of it, is below neither it nor
+-- what is above it, and has none of its default methods and fields; its initialiser doesn't run. Nothing else is changed, and without
+-- lines nothing is.
+use Rattle.std.specs.Prelude.{ℕ, Bool, false, not, ◌&&◌, List, is_none, map, if◌then◌else◌}
 use Rattle.std.specs.List.{filter, list_any}
 use Rattle.std.specs.Str.{bytes_eq}
 use Rattle.class_read.specs.Content.{ClassContent}
-use Rattle.class_world.specs.World.{built_in_names}
+use Rattle.class_world.specs.World.{World, world_of, class_of}
 use Rattle.class_world.specs.Resolve.{is_initialiser}
 use Rattle.input_text.specs.declared.texts.WorldLine.{WorldLine}
 use Rattle.input_text.specs.declared.texts.WorldLine.TheVariants.{Initialised, Passed}
@@ -23,9 +24,9 @@ initialises name (Passed interface) = false
 abbrev pub without_initialiser : ClassContent → ClassContent
 without_initialiser c = record c { methods = filter (λ m. not (is_initialiser m)) c.methods }
 
--- a class whose initialiser has run, where a line says so
-abbrev pub initialised : List WorldLine → ClassContent → ClassContent
-initialised lines c = if list_any (initialises c.name) lines then without_initialiser c else c
+-- a class, without its initialiser where a line says that it is initialised; a line for a name that no class has says nothing
+abbrev pub past_initialiser : List WorldLine → ClassContent → ClassContent
+past_initialiser lines c = if list_any (initialises c.name) lines then without_initialiser c else c
 
 -- ---- interfaces that are passed over
 
@@ -34,28 +35,20 @@ abbrev pub passes : List ℕ → WorldLine → Bool
 passes name (Initialised class) = false
 passes name (Passed interface) = bytes_eq name interface
 
--- a class of this name is built in, or handed in among those of these names
-unfoldable pub is_there : List (List ℕ) → List ℕ → Bool
-is_there names name = list_any (bytes_eq name) (map (λ n. n.0) built_in_names ++ names)
-
 -- an interface is passed over where a line says so and no class of its name is there; where one is, the line says nothing
-abbrev pub is_passed : List WorldLine → List (List ℕ) → List ℕ → Bool
-is_passed lines names name = list_any (passes name) lines && not (is_there names name)
+abbrev pub is_passed : List WorldLine → World → List ℕ → Bool
+is_passed lines world name = list_any (passes name) lines && is_none (class_of world name)
 
 -- a class without the interfaces that are passed over
-abbrev pub without_passed : List WorldLine → List (List ℕ) → ClassContent → ClassContent
-without_passed lines names c = record c { interfaces = filter (λ name. not (is_passed lines names name)) c.interfaces }
+abbrev pub without_passed : List WorldLine → World → ClassContent → ClassContent
+without_passed lines world c = record c { interfaces = filter (λ name. not (is_passed lines world name)) c.interfaces }
 
 -- ---- all of them
 
--- a class as it enters the world, beside classes of these names
-abbrev pub entering : List WorldLine → List (List ℕ) → ClassContent → ClassContent
-entering lines names c = without_passed lines names (initialised lines c)
+-- a class as it enters the world, beside the classes that are there
+abbrev pub entering : List WorldLine → World → ClassContent → ClassContent
+entering lines world c = without_passed lines world (past_initialiser lines c)
 
--- the names of classes, in their order
-abbrev pub names_of : List ClassContent → List (List ℕ)
-names_of classes = map (λ c. c.name) classes
-
--- the classes as they enter the world, in their order; a name that no class has says nothing
+-- the classes as they enter the world, in their order
 unfoldable pub set_up : List WorldLine → List ClassContent → List ClassContent
-set_up lines classes = map (entering lines (names_of classes)) classes
+set_up lines classes = map (entering lines (world_of classes)) classes

@@ -78,7 +78,8 @@ fn link_all<'a>(alloc: Global, classes: Vec<ClassView<'a>>) -> Result<World<'a>,
     }
 }
 
-/// The world of classes that files spell, at most 256, as the lines of a description or a state say that they enter it.
+/// The world of at most 256 classes, as the lines of a description or a state say that they enter it. The members of each differ, it has
+/// few of them, and their codes are short: so it is of each class that is read (`read_can_be_linked` of `class_world`).
 ///
 /// # Errors
 ///

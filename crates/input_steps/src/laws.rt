@@ -1,5 +1,5 @@
 //! Laws about how classes enter the world, for the proofs of other crates and for readers. They run nothing.
-ghost use Rattle.input_steps.specs.SetUpLaws.{SetUpLinks, SetUpNothing, SetUpNames};
+ghost use Rattle.input_steps.specs.SetUpLaws.{SetUpLinks, SetUpNothing, SetUpNames, SetUpSame};
 
 /// Classes that can be linked can be linked as they enter the world, whatever the lines say.
 pub fn set_up_links()
@@ -14,4 +14,10 @@ pub fn set_up_nothing()
 /// The classes keep their names and their order: so they have the numbers that they have without lines.
 pub fn set_up_keeps_names()
     ensures { SetUpNames }
+{}
+
+/// Lines that say the same of each name let the classes enter the world alike: their order doesn't matter, nor does it how often one
+/// stands there.
+pub fn set_up_of_same_lines()
+    ensures { SetUpSame }
 {}

@@ -4,8 +4,9 @@ ghost use Rattle.std.specs.List.{filter, list_any};
 ghost use Rattle.std.specs.Str.{bytes_eq};
 ghost use Rattle.class_read.specs.View.{method_content};
 ghost use Rattle.class_world.specs.Resolve.{is_initialiser};
-ghost use Rattle.input_steps.specs.SetUp.{initialises, without_initialiser, initialised, passes, is_there, is_passed};
-ghost use Rattle.input_steps.specs.SetUp.{without_passed, entering, names_of, set_up};
+ghost use Rattle.input_steps.specs.SetUp.{initialises, without_initialiser, past_initialiser, passes, set_up};
+ghost use Rattle.input_steps.specs.SetUpLaws.{names_of};
+ghost use Rattle.input_steps.specs.inner.ByNames.{is_there, is_passed_by, without_passed_by, entering_by};
 
 use class_read::{ClassView, MethodView};
 use class_world::is_built_in;
@@ -24,7 +25,7 @@ fn initialises(name: &[u8], line: &WorldLine) -> bool
 }
 
 /// Whether some line says so.
-fn is_initialised(name: &[u8], lines: &[WorldLine]) -> bool
+fn has_initialising(name: &[u8], lines: &[WorldLine]) -> bool
     ensures { result ≡ list_any (initialises name.now) lines.now }
 {
     for line in lines {
@@ -79,7 +80,7 @@ fn is_there(names: &[&[u8]], name: &[u8]) -> bool
 
 /// Whether an interface is passed over.
 fn is_passed(lines: &[WorldLine], names: &[&[u8]], name: &[u8]) -> bool
-    ensures { result ≡ is_passed lines.now (map (λ n. n.now) names.now) name.now }
+    ensures { result ≡ is_passed_by lines.now (map (λ n. n.now) names.now) name.now }
 {
     has_passing(name, lines) && !is_there(names, name)
 }
@@ -110,7 +111,7 @@ fn other_methods<'a>(methods: Seq<MethodView<'a>>) -> Seq<MethodView<'a>>
 
 /// Takes the interfaces that are passed over out of names.
 fn drop_passed(lines: &[WorldLine], names: &[&[u8]], interfaces: &mut Vec<&[u8]>)
-    ensures { interfaces.new.items ≡ filter (λ i. not (is_passed lines.now (map (λ n. n.now) names.now) i.now)) interfaces.old.items }
+    ensures { interfaces.new.items ≡ filter (λ i. not (is_passed_by lines.now (map (λ n. n.now) names.now) i.now)) interfaces.old.items }
 {
     interfaces.retain(|name| !is_passed(lines, names, *name));
 }
@@ -122,7 +123,7 @@ fn other_interfaces<'a>(
     names: &[&[u8]],
     interfaces: Seq<&'a [u8]>,
 ) -> Seq<&'a [u8]>
-    ensures { map (λ i. i.now) result ≡ filter (λ name. not (is_passed lines.now (map (λ n. n.now) names.now) name))
+    ensures { map (λ i. i.now) result ≡ filter (λ name. not (is_passed_by lines.now (map (λ n. n.now) names.now) name))
         (map (λ i. i.now) interfaces.entry) }
 {
     let mut kept = interfaces.into_vec();
@@ -138,11 +139,11 @@ fn without_initialiser(mut class: ClassView<'_>) -> ClassView<'_>
     class
 }
 
-/// A class whose initialiser has run, where a line says so.
-fn initialised<'a>(lines: &[WorldLine], class: ClassView<'a>) -> ClassView<'a>
-    ensures { result ≡ initialised lines.now class.entry }
+/// A class, without its initialiser where a line says that it is initialised.
+fn past_initialiser<'a>(lines: &[WorldLine], class: ClassView<'a>) -> ClassView<'a>
+    ensures { result ≡ past_initialiser lines.now class.entry }
 {
-    if is_initialised(class.name, lines) {
+    if has_initialising(class.name, lines) {
         without_initialiser(class)
     } else {
         class
@@ -155,7 +156,7 @@ fn without_passed<'a>(
     names: &[&[u8]],
     mut class: ClassView<'a>,
 ) -> ClassView<'a>
-    ensures { result ≡ without_passed lines.now (map (λ n. n.now) names.now) class.entry }
+    ensures { result ≡ without_passed_by lines.now (map (λ n. n.now) names.now) class.entry }
 {
     class.interfaces = other_interfaces(lines, names, class.interfaces);
     class
@@ -163,9 +164,9 @@ fn without_passed<'a>(
 
 /// A class as it enters the world, beside classes of these names.
 fn entering<'a>(lines: &[WorldLine], names: &[&[u8]], class: ClassView<'a>) -> ClassView<'a>
-    ensures { result ≡ entering lines.now (map (λ n. n.now) names.now) class.entry }
+    ensures { result ≡ entering_by lines.now (map (λ n. n.now) names.now) class.entry }
 {
-    without_passed(lines, names, initialised(lines, class))
+    without_passed(lines, names, past_initialiser(lines, class))
 }
 
 /// The names of classes, in their order.
@@ -186,7 +187,7 @@ fn all_entering<'a>(
     names: &[&[u8]],
     classes: Vec<ClassView<'a>>,
 ) -> Result<Vec<ClassView<'a>>, AllocError>
-    ensures { IfOk result (λ entered. entered.items ≡ map (entering lines.now (map (λ n. n.now) names.now)) classes.entry.items) }
+    ensures { IfOk result (λ entered. entered.items ≡ map (entering_by lines.now (map (λ n. n.now) names.now)) classes.entry.items) }
 {
     let mut entered = Vec::new(alloc);
     for class in classes {
@@ -200,7 +201,7 @@ fn all_entering<'a>(
 /// # Errors
 ///
 /// Want of memory.
-#[tactic(auto, unfolding(crate::specs::SetUp::set_up))]
+#[tactic(auto, using(crate::proofs::SetUp::entered))]
 pub(crate) fn set_up<'a>(
     alloc: Global,
     lines: &[WorldLine],

@@ -9,18 +9,20 @@ use Rattle.serde_json.specs.Find.{as_object, as_array, as_str, as_bool, get_memb
 use Rattle.json_view.specs.Located.{Located, root_of}
 use Rattle.json_view.specs.Answers.{Reads}
 use Rattle.json_view.specs.Names.{least_unlisted, first_missing}
+use Rattle.json_view.specs.Place.{item_pointer}
 use Rattle.json_view.specs.Reading.{only_of, field_of, items_of, item_of, int_of, text_of, flag_of, first_fault, unknown_field}
 use Rattle.json_view.specs.Reading.{missing_field, at_member, at_item, within, whole_number_of, has_field}
 use Rattle.json_view.specs.declared.fault.JsonFault.{JsonFault}
 use Rattle.json_view.specs.declared.fault.JsonFault.TheVariants.{NotJson, WrongKind, MissingField, UnknownField, OutOfRange, Memory}
 use Rattle.jvm_values.specs.Kinds.{kind_of_code}
 use Rattle.input_text.specs.Answers.{Reader, Says, AnswersText, described}
-use Rattle.input_text.specs.Fields.{◌>>=◌, field, items_from, list_of, an_int, a_number, entry_of}
+use Rattle.list_views.specs.Results.{wanted, required}
+use Rattle.input_text.specs.Fields.{◌>>=◌, field, nth, items_from, list_of, an_int, a_number, entry_of}
 use Rattle.input_text.specs.Values.{int_value, ref_value, value_by, value_of}
 use Rattle.input_text.specs.Objects.{instance_of, a_byte, kind_of, nums_of, refs_of, object_of}
-use Rattle.input_text.specs.Inputs.{int_input, shape_of, ref_fields, ref_input, input_of, number_in, nth_number, both_numbers, pair_of}
-use Rattle.input_text.specs.WorldLines.{text_in, nth_text, name_behind, line_with, line_of_items, world_line, is_third_form, world_lines}
-use Rattle.input_text.specs.Descriptions.{is_first_form, static_inputs, desc_end, desc_fields, description_of}
+use Rattle.input_text.specs.Inputs.{int_input, shape_of, ref_fields, ref_input, input_of, both_numbers, pair_of}
+use Rattle.input_text.specs.WorldLines.{line_named, world_line}
+use Rattle.input_text.specs.Descriptions.{is_first_form, is_third_form, world_lines, static_inputs, desc_end, desc_fields, description_of}
 use Rattle.input_text.specs.States.{static_values, state_end, state_fields, state_of}
 use Rattle.input_text.specs.declared.fault.DescFault.{DescFault}
 use Rattle.input_text.specs.declared.texts.EntryName.{EntryName}
@@ -51,6 +53,14 @@ choice false r s c d = d
 kinds : {A : Type 0} (found : Option A) (fault : JsonFault) → IsOther fault → IsClean (ok_or found fault)
 kinds (Some x) fault o = tt
 kinds None fault o = o
+
+is_wanted : {A : Type 0} (fault : JsonFault) (found : Option A) → IsOther fault → IsClean (wanted fault found)
+is_wanted fault (Some x) o = tt
+is_wanted fault None o = o
+
+is_required : (fault : JsonFault) (test : Bool) → IsOther fault → IsClean (required fault test)
+is_required fault true o = tt
+is_required fault false o = o
 
 firsts : (place : List ℕ) (a b : Option (List ℕ))
     → IsClean (first_fault (option_map (unknown_field place) a) (option_map (missing_field place) b))
@@ -117,6 +127,11 @@ of_list : {A : Type 0} (reader : Reader A) → AreClean reader → AreClean (lis
 unfolding list_of
 of_list reader c here = bind (ok_or (as_array here.value) (WrongKind here.place)) (items_from reader here.place 0)
     (kinds (as_array here.value) (WrongKind here.place) tt) (λ all. from_items reader here.place 0 all c)
+
+of_nth : {A : Type 0} (n : ℕ) (reader : Reader A) → AreClean reader → AreClean (nth n reader)
+unfolding nth
+of_nth n reader c here = bind (wanted (WrongKind here.place) (item_of n here)) reader
+    (is_wanted (WrongKind here.place) (item_of n here) tt) c
 
 of_int : AreClean an_int
 unfolding an_int
@@ -211,43 +226,23 @@ of_input : AreClean input_of
 unfolding input_of
 of_input here = choice (has_field (codes "lo") here) _ _ (of_int_input here) (of_ref_input here)
 
-in_number : (place : List ℕ) (there : Option Located) → IsClean (number_in place there)
-in_number place (Some there) = of_number there
-in_number place None = tt
-
 of_both : AreClean both_numbers
-unfolding both_numbers nth_number
-of_both here = bind _ _ (in_number here.place (item_of 0 here)) (λ _. bind _ _ (in_number here.place (item_of 1 here)) (λ _. tt))
+unfolding both_numbers
+of_both here = bind _ _ (of_nth 0 a_number of_number here) (λ _. bind _ _ (of_nth 1 a_number of_number here) (λ _. tt))
 
 of_pair : AreClean pair_of
 unfolding pair_of
 of_pair here = bind _ _ (items here) (λ count. choice (count == 2) _ _ (of_both here) tt)
 
-in_text : (place : List ℕ) (there : Option Located) → IsClean (text_in place there)
-in_text place (Some there) = text there
-in_text place None = tt
-
-of_nth : (n : ℕ) → AreClean (nth_text n)
-unfolding nth_text
-of_nth n here = in_text here.place (item_of n here)
-
-of_name : (count : ℕ) → AreClean (name_behind count)
-unfolding name_behind
-of_name count here = choice (count == 2) _ _ (of_nth 1 here) tt
-
-of_line_with : (word : List ℕ) (count : ℕ) → AreClean (line_with word count)
-unfolding line_with
-of_line_with word count here =
-    choice (bytes_eq word (codes "initialised")) _ _ (bind _ _ (of_name count here) (λ _. tt))
-    (choice (bytes_eq word (codes "passed")) _ _ (bind _ _ (of_name count here) (λ _. tt)) tt)
-
-of_line_items : (count : ℕ) → AreClean (line_of_items count)
-unfolding line_of_items
-of_line_items count here = choice (nat_lt 0 count) _ _ (bind _ _ (of_nth 0 here) (λ word. of_line_with word count here)) tt
-
 of_line : AreClean world_line
 unfolding world_line
-of_line here = bind _ _ (items here) (λ count. of_line_items count here)
+of_line here =
+    bind _ _ (items here) (λ count.
+    bind _ _ (is_required (WrongKind here.place) (nat_lt 0 count) tt) (λ _.
+    bind _ _ (of_nth 0 text_of text here) (λ word.
+    bind _ _ (is_wanted (WrongKind (item_pointer here.place 0)) (line_named word) tt) (λ _.
+    bind _ _ (is_required (WrongKind here.place) (count == 2) tt) (λ _.
+    bind _ _ (of_nth 1 text_of text here) (λ _. tt))))))
 
 of_world : (form : ℤ) → AreClean (world_lines form)
 unfolding world_lines

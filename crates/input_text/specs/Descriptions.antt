@@ -1,15 +1,15 @@
 -- The descriptions that JSON values say.
 --
 -- The field `form` is read first. Then the names of the fields are tested, and then the fields are read in the order in
--- which they are listed here; in every object inside, the names come first too. A text of form 2 has static fields too, and one of form 3
--- says besides how the classes enter the world.
+-- which they are listed here; in every object inside, the names come first too. A text of form 2 has static fields too, and one
+-- of form 3 says besides how the classes enter the world.
 use Rattle.std.specs.Prelude.{ℕ, ℤ, pos, Bool, List, [], codes, if◌then◌else◌, Ok}
 use Rattle.std.specs.Ordering.{int_eq}
 use Rattle.json_view.specs.Reading.{only_of, int_of}
 use Rattle.input_text.specs.Answers.{Reader}
 use Rattle.input_text.specs.Fields.{◌>>=◌, field, list_of, entry_of}
 use Rattle.input_text.specs.Inputs.{input_of, pair_of}
-use Rattle.input_text.specs.WorldLines.{world_lines}
+use Rattle.input_text.specs.WorldLines.{world_line}
 use Rattle.input_text.specs.declared.texts.EntryName.{EntryName}
 use Rattle.input_text.specs.declared.texts.InputText.{InputText}
 use Rattle.input_text.specs.declared.texts.WorldLine.{WorldLine}
@@ -19,16 +19,20 @@ use Rattle.input_text.specs.declared.texts.DescText.{DescText}
 abbrev pub is_first_form : ℤ → Bool
 is_first_form form = int_eq form (pos 1)
 
--- a description or a state is of form 2, which speaks of static fields
-abbrev pub is_second_form : ℤ → Bool
-is_second_form form = int_eq form (pos 2)
+-- a description or a state is of form 3, the form that says how the classes enter the world
+abbrev pub is_third_form : ℤ → Bool
+is_third_form form = int_eq form (pos 3)
 
 -- the names of the fields of a description of this form, all of which must be there, and no others
 abbrev pub desc_names : ℤ → List ℕ
 desc_names form =
     if is_first_form form then codes "form class method desc params same share"
-    else if is_second_form form then codes "form class method desc params same share statics"
-    else codes "form class method desc world params same share statics"
+    else if is_third_form form then codes "form class method desc world params same share statics"
+    else codes "form class method desc params same share statics"
+
+-- the lines about classes that a text says: its field `world`; texts of forms 1 and 2 say none
+unfoldable pub world_lines : ℤ → Reader (List WorldLine)
+world_lines form here = if is_third_form form then field (codes "world") (list_of world_line) here else Ok []
 
 -- the inputs of static fields that a description says: its field `statics`; a text of form 1 says none
 unfoldable pub static_inputs : ℤ → Reader (List InputText)

@@ -7,3 +7,4 @@ pub mod Values
 pub mod Objects
 pub mod States
 pub mod Faults
+pub mod inner

@@ -1,8 +1,8 @@
 -- The states that JSON values say.
 --
 -- The field `form` is read first. Then the names of the fields are tested, and then the fields are read in the order in
--- which they are listed here; in every object inside, the names come first too. A text of form 2 has static fields too, and one of form 3
--- says besides how the classes enter the world.
+-- which they are listed here; in every object inside, the names come first too. A text of form 2 has static fields too, and one
+-- of form 3 says besides how the classes enter the world.
 use Rattle.std.specs.Prelude.{ℕ, ℤ, pos, List, codes, if◌then◌else◌, Option, Some, None, Ok}
 use Rattle.json_view.specs.Reading.{only_of, int_of}
 use Rattle.jvm_values.specs.declared.heap.Value.{Value}
@@ -10,8 +10,7 @@ use Rattle.input_text.specs.Answers.{Reader}
 use Rattle.input_text.specs.Fields.{◌>>=◌, field, list_of, entry_of}
 use Rattle.input_text.specs.Values.{value_of}
 use Rattle.input_text.specs.Objects.{object_of}
-use Rattle.input_text.specs.WorldLines.{world_lines}
-use Rattle.input_text.specs.Descriptions.{is_first_form, is_second_form}
+use Rattle.input_text.specs.Descriptions.{is_first_form, is_third_form, world_lines}
 use Rattle.input_text.specs.declared.texts.EntryName.{EntryName}
 use Rattle.input_text.specs.declared.texts.WorldLine.{WorldLine}
 use Rattle.input_text.specs.declared.texts.StateText.{StateText}
@@ -20,8 +19,8 @@ use Rattle.input_text.specs.declared.texts.StateText.{StateText}
 abbrev pub state_names : ℤ → List ℕ
 state_names form =
     if is_first_form form then codes "form class method desc args heap"
-    else if is_second_form form then codes "form class method desc args heap statics"
-    else codes "form class method desc world args heap statics"
+    else if is_third_form form then codes "form class method desc world args heap statics"
+    else codes "form class method desc args heap statics"
 
 -- the values of static fields that a state says: its field `statics`; a text of form 1 says nothing of them
 unfoldable pub static_values : ℤ → Reader (Option (List Value))

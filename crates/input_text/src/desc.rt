@@ -2,9 +2,9 @@
 ghost use Rattle.std.specs.Prelude.{◌≡◌, ◌<◌, codes};
 ghost use Rattle.json_view.specs.Located.{located};
 ghost use Rattle.input_text.specs.Answers.{Says, AnswersText};
-ghost use Rattle.input_text.specs.Fields.{field, an_int};
+ghost use Rattle.input_text.specs.Fields.{field, nth, an_int, a_number};
 ghost use Rattle.json_view.specs.Reading.{flag_of, item_count};
-ghost use Rattle.input_text.specs.Inputs.{int_input, shape_of, ref_fields, ref_names, ref_input, nth_number, both_numbers};
+ghost use Rattle.input_text.specs.Inputs.{int_input, shape_of, ref_fields, ref_names, ref_input, both_numbers};
 ghost use Rattle.input_text.specs.Descriptions.{desc_names, static_inputs, desc_end, desc_fields, description_of};
 
 use crate::fault::DescFault;
@@ -106,10 +106,10 @@ impl Said for InputText {
 }
 
 /// The number of an input that is an item of a list.
-#[tactic(auto, unfolding(crate::specs::Inputs::nth_number))]
+#[tactic(auto, unfolding(crate::specs::Fields::nth))]
 fn nth_number(alloc: Global, view: &View<'_, '_>, n: usize) -> Result<u32, JsonFault>
     requires { n < item_count (located view.now).value }
-    ensures { Says result (nth_number n (located view.now)) }
+    ensures { Says result (nth n a_number (located view.now)) }
 {
     let item = view.item(n);
     number(alloc, &item)
@@ -147,10 +147,10 @@ fn names(form: i64) -> &'static str
 {
     if form == 1 {
         "form class method desc params same share"
-    } else if form == 2 {
-        "form class method desc params same share statics"
-    } else {
+    } else if form == 3 {
         "form class method desc world params same share statics"
+    } else {
+        "form class method desc params same share statics"
     }
 }
 

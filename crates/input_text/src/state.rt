@@ -20,10 +20,10 @@ fn names(form: i64) -> &'static str
 {
     if form == 1 {
         "form class method desc args heap"
-    } else if form == 2 {
-        "form class method desc args heap statics"
-    } else {
+    } else if form == 3 {
         "form class method desc world args heap statics"
+    } else {
+        "form class method desc args heap statics"
     }
 }
 

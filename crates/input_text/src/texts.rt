@@ -18,7 +18,8 @@ pub struct EntryName {
 pub enum WorldLine {
     /// The class of this name is initialised before the run begins (JVM specification, SE 8, section 5.5).
     Initialised(Seq<u8>),
-    /// The interface of this name is passed over in lists of interfaces, where no class of the name is handed in.
+    /// The interface of this name is passed over in lists of interfaces, where no class of the name is built in or handed in: a class
+    /// that lists it isn't below it, nor below what is above it.
     Passed(Seq<u8>),
 }
 

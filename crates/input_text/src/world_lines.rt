@@ -3,9 +3,11 @@ ghost use Rattle.std.specs.Prelude.{◌≡◌, ◌<◌};
 ghost use Rattle.json_view.specs.Answers.{StandsFor};
 ghost use Rattle.json_view.specs.Located.{located};
 ghost use Rattle.json_view.specs.Place.{item_pointer};
-ghost use Rattle.json_view.specs.Reading.{item_count};
+ghost use Rattle.json_view.specs.Reading.{item_count, text_of};
 ghost use Rattle.input_text.specs.Answers.{Says};
-ghost use Rattle.input_text.specs.WorldLines.{nth_text, name_behind, line_with, line_of_items, world_lines};
+ghost use Rattle.input_text.specs.Fields.{nth};
+ghost use Rattle.input_text.specs.Descriptions.{world_lines};
+ghost use Rattle.input_text.specs.inner.Lines.{saying, behind_word, behind_count};
 
 use crate::fields::text;
 use crate::lists::{Said, list_field};
@@ -15,23 +17,40 @@ use list_views::Seq;
 use std::alloc::Global;
 
 /// The text that is an item of a list.
-#[tactic(auto, unfolding(crate::specs::WorldLines::nth_text))]
+#[tactic(auto, unfolding(crate::specs::Fields::nth))]
 fn nth_text(alloc: Global, view: &View<'_, '_>, n: usize) -> Result<Seq<u8>, JsonFault>
     requires { n < item_count (located view.now).value }
-    ensures { Says result (nth_text n (located view.now)) }
+    ensures { Says result (nth n text_of (located view.now)) }
 {
     let item = view.item(n);
     text(alloc, &item)
 }
 
-/// The name behind the word of a line of two items.
-#[tactic(auto, unfolding(crate::specs::WorldLines::name_behind))]
-fn name_behind(alloc: Global, view: &View<'_, '_>, count: usize) -> Result<Seq<u8>, JsonFault>
+/// A line of so many items that says that a class is initialised.
+fn initialised_line(
+    alloc: Global,
+    view: &View<'_, '_>,
+    count: usize,
+) -> Result<WorldLine, JsonFault>
     requires { count ≡ item_count (located view.now).value }
-    ensures { Says result (name_behind count (located view.now)) }
+    ensures { Says result (saying WorldLine.Initialised count (located view.now)) }
 {
     if count == 2 {
-        nth_text(alloc, view, 1)
+        let name = nth_text(alloc, view, 1)?;
+        Ok(WorldLine::Initialised(name))
+    } else {
+        Err(view.wrong_kind(alloc))
+    }
+}
+
+/// A line of so many items that says that an interface is passed over.
+fn passed_line(alloc: Global, view: &View<'_, '_>, count: usize) -> Result<WorldLine, JsonFault>
+    requires { count ≡ item_count (located view.now).value }
+    ensures { Says result (saying WorldLine.Passed count (located view.now)) }
+{
+    if count == 2 {
+        let name = nth_text(alloc, view, 1)?;
+        Ok(WorldLine::Passed(name))
     } else {
         Err(view.wrong_kind(alloc))
     }
@@ -48,7 +67,6 @@ fn unknown_word(alloc: Global, view: &View<'_, '_>) -> JsonFault
 }
 
 /// The line of a word and so many items.
-#[tactic(auto, unfolding(crate::specs::WorldLines::line_with))]
 fn line_with(
     alloc: Global,
     view: &View<'_, '_>,
@@ -57,24 +75,21 @@ fn line_with(
 ) -> Result<WorldLine, JsonFault>
     requires some { 0 < count }
     requires count { count ≡ item_count (located view.now).value }
-    ensures { Says result (line_with word.now count (located view.now)) }
+    ensures { Says result (behind_word word.now count (located view.now)) }
 {
     if word == b"initialised".as_slice() {
-        let name = name_behind(alloc, view, count)?;
-        return Ok(WorldLine::Initialised(name));
+        return initialised_line(alloc, view, count);
     }
     if word == b"passed".as_slice() {
-        let name = name_behind(alloc, view, count)?;
-        return Ok(WorldLine::Passed(name));
+        return passed_line(alloc, view, count);
     }
     Err(unknown_word(alloc, view))
 }
 
 /// The line of so many items.
-#[tactic(auto, unfolding(crate::specs::WorldLines::line_of_items))]
 fn line_of_items(alloc: Global, view: &View<'_, '_>, count: usize) -> Result<WorldLine, JsonFault>
     requires { count ≡ item_count (located view.now).value }
-    ensures { Says result (line_of_items count (located view.now)) }
+    ensures { Says result (behind_count count (located view.now)) }
 {
     if count > 0 {
         let word = nth_text(alloc, view, 0)?;
@@ -97,7 +112,7 @@ impl Said for WorldLine {
 }
 
 /// The lines of the field `world`, which texts of forms 1 and 2 don't have.
-#[tactic(auto, unfolding(crate::specs::WorldLines::world_lines))]
+#[tactic(auto, unfolding(crate::specs::Descriptions::world_lines))]
 pub(crate) fn world_lines(
     alloc: Global,
     form: i64,

@@ -8,7 +8,7 @@ use Rattle.input_text.specs.declared.texts.WorldLine.TheVariants.{Initialised, P
 use Rattle.survey.specs.declared.assuming.Assumed.{Assumed}
 
 -- The class of a name is another class or above that one. While a method of that class runs, it is initialised, or is being initialised
--- by the thread itself (JVM specification, SE 8, section 5.5): nobody has to believe it.
+-- by the thread itself, or its initialiser has thrown and an object of it is left (JVM specification, SE 8, section 5.5).
 unfoldable pub is_own : World → List ℕ → List ℕ → Bool
 is_own world class name = option_map_or (λ own. option_map_or (λ k. list_any (λ c. c == k) (line_of world own)) (class_of world name) false)
     (class_of world class) false
@@ -23,8 +23,8 @@ abbrev pub is_passing : WorldLine → Bool
 is_passing (Initialised name) = false
 is_passing (Passed interface) = true
 
--- what is shown of a method of a class is all that the lines take to be so: each other class that is initialised, in the order of the
--- lines, and whether an interface is passed over
+-- what is shown of a method of a class: of the lines each other class that is initialised, in their order, and whether an interface is
+-- passed over
 pub record Shows (world : World) (class : List ℕ) (lines : List WorldLine) (assumed : Assumed) : Type 0 where
   pub others : assumed.others ≡ filter_map (other_of world class) lines
   pub passed : assumed.passed ≡ list_any is_passing lines

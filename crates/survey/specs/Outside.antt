@@ -1,5 +1,5 @@
 -- What a survey reads and puts, and what its status says.
-use Rattle.std.specs.Prelude.{◌≡◌, ◌⊎◌, ℕ, List, [], ◌∷◌, ◌++◌, Option, length, ⊤}
+use Rattle.std.specs.Prelude.{◌≡◌, ◌⊎◌, ℕ, Bool, List, [], ◌∷◌, ◌++◌, Option, length, ⊤}
 use Rattle.std.specs.Io.KnownBytes.{Appends}
 use Rattle.io_ports.specs.Told.{Told, IsContent}
 use Rattle.survey.specs.Claims.{Surveyed, AreTrue, AreAllProved}
@@ -19,14 +19,15 @@ Tells taken s old new = (text : List ℕ) × (Appends (taken old) (taken new) te
 abbrev pub BeginsToTell : {S : Type 0} → (S → Option (List ℕ)) → Surveyed → S → S → Type 0
 BeginsToTell taken s old new = (text rest : List ℕ) × (Appends (taken old) (taken new) text × AreTrue s (text ++ rest))
 
--- What a call puts whose words name class files and descriptions. There are class files and descriptions that are
--- surveyed: the contents of some of those that the words name, in their order; the other class files were refused or
--- left out. The output took the beginning of a text of whole lines, of which each that begins with YES is true of
--- them. Status 0 says that all of this text was taken, that no class file was refused or left out, and that each
--- method with code is proved.
-pub record HasSurveyed {S : Type 0} (held : List ℕ → Told) (taken : S → Option (List ℕ)) (names descs : List (List ℕ)) (old new : S)
-    (status : ℕ) : Type 0 where
+-- What a call puts whose words name class files and descriptions, and ask that nothing be taken to be so, or don't. There are class
+-- files and descriptions that are surveyed: the contents of some of those that the words name, in their order; the other class files
+-- were refused or left out. The output took the beginning of a text of whole lines, of which each that begins with YES is true of
+-- them. Status 0 says that all of this text was taken, that no class file was refused or left out, and that each method that is asked
+-- is proved, with what its line shows.
+pub record HasSurveyed {S : Type 0} (held : List ℕ → Told) (taken : S → Option (List ℕ)) (strict : Bool) (names descs : List (List ℕ))
+    (old new : S) (status : ℕ) : Type 0 where
   pub s : Surveyed
+  pub asked : s.strict ≡ strict
   pub are : AreSome held names s.files
   pub described : AreSome held descs s.descs
   pub told : BeginsToTell taken s old new

@@ -1,8 +1,13 @@
 -- The words of a survey: `[--strict] [--why] [--desc FILE].. CLASS..`.
-use Rattle.std.specs.Prelude.{ℕ, ◌≤◌, ◌==◌, not, Bool, true, List, [], ◌∷◌, length, codes, IsTrue, if◌then◌else◌}
+use Rattle.std.specs.Prelude.{ℕ, ◌≤◌, ◌==◌, not, Bool, true, false, List, [], ◌∷◌, length, codes, IsTrue, if◌then◌else◌}
 use Rattle.std.specs.List.{list_all}
 use Rattle.std.specs.Str.{bytes_eq}
 use Rattle.class_base.specs.Limits.{most_classes}
+
+-- the words begin with `--strict`
+abbrev pub is_strict : List (List ℕ) → Bool
+is_strict [] = false
+is_strict (word ∷ words) = bytes_eq word (codes "--strict")
 
 -- the words behind `--strict`, which may stand first
 abbrev pub behind_strict : List (List ℕ) → List (List ℕ)

@@ -22,15 +22,6 @@ pub(crate) struct Assumed {
     pub(crate) passed: bool,
 }
 
-/// Nothing is assumed.
-pub(crate) fn nothing_assumed(alloc: Global) -> Assumed {
-    Assumed {
-        narrow: false,
-        others: Seq::new(alloc),
-        passed: false,
-    }
-}
-
 impl Assumed {
     /// Whether the line has a word that says so of classes.
     pub(crate) fn is_shown(&self) -> bool {

@@ -1,22 +1,24 @@
 //! What is said of one method.
-ghost use Rattle.std.specs.Prelude.{◌≡◌, ◌≤◌, length, map, slice_get, Some, IfOk, IfSome, IsTrue};
+ghost use Rattle.std.specs.Prelude.{◌≡◌, ◌≤◌, [], true, false, length, map, slice_get, Some, Ok, IfOk, IfSome, IsTrue};
 ghost use Rattle.class_base.specs.Limits.{most_classes};
 ghost use Rattle.class_world.specs.Worlds.{classes_of};
 ghost use Rattle.class_program.specs.Views.{program_of};
 ghost use Rattle.input_text.specs.Answers.{SaysOf};
 ghost use Rattle.input_text.specs.Descriptions.{description_of};
-ghost use Rattle.class_calls.specs.describe.Calls.{IsMethodProgram};
+ghost use Rattle.class_calls.specs.describe.Lines.{IsMethodProgram, AreNeeded};
 ghost use Rattle.class_calls.specs.describe.Templates.{IsTemplate};
 ghost use Rattle.survey.specs.Assumptions.{Shows};
 ghost use Rattle.prove_call.specs.Headline.{IsProved as SaysYes};
-ghost use Rattle.survey.specs.Claims.{Surveyed, NamesMethod, IsGivenText, IsOpenText, IsProved};
+ghost use Rattle.survey.specs.Claims.{Surveyed, NamesMethod, IsHandedIn, IsGivenText, IsOpenText, IsProved};
 ghost use Rattle.survey.specs.inner.Wording.{surveyed, IsJudged};
 
-use crate::assuming::{Assumed, assumed_of, has_narrow, nothing_assumed};
+use crate::assuming::{Assumed, assumed_of, has_narrow};
 use crate::lines::{Head, MethodWords, method_text};
 use crate::survey_notes::{Sources, Touched, premises_of};
 use crate::survey_why::{NARROWINGS, narrowed, put_advice, reason_text};
-use class_calls::describe::{DescribeFault, MethodNames, UnderLines, program_under, template};
+use class_calls::describe::{
+    DescribeFault, Leave, MethodNames, UnderLines, program_under, template,
+};
 use class_program::Program;
 use class_read::ClassView;
 use class_world::LinkFault;
@@ -92,35 +94,48 @@ fn no_entry(alloc: Global, method: &MethodWords<'_>) -> Result<Refused, AllocErr
     })
 }
 
-/// The program of a method, under the lines that are given and, where leave to assume is given, those that it needs.
+/// The program of a method, under the lines that are given and, where there is leave, those that it needs.
 fn method_program<'a>(
     alloc: Global,
     files: &'a [Vec<u8>],
     lines: &[WorldLine],
     method: &MethodWords<'_>,
-    assuming: bool,
+    leave: Leave,
 ) -> Result<UnderLines<'a>, Refused>
     requires { length files.now ≤ most_classes }
-    ensures { IfOk result (λ under. IsMethodProgram under.lines (map (λ file. file.items) files.now) method.now.class.now
-        method.now.name.now method.now.desc.now (program_of under.program)) }
+    ensures program { IfOk result (λ under. IsMethodProgram under.lines (map (λ file. file.items) files.now) method.now.class.now method.now.name.now method.now.desc.now (program_of under.program)) }
+    ensures needed { IfOk result (λ under. AreNeeded leave (map (λ file. file.items) files.now) method.now.class.now method.now.name.now method.now.desc.now lines.now under.lines) }
 {
     let names = MethodNames {
         class: method.class,
         name: method.name,
         desc: method.desc,
     };
-    match program_under(alloc, files, lines, &names, assuming)? {
+    match program_under(alloc, files, lines, &names, leave)? {
         Some(under) => Ok(under),
         None => Err(no_entry(alloc, method)?),
     }
 }
 
-/// The lines about classes that a description says. One that can't be read says none.
-fn lines_said(alloc: Global, text: &[u8]) -> Result<Seq<WorldLine>, AllocError> {
-    match DescText::read(alloc, text) {
-        Ok(said) => Ok(said.world),
-        Err(DescFault::Memory) => Err(AllocError),
-        Err(_) => Ok(Seq::new(alloc)),
+/// The program of a method, under the lines that are given.
+#[tactic(auto, using(class_calls::proofs::Answered::as_given))]
+fn program_as_given<'a>(
+    alloc: Global,
+    files: &'a [Vec<u8>],
+    lines: &[WorldLine],
+    method: &MethodWords<'_>,
+) -> Result<UnderLines<'a>, Refused>
+    requires { length files.now ≤ most_classes }
+    ensures program { IfOk result (λ under. IsMethodProgram under.lines (map (λ file. file.items) files.now) method.now.class.now method.now.name.now method.now.desc.now (program_of under.program)) }
+    ensures lines { IfOk result (λ under. under.lines ≡ lines.now) }
+{
+    let leave = Leave {
+        initialised: false,
+        passed: false,
+    };
+    match method_program(alloc, files, lines, method, leave) {
+        Ok(under) => Ok(under),
+        Err(refused) => Err(refused),
     }
 }
 
@@ -150,13 +165,13 @@ pub(crate) fn names_method(
 }
 
 /// The first description that names a method.
-#[tactic(auto, using(crate::proofs::Judgements::is_given))]
+#[tactic(auto, using(crate::proofs::Judgements::is_handed_in))]
 fn given_for<'s>(
     alloc: Global,
     descs: &'s [Vec<u8>],
     method: &MethodWords<'_>,
 ) -> Result<Option<&'s Vec<u8>>, AllocError>
-    ensures { IfOk result (λ found. IfSome found (λ text. IsGivenText (map (λ desc. desc.items) descs.now) method.now.class.now
+    ensures { IfOk result (λ found. IfSome found (λ text. IsHandedIn (map (λ desc. desc.items) descs.now) method.now.class.now
         method.now.name.now method.now.desc.now text.now.items)) }
 {
     for text in descs {
@@ -289,9 +304,9 @@ fn told(
     answer: &Answer,
 ) -> Result<Judged, Refused>
     requires few { length scope.now.files.now ≤ most_classes }
-    requires proved { answer.now.status ≡ 0 → IsProved (surveyed scope.now.files.now scope.now.descs.now) given assumed
+    requires proved { answer.now.status ≡ 0 → IsProved (surveyed scope.now.strict scope.now.files.now scope.now.descs.now) given assumed
         method.now.class.now method.now.name.now method.now.desc.now }
-    ensures { IfOk result (IsJudged (surveyed scope.now.files.now scope.now.descs.now) method.now.class.now method.now.name.now
+    ensures { IfOk result (IsJudged (surveyed scope.now.strict scope.now.files.now scope.now.descs.now) method.now.class.now method.now.name.now
         method.now.desc.now) }
 {
     if answer.status == 0 {
@@ -306,22 +321,20 @@ fn told(
     }
 }
 
-/// What is said of a method under a description that was handed in.
+/// What is said of a method under a description that was handed in, whose lines about classes make its program.
 #[tactic(auto, using(crate::proofs::Judgements::proved_as_given))]
-fn judged_as_given(
+fn judged_under_given(
     alloc: Global,
     scope: &Scope<'_, '_>,
     method: &MethodWords<'_>,
+    under: &UnderLines<'_>,
+    assumed: Assumed,
     text: &[u8],
 ) -> Result<Judged, Refused>
     requires few { length scope.now.files.now ≤ most_classes }
-    requires given { IsGivenText (map (λ desc. desc.items) scope.now.descs.now) method.now.class.now method.now.name.now
-        method.now.desc.now text.now }
-    ensures { IfOk result (IsJudged (surveyed scope.now.files.now scope.now.descs.now) method.now.class.now method.now.name.now
-        method.now.desc.now) }
+    requires given { IsGivenText (surveyed scope.now.strict scope.now.files.now scope.now.descs.now) assumed method.now.class.now method.now.name.now method.now.desc.now text.now }
+    ensures { IfOk result (IsJudged (surveyed scope.now.strict scope.now.files.now scope.now.descs.now) method.now.class.now method.now.name.now method.now.desc.now) }
 {
-    let lines = lines_said(alloc, text)?;
-    let under = method_program(alloc, scope.files, lines.as_slice(), method, false)?;
     let answer = prove_line(alloc, text, scope.files, NODES)?;
     told(
         alloc,
@@ -329,10 +342,51 @@ fn judged_as_given(
         method,
         &under.program,
         true,
-        nothing_assumed(alloc),
+        assumed,
         None,
         &answer,
     )
+}
+
+/// What is said of a method under a description that was handed in, which says this.
+#[tactic(auto, using(crate::proofs::Judgements::is_given))]
+fn judged_as_said(
+    alloc: Global,
+    scope: &Scope<'_, '_>,
+    method: &MethodWords<'_>,
+    text: &[u8],
+    said: &DescText,
+) -> Result<Judged, Refused>
+    requires few { length scope.now.files.now ≤ most_classes }
+    requires handed { IsHandedIn (map (λ desc. desc.items) scope.now.descs.now) method.now.class.now method.now.name.now method.now.desc.now text.now }
+    requires says { SaysOf description_of text.now (Ok said.now) }
+    ensures { IfOk result (IsJudged (surveyed scope.now.strict scope.now.files.now scope.now.descs.now) method.now.class.now method.now.name.now method.now.desc.now) }
+{
+    let lines = said.world.as_slice();
+    let under = program_as_given(alloc, scope.files, lines, method)?;
+    let assumed = assumed_of(alloc, &under.program.world, method.class, lines, false)?;
+    judged_under_given(alloc, scope, method, &under, assumed, text)
+}
+
+/// What is said of a method under a description that was handed in.
+fn judged_as_given(
+    alloc: Global,
+    scope: &Scope<'_, '_>,
+    method: &MethodWords<'_>,
+    text: &[u8],
+) -> Result<Judged, Refused>
+    requires few { length scope.now.files.now ≤ most_classes }
+    requires handed { IsHandedIn (map (λ desc. desc.items) scope.now.descs.now) method.now.class.now method.now.name.now method.now.desc.now text.now }
+    ensures { IfOk result (IsJudged (surveyed scope.now.strict scope.now.files.now scope.now.descs.now) method.now.class.now method.now.name.now method.now.desc.now) }
+{
+    match DescText::read(alloc, text) {
+        Ok(said) => judged_as_said(alloc, scope, method, text, &said),
+        Err(DescFault::Memory) => Err(Refused::Memory),
+        Err(fault) => Err(Refused::At {
+            place: Place::Description,
+            fault: Fault::Desc(fault),
+        }),
+    }
 }
 
 /// What is said of a method under its template.
@@ -346,9 +400,8 @@ fn judged_as_open(
     text: &[u8],
 ) -> Result<Judged, Refused>
     requires few { length scope.now.files.now ≤ most_classes }
-    requires open { IsOpenText assumed (map (λ file. file.items) scope.now.files.now) method.now.class.now method.now.name.now
-        method.now.desc.now text.now }
-    ensures { IfOk result (IsJudged (surveyed scope.now.files.now scope.now.descs.now) method.now.class.now method.now.name.now
+    requires open { IsOpenText (surveyed scope.now.strict scope.now.files.now scope.now.descs.now) assumed method.now.class.now method.now.name.now method.now.desc.now text.now }
+    ensures { IfOk result (IsJudged (surveyed scope.now.strict scope.now.files.now scope.now.descs.now) method.now.class.now method.now.name.now
         method.now.desc.now) }
 {
     let answer = prove_line(alloc, text, scope.files, NODES)?;
@@ -376,7 +429,8 @@ fn judged_under(
     requires few { length scope.now.files.now ≤ most_classes }
     requires program { IsMethodProgram under.now.lines (map (λ file. file.items) scope.now.files.now) method.now.class.now
         method.now.name.now method.now.desc.now (program_of under.now.program) }
-    ensures { IfOk result (IsJudged (surveyed scope.now.files.now scope.now.descs.now) method.now.class.now method.now.name.now
+    requires as_asked { scope.now.strict ≡ true → (under.now.lines ≡ []) × (narrow ≡ false) }
+    ensures { IfOk result (IsJudged (surveyed scope.now.strict scope.now.files.now scope.now.descs.now) method.now.class.now method.now.name.now
         method.now.desc.now) }
 {
     let lines = under.lines.as_slice();
@@ -395,6 +449,38 @@ fn judged_under(
     }
 }
 
+/// What is said of a method for which no description was handed in, where nothing is taken to be so.
+fn judged_strictly(
+    alloc: Global,
+    scope: &Scope<'_, '_>,
+    method: &MethodWords<'_>,
+) -> Result<Judged, Refused>
+    requires { length scope.now.files.now ≤ most_classes }
+    ensures { IfOk result (IsJudged (surveyed scope.now.strict scope.now.files.now scope.now.descs.now) method.now.class.now method.now.name.now method.now.desc.now) }
+{
+    let under = program_as_given(alloc, scope.files, &[], method)?;
+    judged_under(alloc, scope, method, &under, false)
+}
+
+/// What is said of a method for which no description was handed in, where classes may be taken to be initialised before.
+fn judged_assuming(
+    alloc: Global,
+    scope: &Scope<'_, '_>,
+    method: &MethodWords<'_>,
+) -> Result<Judged, Refused>
+    requires few { length scope.now.files.now ≤ most_classes }
+    requires lax { scope.now.strict ≡ false }
+    ensures { IfOk result (IsJudged (surveyed scope.now.strict scope.now.files.now scope.now.descs.now) method.now.class.now method.now.name.now method.now.desc.now) }
+{
+    let leave = Leave {
+        initialised: true,
+        passed: false,
+    };
+    let under = method_program(alloc, scope.files, scope.lines, method, leave)?;
+    let narrow = has_narrow(&under.program);
+    judged_under(alloc, scope, method, &under, narrow)
+}
+
 /// What is said of a method for which no description was handed in.
 fn judged_by_template(
     alloc: Global,
@@ -402,17 +488,18 @@ fn judged_by_template(
     method: &MethodWords<'_>,
 ) -> Result<Judged, Refused>
     requires { length scope.now.files.now ≤ most_classes }
-    ensures { IfOk result (IsJudged (surveyed scope.now.files.now scope.now.descs.now) method.now.class.now method.now.name.now
-        method.now.desc.now) }
+    ensures { IfOk result (IsJudged (surveyed scope.now.strict scope.now.files.now scope.now.descs.now) method.now.class.now method.now.name.now method.now.desc.now) }
 {
-    let under = method_program(alloc, scope.files, scope.lines, method, !scope.strict)?;
-    let narrow = !scope.strict && has_narrow(&under.program);
-    judged_under(alloc, scope, method, &under, narrow)
+    if scope.strict {
+        judged_strictly(alloc, scope, method)
+    } else {
+        judged_assuming(alloc, scope, method)
+    }
 }
 
 /// What is said of a method: by the first description that was handed in and names it, else by its template. Where nothing is said of
 /// it, each further class that the method's program would initialise is taken to be initialised before, and parameters of type boolean,
-/// byte, char and short have the numbers of their types; a strict survey assumes neither.
+/// byte, char and short have the numbers of their types; a strict survey assumes neither, and passes no interface over.
 ///
 /// # Errors
 ///
@@ -423,7 +510,7 @@ pub(crate) fn judge(
     method: &MethodWords<'_>,
 ) -> Result<Judged, Refused>
     requires { length scope.now.files.now ≤ most_classes }
-    ensures { IfOk result (IsJudged (surveyed scope.now.files.now scope.now.descs.now) method.now.class.now method.now.name.now
+    ensures { IfOk result (IsJudged (surveyed scope.now.strict scope.now.files.now scope.now.descs.now) method.now.class.now method.now.name.now
         method.now.desc.now) }
 {
     match given_for(alloc, scope.descs, method)? {

@@ -12,7 +12,7 @@ use crate::reading::{Kept, named};
 use class_read::ClassView;
 use class_world::{LinkFault, is_built_in};
 use input_steps::{Fault, Refused, link, read_classes};
-use input_text::WorldLine;
+use input_text::{DescFault, DescText, WorldLine};
 use io_ports::Sink;
 use list_views::Seq;
 use std::alloc::{AllocError, Global};
@@ -208,46 +208,86 @@ fn is_passed(lines: &[WorldLine], name: &[u8]) -> bool {
     false
 }
 
-/// Puts a line for each interface that a class lists and that none of the classes is.
+/// What descriptions say. Those that can't be read say nothing.
+fn texts_said(alloc: Global, descs: &[Vec<u8>]) -> Result<Vec<DescText>, AllocError> {
+    let mut texts = Vec::new(alloc);
+    for desc in descs {
+        match DescText::read(alloc, desc.as_slice()) {
+            Ok(text) => texts.push(text)?,
+            Err(DescFault::Memory) => return Err(AllocError),
+            Err(_) => {}
+        }
+    }
+    Ok(texts)
+}
+
+/// Whether each description passes an interface over.
+fn all_pass(texts: &[DescText], name: &[u8]) -> bool {
+    for text in texts {
+        if !is_passed(text.world.as_slice(), name) {
+            return false;
+        }
+    }
+    true
+}
+
+/// Puts a line for each interface that a class lists, that none of the classes is, and that each description passes over.
 fn pass_listed(
     alloc: Global,
     classes: &[ClassView<'_>],
+    texts: &[DescText],
     class: &ClassView<'_>,
     lines: &mut Seq<WorldLine>,
 ) -> Result<(), AllocError> {
     for interface in class.interfaces.as_slice() {
-        if !is_there(classes, *interface) && !is_passed(lines.as_slice(), *interface) {
+        if !is_there(classes, *interface)
+            && !is_passed(lines.as_slice(), *interface)
+            && all_pass(texts, *interface)
+        {
             lines.push(WorldLine::Passed(Seq::from_slice(alloc, *interface)?))?;
         }
     }
     Ok(())
 }
 
-/// The lines that pass over each interface that a class of the files lists and that none of them is.
-fn missing_interfaces(alloc: Global, files: &[Vec<u8>]) -> Result<Seq<WorldLine>, Refused>
+/// The lines that pass over each interface that a class of the files lists, that none of them is, and that each description passes over.
+fn missing_interfaces(
+    alloc: Global,
+    descs: &[Vec<u8>],
+    files: &[Vec<u8>],
+) -> Result<Seq<WorldLine>, Refused>
     requires { length files.now ≤ most_classes }
 {
     let classes = read_classes(alloc, files)?;
+    let texts = texts_said(alloc, descs)?;
     let mut lines = Seq::new(alloc);
     for class in classes.iter() {
-        pass_listed(alloc, classes.as_slice(), class, &mut lines)?;
+        pass_listed(
+            alloc,
+            classes.as_slice(),
+            texts.as_slice(),
+            class,
+            &mut lines,
+        )?;
     }
     Ok(lines)
 }
 
-/// The lines that pass over the interfaces which are missing in lists of interfaces; none in a strict survey. An interface that is handed
-/// in is never passed over, though its file may be left out later.
+/// The lines that pass over the interfaces which are missing in lists of interfaces; none where nothing is to be passed over. An
+/// interface that is handed in is never passed over, though its file may be left out later; nor is one that a description which was
+/// handed in doesn't pass over: its method couldn't be judged under it.
 pub(crate) fn passing_lines(
     alloc: Global,
-    strict: bool,
+    none: bool,
+    descs: &[Vec<u8>],
     files: &[Vec<u8>],
 ) -> Result<Seq<WorldLine>, Stop>
     requires { length files.now ≤ most_classes }
 {
-    if strict {
+    if none {
         return Ok(Seq::new(alloc));
     }
-    match missing_interfaces(alloc, files) {
+    match missing_interfaces(alloc, descs, files) {
         Ok(lines) => Ok(lines),
         Err(_) => Err(Stop::Memory),
     }

@@ -140,16 +140,19 @@ fn put_count(
     text.extend_from_slice(digits.as_bytes())
 }
 
-/// How many lines and files there are of each sort, in words.
+/// How many lines and files there are of each sort, in words. A strict survey, in which nothing is assumed, says nothing of that.
 fn count_text(
     alloc: Global,
+    strict: bool,
     tally: Tally,
     kept: &Kept,
     lost: usize,
 ) -> Result<Seq<u8>, AllocError> {
     let mut text = Seq::new(alloc);
     put_count(alloc, &mut text, b"yes=", tally.yes)?;
-    put_count(alloc, &mut text, b" assumed=", tally.assumed)?;
+    if !strict {
+        put_count(alloc, &mut text, b" assumed=", tally.assumed)?;
+    }
     put_count(alloc, &mut text, b" maybe=", tally.maybe)?;
     put_count(alloc, &mut text, b" refused=", tally.refused)?;
     put_count(alloc, &mut text, b" files=", kept.files.len())?;
@@ -167,6 +170,7 @@ fn count_text(
 #[tactic(auto, using(crate::proofs::Telling::nothing_begun))]
 fn put_counts<O: Sink>(
     alloc: Global,
+    strict: bool,
     tally: Tally,
     kept: &Kept,
     lost: usize,
@@ -175,7 +179,7 @@ fn put_counts<O: Sink>(
     ensures told { OnOk result ((s : Surveyed) → Tells O.taken s out.old out.new) }
     ensures begun { OnErr result ((s : Surveyed) → BeginsToTell O.taken s out.old out.new) }
 {
-    match count_text(alloc, tally, kept, lost) {
+    match count_text(alloc, strict, tally, kept, lost) {
         Ok(text) => put_other(alloc, out, Head::Count, text.as_slice()),
         Err(AllocError) => Err(Stop::Memory),
     }
@@ -206,9 +210,9 @@ fn survey_scope<O: Sink>(
 ) -> Result<u8, Stop>
     requires few { length scope.now.files.now ≤ most_classes }
     requires spelled { AllSpell (map (λ file. file.items) scope.now.files.now) scope.now.classes.now }
-    ensures told { IfOk result (λ status. Tells O.taken (surveyed scope.now.files.now scope.now.descs.now) out.old out.new) }
-    ensures begun { OnErr result (BeginsToTell O.taken (surveyed scope.now.files.now scope.now.descs.now) out.old out.new) }
-    ensures all { IfOk result (λ status. status ≡ 0 → AreAllProved (surveyed scope.now.files.now scope.now.descs.now)) }
+    ensures told { IfOk result (λ status. Tells O.taken (surveyed scope.now.strict scope.now.files.now scope.now.descs.now) out.old out.new) }
+    ensures begun { OnErr result (BeginsToTell O.taken (surveyed scope.now.strict scope.now.files.now scope.now.descs.now) out.old out.new) }
+    ensures all { IfOk result (λ status. status ≡ 0 → AreAllProved (surveyed scope.now.strict scope.now.files.now scope.now.descs.now)) }
     ensures whole { IfOk result (λ status. status ≡ 0 → length kept.now.files.items ≡ length asked.now.classes.now) }
 {
     let lost = match put_all_lost(alloc, asked.descs.as_slice(), scope, out) {
@@ -219,7 +223,7 @@ fn survey_scope<O: Sink>(
         Ok(tally) => tally,
         Err(stop) => return Err(stop),
     };
-    match put_counts(alloc, tally, kept, lost, out) {
+    match put_counts(alloc, scope.strict, tally, kept, lost, out) {
         Ok(()) => Ok(status_of(tally, kept, lost, asked.classes.len())),
         Err(stop) => Err(stop),
     }
@@ -248,9 +252,9 @@ pub(crate) fn survey_kept<O: Sink>(
     out: &mut O,
 ) -> Result<u8, Stop>
     requires { length kept.now.files.items ≤ most_classes }
-    ensures told { IfOk result (λ status. Tells O.taken (surveyed kept.now.files.items descs.now) out.old out.new) }
-    ensures begun { OnErr result (BeginsToTell O.taken (surveyed kept.now.files.items descs.now) out.old out.new) }
-    ensures all { IfOk result (λ status. status ≡ 0 → AreAllProved (surveyed kept.now.files.items descs.now)) }
+    ensures told { IfOk result (λ status. Tells O.taken (surveyed asked.now.strict kept.now.files.items descs.now) out.old out.new) }
+    ensures begun { OnErr result (BeginsToTell O.taken (surveyed asked.now.strict kept.now.files.items descs.now) out.old out.new) }
+    ensures all { IfOk result (λ status. status ≡ 0 → AreAllProved (surveyed asked.now.strict kept.now.files.items descs.now)) }
     ensures whole { IfOk result (λ status. status ≡ 0 → length kept.now.files.items ≡ length asked.now.classes.now) }
 {
     let classes = match classes_of_files(alloc, kept.files.as_slice()) {

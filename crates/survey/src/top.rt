@@ -2,7 +2,7 @@
 ghost use Rattle.std.specs.Prelude.{◌≡◌, ◌≢◌, ◌≤◌, ℕ, length, map, string_bytes, IfOk, OnErr};
 ghost use Rattle.class_base.specs.Limits.{most_classes};
 ghost use Rattle.survey.specs.Outside.{AreSome, HasSurveyed};
-ghost use Rattle.survey.specs.Words.{class_words, desc_words};
+ghost use Rattle.survey.specs.Words.{is_strict, class_words, desc_words};
 
 use crate::failure::Stop;
 use crate::leaving::{leave_out, passing_lines};
@@ -24,17 +24,24 @@ fn survey_described<F: Files, O: Sink>(
 ) -> Result<u8, Stop>
     requires few { length asked.now.classes.now ≤ most_classes }
     requires descs { AreSome (F.held files.old) (map (λ name. name.now) asked.now.descs.items) (map (λ desc. desc.items) descs.now) }
-    ensures told { IfOk result (λ status. HasSurveyed (F.held files.old) O.taken (map string_bytes asked.now.classes.now)
+    ensures told { IfOk result (λ status. HasSurveyed (F.held files.old) O.taken asked.now.strict
+        (map string_bytes asked.now.classes.now)
         (map (λ name. name.now) asked.now.descs.items) out.old out.new status) }
     ensures begun { OnErr result ((status : ℕ) → status ≢ 0
-        → HasSurveyed (F.held files.old) O.taken (map string_bytes asked.now.classes.now)
+        → HasSurveyed (F.held files.old) O.taken asked.now.strict
+        (map string_bytes asked.now.classes.now)
         (map (λ name. name.now) asked.now.descs.items) out.old out.new status) }
 {
     let mut kept = match read_files(alloc, asked.classes, files, out) {
         Ok(kept) => kept,
         Err(stop) => return Err(stop),
     };
-    let lines = match passing_lines(alloc, asked.strict, kept.files.as_slice()) {
+    let lines = match passing_lines(
+        alloc,
+        asked.strict || kept.refused > 0,
+        descs,
+        kept.files.as_slice(),
+    ) {
         Ok(lines) => lines,
         Err(stop) => return Err(stop),
     };
@@ -56,10 +63,12 @@ fn survey_asked<F: Files, O: Sink>(
     out: &mut O,
 ) -> Result<u8, Stop>
     requires few { length asked.now.classes.now ≤ most_classes }
-    ensures told { IfOk result (λ status. HasSurveyed (F.held files.old) O.taken (map string_bytes asked.now.classes.now)
+    ensures told { IfOk result (λ status. HasSurveyed (F.held files.old) O.taken asked.now.strict
+        (map string_bytes asked.now.classes.now)
         (map (λ name. name.now) asked.now.descs.items) out.old out.new status) }
     ensures begun { OnErr result ((status : ℕ) → status ≢ 0
-        → HasSurveyed (F.held files.old) O.taken (map string_bytes asked.now.classes.now)
+        → HasSurveyed (F.held files.old) O.taken asked.now.strict
+        (map string_bytes asked.now.classes.now)
         (map (λ name. name.now) asked.now.descs.items) out.old out.new status) }
 {
     match read_descs(alloc, asked.descs.as_slice(), files) {
@@ -143,18 +152,20 @@ fn without<E: Sink>(line: &[u8], status: u8, err: &mut E) -> u8
 /// - `REFUSED FILE class: FAULT` and `REFUSED FILE read: CAUSE` for a file that spells no class or wasn't read;
 /// - `LEFT OUT FILE link: FAULT` for a class that can't be linked with the others, which are surveyed without it;
 /// - `REFUSED FILE description: FAULT` for a description that names no method that is surveyed;
-/// - for each method with code, in the order of the words and of the class's file, `YES METHOD`, `MAYBE REASON METHOD
+/// - for each method that is asked, in the order of the words and of the class's file, `YES METHOD`, `MAYBE REASON METHOD
 ///   PLACES` or `REFUSED METHOD FAULT`;
 /// - a line of counts.
 ///
 /// A method is proved under the first description that names it, then `described` stands behind it, else under its
 /// template. Behind a YES stands what was assumed: `narrow`, where parameters of type boolean, byte, char and short have the numbers
 /// of their types alone; `initialised=CLASS` for each class that is taken to be initialised before, but the method's own and those above
-/// it; `passed`, where an interface that is missing is passed over. With `--strict` none of this is assumed. Then stands a word for each
-/// premise that its program touches: `handles-errors`, `compares-exceptions`, `constant-value`. With `--why` lines of advice follow, which begin with blanks. To `err` it
-/// puts a line where it ends before the counts. The exit status is
+/// it; `passed`, where an interface is passed over: one that no file spells, which each description that was handed in passes over too;
+/// none where a file was refused. Static initialisers have no lines. With `--strict` none of this is assumed: a template has no lines
+/// about classes and takes every int, and initialisers are refused like other methods that can't be asked. Then stands a word for each
+/// premise that its program touches: `handles-errors`, `compares-exceptions`, `constant-value`. With `--why` lines
+/// of advice follow, which begin with blanks. To `err` it puts a line where it ends before the counts. The exit status is
 ///
-/// - 0: each method with code of each named class file is proved, with what its line says is assumed;
+/// - 0: each method with code of each named class file, but static initialisers, is proved, with what its line says is assumed;
 /// - 1: some aren't, or a class file is left out;
 /// - 3: a class file or a description is refused;
 /// - 4: the words are none of a survey;
@@ -169,8 +180,9 @@ pub fn survey<F: Files, O: Sink, E: Sink>(
     out: &mut O,
     err: &mut E,
 ) -> u8
-    // Each line that begins with YES is true of the class files that are surveyed. Status 0 says that each method with code is proved.
-    ensures headline { HasSurveyed (F.held files.old) O.taken (class_words (map string_bytes words.now))
+    // Each line that begins with YES is true of the class files that are surveyed. Status 0 says that each method that is asked is
+    // proved, with what its line shows.
+    ensures headline { HasSurveyed (F.held files.old) O.taken (is_strict (map string_bytes words.now)) (class_words (map string_bytes words.now))
         (desc_words (map string_bytes words.now)) out.old out.new result }
 {
     match Asked::from_words(alloc, words) {

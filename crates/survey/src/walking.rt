@@ -3,7 +3,7 @@ ghost use Rattle.std.specs.Prelude.{◌≡◌, ◌≤◌, true, length, map, IfO
 ghost use Rattle.std.specs.List.{AllByRecursion};
 ghost use Rattle.class_base.specs.Limits.{most_classes};
 ghost use Rattle.class_read.specs.View.{method_content};
-ghost use Rattle.survey.specs.Claims.{Surveyed, AreTrue, IsProved, IsProvedSo, IsProvedMethod, IsProvedClass};
+ghost use Rattle.survey.specs.Claims.{Surveyed, AreTrue, IsProved, IsProvedSo, is_asked, IsProvedMethod, IsProvedClass};
 ghost use Rattle.survey.specs.Outside.{Tells, BeginsToTell};
 ghost use Rattle.survey.specs.inner.Wording.{surveyed, IsJudged};
 
@@ -249,9 +249,9 @@ fn method_lines(
     method: &MethodWords<'_>,
 ) -> Result<MethodLines, AllocError>
     requires { length scope.now.files.now ≤ most_classes }
-    ensures text { IfOk result (λ lines. AreTrue (surveyed scope.now.files.now scope.now.descs.now) lines.text) }
+    ensures text { IfOk result (λ lines. AreTrue (surveyed scope.now.strict scope.now.files.now scope.now.descs.now) lines.text) }
     ensures proved { IfOk result (λ lines. lines.sort ≡ Sort.Yes
-        → IsProvedSo (surveyed scope.now.files.now scope.now.descs.now) method.now.class.now method.now.name.now method.now.desc.now) }
+        → IsProvedSo (surveyed scope.now.strict scope.now.files.now scope.now.descs.now) method.now.class.now method.now.name.now method.now.desc.now) }
 {
     match judge(alloc, scope, method) {
         Ok(judged) => judged_lines(alloc, method, &judged),
@@ -268,10 +268,10 @@ fn survey_words<O: Sink>(
     out: &mut O,
 ) -> Result<(Sort, bool), Stop>
     requires { length scope.now.files.now ≤ most_classes }
-    ensures told { IfOk result (λ sort. Tells O.taken (surveyed scope.now.files.now scope.now.descs.now) out.old out.new) }
-    ensures begun { OnErr result (BeginsToTell O.taken (surveyed scope.now.files.now scope.now.descs.now) out.old out.new) }
+    ensures told { IfOk result (λ sort. Tells O.taken (surveyed scope.now.strict scope.now.files.now scope.now.descs.now) out.old out.new) }
+    ensures begun { OnErr result (BeginsToTell O.taken (surveyed scope.now.strict scope.now.files.now scope.now.descs.now) out.old out.new) }
     ensures proved { IfOk result (λ sort. sort.0 ≡ Sort.Yes
-        → IsProvedSo (surveyed scope.now.files.now scope.now.descs.now) method.now.class.now method.now.name.now method.now.desc.now) }
+        → IsProvedSo (surveyed scope.now.strict scope.now.files.now scope.now.descs.now) method.now.class.now method.now.name.now method.now.desc.now) }
 {
     match method_lines(alloc, scope, method) {
         Ok(lines) => match put_text(out, lines.text.as_slice()) {
@@ -282,7 +282,14 @@ fn survey_words<O: Sink>(
     }
 }
 
-/// Puts the lines of a method, where it has code.
+/// Whether a method is asked: it has code, and is no static initialiser, unless nothing is to be taken to be so.
+fn is_asked(strict: bool, method: &MethodView<'_>) -> bool
+    ensures { result ≡ is_asked strict (method_content method.now) }
+{
+    method.code.is_some() && (strict || method.name != b"<clinit>".as_slice())
+}
+
+/// Puts the lines of a method, where it is asked.
 #[tactic(auto, using(crate::proofs::Telling::nothing_told))]
 fn survey_method<O: Sink>(
     alloc: Global,
@@ -293,13 +300,13 @@ fn survey_method<O: Sink>(
     tally: Tally,
 ) -> Result<Tally, Stop>
     requires { length scope.now.files.now ≤ most_classes }
-    ensures told { IfOk result (λ t. Tells O.taken (surveyed scope.now.files.now scope.now.descs.now) out.old out.new) }
-    ensures begun { OnErr result (BeginsToTell O.taken (surveyed scope.now.files.now scope.now.descs.now) out.old out.new) }
+    ensures told { IfOk result (λ t. Tells O.taken (surveyed scope.now.strict scope.now.files.now scope.now.descs.now) out.old out.new) }
+    ensures begun { OnErr result (BeginsToTell O.taken (surveyed scope.now.strict scope.now.files.now scope.now.descs.now) out.old out.new) }
     ensures before { IfOk result (λ t. IsTrue t.all → IsTrue tally.all) }
     ensures proved { IfOk result (λ t. IsTrue t.all
-        → IsProvedMethod (surveyed scope.now.files.now scope.now.descs.now) class.now (method_content method.now)) }
+        → IsProvedMethod (surveyed scope.now.strict scope.now.files.now scope.now.descs.now) class.now (method_content method.now)) }
 {
-    if method.code.is_none() {
+    if !is_asked(scope.strict, method) {
         return Ok(tally);
     }
     let words = MethodWords {
@@ -324,11 +331,11 @@ fn survey_methods<O: Sink>(
     tally: Tally,
 ) -> Result<Tally, Stop>
     requires { length scope.now.files.now ≤ most_classes }
-    ensures told { IfOk result (λ t. Tells O.taken (surveyed scope.now.files.now scope.now.descs.now) out.old out.new) }
-    ensures begun { OnErr result (BeginsToTell O.taken (surveyed scope.now.files.now scope.now.descs.now) out.old out.new) }
+    ensures told { IfOk result (λ t. Tells O.taken (surveyed scope.now.strict scope.now.files.now scope.now.descs.now) out.old out.new) }
+    ensures begun { OnErr result (BeginsToTell O.taken (surveyed scope.now.strict scope.now.files.now scope.now.descs.now) out.old out.new) }
     ensures before { IfOk result (λ t. IsTrue t.all → IsTrue tally.all) }
     ensures proved { IfOk result (λ t. IsTrue t.all
-        → AllByRecursion (IsProvedMethod (surveyed scope.now.files.now scope.now.descs.now) class.now) (map method_content methods.now)) }
+        → AllByRecursion (IsProvedMethod (surveyed scope.now.strict scope.now.files.now scope.now.descs.now) class.now) (map method_content methods.now)) }
 {
     let mut so_far = tally;
     for method in methods {
@@ -349,11 +356,11 @@ fn survey_class<O: Sink>(
     tally: Tally,
 ) -> Result<Tally, Stop>
     requires { length scope.now.files.now ≤ most_classes }
-    ensures told { IfOk result (λ t. Tells O.taken (surveyed scope.now.files.now scope.now.descs.now) out.old out.new) }
-    ensures begun { OnErr result (BeginsToTell O.taken (surveyed scope.now.files.now scope.now.descs.now) out.old out.new) }
+    ensures told { IfOk result (λ t. Tells O.taken (surveyed scope.now.strict scope.now.files.now scope.now.descs.now) out.old out.new) }
+    ensures begun { OnErr result (BeginsToTell O.taken (surveyed scope.now.strict scope.now.files.now scope.now.descs.now) out.old out.new) }
     ensures before { IfOk result (λ t. IsTrue t.all → IsTrue tally.all) }
     ensures proved { IfOk result (λ t. IsTrue t.all
-        → IsProvedClass (surveyed scope.now.files.now scope.now.descs.now) class.now) }
+        → IsProvedClass (surveyed scope.now.strict scope.now.files.now scope.now.descs.now) class.now) }
 {
     match survey_methods(
         alloc,
@@ -376,10 +383,10 @@ pub(crate) fn survey_classes<O: Sink>(
     out: &mut O,
 ) -> Result<Tally, Stop>
     requires { length scope.now.files.now ≤ most_classes }
-    ensures told { IfOk result (λ t. Tells O.taken (surveyed scope.now.files.now scope.now.descs.now) out.old out.new) }
-    ensures begun { OnErr result (BeginsToTell O.taken (surveyed scope.now.files.now scope.now.descs.now) out.old out.new) }
+    ensures told { IfOk result (λ t. Tells O.taken (surveyed scope.now.strict scope.now.files.now scope.now.descs.now) out.old out.new) }
+    ensures begun { OnErr result (BeginsToTell O.taken (surveyed scope.now.strict scope.now.files.now scope.now.descs.now) out.old out.new) }
     ensures proved { IfOk result (λ t. IsTrue t.all
-        → AllByRecursion (IsProvedClass (surveyed scope.now.files.now scope.now.descs.now)) scope.now.classes.now) }
+        → AllByRecursion (IsProvedClass (surveyed scope.now.strict scope.now.files.now scope.now.descs.now)) scope.now.classes.now) }
 {
     let mut so_far = no_tally();
     for class in scope.classes {

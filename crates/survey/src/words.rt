@@ -1,7 +1,7 @@
 //! The words of the command line.
 ghost use Rattle.std.specs.Prelude.{◌≡◌, ◌∷◌, ◌≤◌, ◌<◌, [], length, map, string_bytes, IfOk, IfSome, MatchOption, IsTrue};
 ghost use Rattle.std.specs.List.{list_all};
-ghost use Rattle.survey.specs.Words.{behind_strict, behind_why, behind_descs, descs_in, desc_words, class_words, is_file_word, AreSurvey};
+ghost use Rattle.survey.specs.Words.{is_strict, behind_strict, behind_why, behind_descs, descs_in, desc_words, class_words, is_file_word, AreSurvey};
 ghost use Rattle.class_base.specs.Limits.{most_classes};
 
 use class_base::MOST_CLASSES;
@@ -25,6 +25,16 @@ pub(crate) struct Asked<'a> {
 struct DescWords<'a> {
     descs: Vec<&'a str>,
     rest: &'a [String],
+}
+
+/// Whether the words begin with `--strict`.
+fn is_strict(words: &[String]) -> bool
+    ensures { result ≡ is_strict (map string_bytes words.now) }
+{
+    match words.split_first() {
+        Some((first, _)) => first.as_bytes() == b"--strict".as_slice(),
+        None => false,
+    }
 }
 
 /// The words behind `--strict`, which may stand first.
@@ -143,12 +153,13 @@ impl<'a> Asked<'a> {
         ensures descs { IfOk result (λ found. IfSome found
             (λ asked. map (λ name. name.now) asked.descs.items ≡ desc_words (map string_bytes words.now))) }
         ensures few { IfOk result (λ found. IfSome found (λ asked. length asked.classes.now ≤ most_classes)) }
+        ensures strict { IfOk result (λ found. IfSome found (λ asked. asked.strict ≡ is_strict (map string_bytes words.now))) }
     {
         let unstrict = behind_strict(words);
         let behind = behind_why(unstrict);
         let found = described(alloc, behind)?;
         let asked = Asked {
-            strict: unstrict.len() < words.len(),
+            strict: is_strict(words),
             why: behind.len() < unstrict.len(),
             descs: found.descs,
             classes: found.rest,

@@ -1,13 +1,14 @@
 //! Lists the methods of a class file, or prints a description of one of them to start from.
 //!
-//! The words are the name of a class file, before which `--initialised` and then `--narrow` may stand; behind it may stand the name of a method, or its name and descriptor in one word; behind
-//! that may stand the names of the other class files of the program.
+//! The words are the name of a class file, before which `--initialised`, `--passed` and `--narrow` may stand, in any order; behind it may
+//! stand the name of a method, or its name and descriptor in one word; behind that may stand the names of the other class files of the
+//! program.
 ghost use Rattle.std.specs.Prelude.{◌+◌, ◌<◌, ◌≤◌, length, IfOk};
 ghost use Rattle.class_base.specs.Limits.{most_classes};
 
 use crate::failures::{Failure, told};
 use class_base::{MOST_CLASSES, MOST_FILE_BYTES};
-use class_calls::describe::{Asked, DescribeFault, methods_of, template_of};
+use class_calls::describe::{Asked, DescribeFault, Leave, methods_of, template_of};
 use io_ports::{FileFault, Files, Sink};
 use list_views::Seq;
 use list_views::fault_words::joined;
@@ -71,27 +72,38 @@ fn told_of(alloc: Global, output: Result<Vec<u8>, DescribeFault>) -> Result<Vec<
 
 /// What is put for words that are none of the program.
 fn usage(alloc: Global) -> Failure {
-    let lines = b"describe: usage\n[--initialised] [--narrow] CLASS [METHOD [CLASS..]]\n";
+    let lines =
+        b"describe: usage\n[--initialised] [--passed] [--narrow] CLASS [METHOD [CLASS..]]\n";
     told(4, Seq::from_slice(alloc, lines))
 }
 
-/// The words behind a flag, which may stand first; else the words themselves.
-fn behind<'w>(words: &'w [String], flag: &str) -> &'w [String] {
-    match words.split_first() {
-        Some((first, rest)) => { if first.as_str() == flag { rest } else { words } }
-        None => words,
+/// What the flags ask for that stand before the words of a class and a method, in any order, and the number of these flags.
+fn asked_by(words: &[String]) -> (Asked, usize) {
+    let mut asked = Asked {
+        leave: Leave {
+            initialised: false,
+            passed: false,
+        },
+        narrow: false,
+    };
+    for (n, word) in words.iter().enumerate() {
+        match word.as_str() {
+            "--initialised" => asked.leave.initialised = true,
+            "--passed" => asked.leave.passed = true,
+            "--narrow" => asked.narrow = true,
+            _ => return (asked, n),
+        }
     }
+    (asked, words.len())
 }
 
 /// What is printed for the words.
 fn output<F: Files>(alloc: Global, files: &mut F, words: &[String]) -> Result<Vec<u8>, Failure> {
-    let behind_first = behind(words, "--initialised");
-    let behind_both = behind(behind_first, "--narrow");
-    let asked = Asked {
-        assuming: behind_first.len() < words.len(),
-        narrow: behind_both.len() < behind_first.len(),
-    };
-    output_as(alloc, files, behind_both, asked)
+    let (asked, flags) = asked_by(words);
+    match words.get(flags..) {
+        Some(behind) => output_as(alloc, files, behind, asked),
+        None => Err(usage(alloc)),
+    }
 }
 
 /// What is printed for the words behind the flags.

@@ -11,7 +11,8 @@ use Rattle.class_program.specs.declared.program.Method.{Method}
 use Rattle.class_program.specs.Programs.{Program}
 use Rattle.input_desc.specs.Descs.{has_receiver}
 use Rattle.input_desc.specs.Fitting.{IsStart}
-use Rattle.input_desc.specs.Given.{arguments_of, statics_of}
+use Rattle.input_desc.specs.Given.{statics_of}
+use Rattle.input_desc.specs.Narrow.{arguments_of}
 
 -- the first argument, the object whose method is called, isn't null
 abbrev pub HasReceiver : List Value → Type 0

@@ -6,7 +6,7 @@ ghost use Rattle.input_text.specs.Answers.{SaysOf};
 ghost use Rattle.input_text.specs.Descriptions.{description_of};
 ghost use Rattle.input_desc.specs.Entries.{entry_of};
 ghost use Rattle.input_desc.specs.Descs.{desc_fault, has_receiver, IsDescribed};
-ghost use Rattle.input_desc.specs.Given.{slots_in};
+ghost use Rattle.input_desc.specs.Narrow.{slots_in};
 ghost use Rattle.class_calls.specs.describe.Whole.{IsWhole};
 ghost use Rattle.class_calls.specs.describe.Templates.{IsTemplate};
 
@@ -106,8 +106,9 @@ fn read_back(
 
 /// A description of the program's entry method that leaves no input out: every int, every object of the declared types, with or
 /// without null, in any shape, and every two references that can be one object or lead to one. Only a receiver is never null. Where
-/// narrow parameters are asked for, those of type boolean, byte, char or short have the numbers of their types. The description has
-/// these lines about classes: form 3, or form 2 where there are none.
+/// narrow parameters are asked for, those of type boolean, byte, char or short have the numbers of their types and no others, though the
+/// machine takes any int. The description has these lines about classes: form 3, or form 2 where there are none. That the program is
+/// made under them is for the caller to know: nothing here asks for it.
 ///
 /// # Errors
 ///

@@ -1,5 +1,6 @@
 //! The lines about classes without which a program isn't linked or closed.
-ghost use Rattle.std.specs.Prelude.{◌≡◌, IfOk};
+ghost use Rattle.std.specs.Prelude.{◌≡◌, IfOk, IfSome, IsTrue};
+ghost use Rattle.class_calls.specs.describe.Lines.{allows, AsksFor};
 
 use class_read::ClassView;
 use class_world::LinkFault;
@@ -7,6 +8,15 @@ use input_steps::Fault;
 use input_text::WorldLine;
 use list_views::Seq;
 use std::alloc::{AllocError, Global};
+
+/// Which lines about classes may be added where a program needs them.
+#[derive(Clone, Copy)]
+pub struct Leave {
+    /// Those that take a class to be initialised before the run.
+    pub initialised: bool,
+    /// Those that pass an interface over.
+    pub passed: bool,
+}
 
 /// A line once more.
 ///
@@ -84,30 +94,60 @@ fn may_pass(classes: &[ClassView<'_>], lines: &[WorldLine], name: &[u8]) -> bool
     false
 }
 
-/// The line that a fault of linking or closing asks for: that the class which would be initialised is initialised before the run, or
-/// that the interface which is missing in a list of interfaces is passed over. None where no line helps, or the line is there already.
-///
-/// # Errors
-///
-/// Want of memory.
-pub fn line_needed(
+/// The line that a class which would be initialised asks for.
+fn initialised_line(
     alloc: Global,
     classes: &[ClassView<'_>],
     lines: &[WorldLine],
+    name: &[u8],
+) -> Result<Option<WorldLine>, AllocError>
+    ensures { IfOk result (λ found. IfSome found (λ line. line ≡ WorldLine.Initialised name.now)) }
+{
+    if may_initialise(classes, lines, name) {
+        let class = Seq::from_slice(alloc, name)?;
+        return Ok(Some(WorldLine::Initialised(class)));
+    }
+    Ok(None)
+}
+
+/// The line that an interface which is missing asks for.
+fn passed_line(
+    alloc: Global,
+    classes: &[ClassView<'_>],
+    lines: &[WorldLine],
+    name: &[u8],
+) -> Result<Option<WorldLine>, AllocError>
+    ensures { IfOk result (λ found. IfSome found (λ line. line ≡ WorldLine.Passed name.now)) }
+{
+    if may_pass(classes, lines, name) {
+        let interface = Seq::from_slice(alloc, name)?;
+        return Ok(Some(WorldLine::Passed(interface)));
+    }
+    Ok(None)
+}
+
+/// The line that a fault of linking or closing asks for: that the class which would be initialised is initialised before the run, or
+/// that the interface which is missing in a list of interfaces is passed over. None where no line helps, there is no leave for it, or
+/// it is there already.
+pub(crate) fn line_needed(
+    alloc: Global,
+    leave: Leave,
+    classes: &[ClassView<'_>],
+    lines: &[WorldLine],
     fault: &Fault,
-) -> Result<Option<WorldLine>, AllocError> {
+) -> Result<Option<WorldLine>, AllocError>
+    ensures { IfOk result (λ found. IfSome found (λ line. IsTrue (allows leave line) × AsksFor fault.now line)) }
+{
     match fault {
         Fault::Link(LinkFault::StaticInit { name }) => {
-            if may_initialise(classes, lines, name.as_slice()) {
-                let class = Seq::from_slice(alloc, name.as_slice())?;
-                return Ok(Some(WorldLine::Initialised(class)));
+            if leave.initialised {
+                return initialised_line(alloc, classes, lines, name.as_slice());
             }
             Ok(None)
         }
         Fault::Link(LinkFault::MissingClass { name }) => {
-            if may_pass(classes, lines, name.as_slice()) {
-                let interface = Seq::from_slice(alloc, name.as_slice())?;
-                return Ok(Some(WorldLine::Passed(interface)));
+            if leave.passed {
+                return passed_line(alloc, classes, lines, name.as_slice());
             }
             Ok(None)
         }

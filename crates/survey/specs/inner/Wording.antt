@@ -1,5 +1,5 @@
 -- Words for inner calls.
-use Rattle.std.specs.Prelude.{◌≡◌, ◌⊎◌, ℕ, List, [], ◌∷◌, ◌++◌, map, Some, codes}
+use Rattle.std.specs.Prelude.{◌≡◌, ◌⊎◌, ℕ, Bool, List, [], ◌∷◌, ◌++◌, map, Some, codes}
 use Rattle.std.specs.Global.{Vec}
 use Rattle.survey.specs.Claims.{Surveyed, IsProved, AreTrue}
 use Rattle.io_ports.specs.Told.{Told, IsContent}
@@ -13,8 +13,12 @@ use Rattle.survey.specs.declared.judging.Judged.{Judged}
 use Rattle.survey.specs.declared.judging.Judged.TheVariants.{Yes, No}
 
 -- what is surveyed, as code holds it
-abbrev pub surveyed : List (Vec ℕ) → List (Vec ℕ) → Surveyed
-surveyed files descs = record { files = map (λ (file : Vec ℕ). file.items) files; descs = map (λ (desc : Vec ℕ). desc.items) descs }
+abbrev pub surveyed : Bool → List (Vec ℕ) → List (Vec ℕ) → Surveyed
+surveyed strict files descs = record {
+  strict = strict;
+  files = map (λ (file : Vec ℕ). file.items) files;
+  descs = map (λ (desc : Vec ℕ). desc.items) descs;
+}
 
 -- what a line begins with that claims nothing
 abbrev pub head_text : Head → List ℕ

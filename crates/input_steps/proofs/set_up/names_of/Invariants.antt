@@ -1,5 +1,5 @@
 use Rattle.std.proofs.Common.{◌≡◌, map, take}
-use Rattle.input_steps.specs.SetUp.{names_of}
+use Rattle.input_steps.specs.SetUpLaws.{names_of}
 use Rattle.input_steps.proofs.set_up.names_of.Given as goal
 
 abbrev pub invariant-loop-class : goal.invariant-loop-class

@@ -9,7 +9,7 @@ use Rattle.survey.proofs.walking.survey_classes.Given as goal
 -- what was put, and that the classes so far are proved where all lines begin with YES
 abbrev pub invariant-loop-class : goal.invariant-loop-class
 invariant-loop-class g l =
-    let s = surveyed l.scope.files.now l.scope.descs.now in
+    let s = surveyed l.scope.strict l.scope.files.now l.scope.descs.now in
     let each = AllByRecursion (IsProvedClass s) in
     record {
       told : Tells g.O.Sink.taken s l.fn.out l.out;

@@ -7,12 +7,12 @@ use Rattle.survey.proofs.Walks.{each_more}
 use Rattle.survey.proofs.walking.survey_methods.Goals as goal
 
 pub returns-in-Err-clause-begun : goal.returns-in-Err-clause-begun
-returns-in-Err-clause-begun g c = begun_on g.O.Sink.taken (surveyed c.args.scope.now.files.now c.args.scope.now.descs.now) c.args.out.now
+returns-in-Err-clause-begun g c = begun_on g.O.Sink.taken (surveyed c.args.scope.now.strict c.args.scope.now.files.now c.args.scope.now.descs.now) c.args.out.now
     c.loop-method.out c.survey_method.new.out c.loop-method.invariant.told c.in-Err.ensures.begun
 
 pub loop-method-preserved : goal.loop-method-preserved
 loop-method-preserved g c =
-    let s = surveyed c.args.scope.now.files.now c.args.scope.now.descs.now in
+    let s = surveyed c.args.scope.now.strict c.args.scope.now.files.now c.args.scope.now.descs.now in
     record {
       told = told_on g.O.Sink.taken s c.args.out.now c.loop-method.out c.survey_method.new.out c.loop-method.invariant.told
           c.in-Ok.ensures.told;
