@@ -1,5 +1,6 @@
 -- What is answered for class files, put together.
-use Rattle.std.proofs.Common.{◌≡◌, ◌∙◌, ◌≤◌, ◌⊎◌, inl, inr, ℕ, false, List, [], ◌∷◌, ◌++◌, length, map, Some, None, refl, sym, ap, subst, arith}
+use Rattle.std.proofs.Common.{◌≡◌, ◌∙◌, ◌≤◌, ◌⊎◌, inl, inr, ℕ, false, List, [], ◌∷◌, ◌++◌, length, map}
+use Rattle.std.proofs.Common.{Some, None, refl, sym, ap, subst, arith}
 use Rattle.std.proofs.Common.{append_assoc, append-nil}
 use Rattle.std.specs.Prelude.{slice_get, IsTrue}
 use Rattle.std.specs.Global.{Vec}
@@ -93,7 +94,8 @@ module _ (lines : List WorldLine) (files : List (List ℕ)) (class name desc : L
   has_no_method world made none =
       record { classes = made.0; spelled = made.1.0; world = world; makes = made.1.1; none = none }
 
-  pub at_files : (refused : Refused) → IsCaused (RefusesClasses files) refused → IsCaused (RefusesMethod lines files class name desc) refused
+  pub at_files : (refused : Refused) → IsCaused (RefusesClasses files) refused → IsCaused (RefusesMethod lines files class name desc)
+      refused
   at_files (At place fault) h = inl h
   at_files Memory h = tt
 

@@ -1,4 +1,5 @@
-//! `prove`, `prove-int`: a limit of nodes, or nothing, the bytes of a description and of class files; the first line that is said of the method,
+//! `prove`, `prove-int`: a limit of nodes, or nothing, the bytes of a description and of class files; the first line that is said of
+//! the method,
 //! or why there is none.
 ghost use Rattle.std.specs.Prelude.{◌≤◌, IfOk};
 ghost use Rattle.term_graph.specs.Limits.{most_nodes};

@@ -1,5 +1,6 @@
 -- True lines, and texts of them.
-use Rattle.std.proofs.Common.{◌≡◌, ◌∙◌, ℕ, ◌==◌, ◌||◌, ◌&&◌, not, nat_lt, Bool, true, false, List, [], ◌∷◌, ◌++◌, map, refl, sym, ap, subst, arith}
+use Rattle.std.proofs.Common.{◌≡◌, ◌∙◌, ℕ, ◌==◌, ◌||◌, ◌&&◌, not, nat_lt, Bool, true, false, List, [], ◌∷◌}
+use Rattle.std.proofs.Common.{◌++◌, map, refl, sym, ap, subst, arith}
 use Rattle.std.proofs.Common.{append_assoc, append-nil, codes, cond}
 use Rattle.std.specs.List.{AllByRecursion, list_all}
 use Rattle.std.proofs.lemmas.Grind.{flat_map-append}
@@ -9,7 +10,8 @@ use Rattle.survey.specs.declared.survey_notes.touching.Touched.{Touched}
 use Rattle.survey.specs.Claims.{Surveyed, IsProved, IsTrueLine, AreTrue}
 use Rattle.list_views.specs.FaultWords.{joined}
 use Rattle.survey.specs.Lines.{narrow_text, others_text, passed_text, assumed_text}
-use Rattle.survey.specs.Lines.{yes_line, words_text, given_text, errors_text, exceptions_text, constants_text, is_name_byte, is_plain, printed, ended, text_of}
+use Rattle.survey.specs.Lines.{yes_line, words_text, given_text, errors_text, exceptions_text, constants_text, is_name_byte}
+use Rattle.survey.specs.Lines.{is_plain, printed, ended, text_of}
 use Rattle.survey.specs.inner.Wording.{head_text, other_line, GrowsTrue}
 use Rattle.survey.specs.declared.lines.Head.{Head}
 use Rattle.survey.specs.declared.lines.Head.TheVariants.{Maybe, Refused, LeftOut, Count, Why}

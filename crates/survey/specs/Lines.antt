@@ -44,7 +44,8 @@ assumed_text assumed = (narrow_text assumed ++ others_text assumed.others) ++ pa
 
 -- the words behind a proved method: whether its description was handed in, what is assumed, and the premises that its program touches
 abbrev pub words_text : Bool → Assumed → Touched → List ℕ
-words_text given assumed touched = (((given_text given ++ assumed_text assumed) ++ errors_text touched) ++ exceptions_text touched) ++ constants_text touched
+words_text given assumed touched = (((given_text given ++ assumed_text assumed) ++ errors_text touched) ++ exceptions_text touched) ++
+    constants_text touched
 
 -- the line of a proved method: `YES CLASS.NAMEDESC`, and its words
 abbrev pub yes_line : List ℕ → List ℕ → List ℕ → Bool → Assumed → Touched → List ℕ

@@ -103,8 +103,10 @@ fn method_program<'a>(
     leave: Leave,
 ) -> Result<UnderLines<'a>, Refused>
     requires { length files.now ≤ most_classes }
-    ensures program { IfOk result (λ under. IsMethodProgram under.lines (map (λ file. file.items) files.now) method.now.class.now method.now.name.now method.now.desc.now (program_of under.program)) }
-    ensures needed { IfOk result (λ under. AreNeeded leave (map (λ file. file.items) files.now) method.now.class.now method.now.name.now method.now.desc.now lines.now under.lines) }
+    ensures program { IfOk result (λ under. IsMethodProgram under.lines (map (λ file. file.items) files.now) method.now.class.now
+        method.now.name.now method.now.desc.now (program_of under.program)) }
+    ensures needed { IfOk result (λ under. AreNeeded leave (map (λ file. file.items) files.now) method.now.class.now
+        method.now.name.now method.now.desc.now lines.now under.lines) }
 {
     let names = MethodNames {
         class: method.class,
@@ -126,7 +128,8 @@ fn program_as_given<'a>(
     method: &MethodWords<'_>,
 ) -> Result<UnderLines<'a>, Refused>
     requires { length files.now ≤ most_classes }
-    ensures program { IfOk result (λ under. IsMethodProgram under.lines (map (λ file. file.items) files.now) method.now.class.now method.now.name.now method.now.desc.now (program_of under.program)) }
+    ensures program { IfOk result (λ under. IsMethodProgram under.lines (map (λ file. file.items) files.now) method.now.class.now
+        method.now.name.now method.now.desc.now (program_of under.program)) }
     ensures lines { IfOk result (λ under. under.lines ≡ lines.now) }
 {
     let leave = Leave {
@@ -306,7 +309,8 @@ fn told(
     requires few { length scope.now.files.now ≤ most_classes }
     requires proved { answer.now.status ≡ 0 → IsProved (surveyed scope.now.strict scope.now.files.now scope.now.descs.now) given assumed
         method.now.class.now method.now.name.now method.now.desc.now }
-    ensures { IfOk result (IsJudged (surveyed scope.now.strict scope.now.files.now scope.now.descs.now) method.now.class.now method.now.name.now
+    ensures { IfOk result (IsJudged (surveyed scope.now.strict scope.now.files.now scope.now.descs.now) method.now.class.now
+        method.now.name.now
         method.now.desc.now) }
 {
     if answer.status == 0 {
@@ -332,8 +336,10 @@ fn judged_under_given(
     text: &[u8],
 ) -> Result<Judged, Refused>
     requires few { length scope.now.files.now ≤ most_classes }
-    requires given { IsGivenText (surveyed scope.now.strict scope.now.files.now scope.now.descs.now) assumed method.now.class.now method.now.name.now method.now.desc.now text.now }
-    ensures { IfOk result (IsJudged (surveyed scope.now.strict scope.now.files.now scope.now.descs.now) method.now.class.now method.now.name.now method.now.desc.now) }
+    requires given { IsGivenText (surveyed scope.now.strict scope.now.files.now scope.now.descs.now) assumed method.now.class.now
+        method.now.name.now method.now.desc.now text.now }
+    ensures { IfOk result (IsJudged (surveyed scope.now.strict scope.now.files.now scope.now.descs.now) method.now.class.now
+        method.now.name.now method.now.desc.now) }
 {
     let answer = prove_line(alloc, text, scope.files, NODES)?;
     told(
@@ -358,9 +364,11 @@ fn judged_as_said(
     said: &DescText,
 ) -> Result<Judged, Refused>
     requires few { length scope.now.files.now ≤ most_classes }
-    requires handed { IsHandedIn (map (λ desc. desc.items) scope.now.descs.now) method.now.class.now method.now.name.now method.now.desc.now text.now }
+    requires handed { IsHandedIn (map (λ desc. desc.items) scope.now.descs.now) method.now.class.now method.now.name.now
+        method.now.desc.now text.now }
     requires says { SaysOf description_of text.now (Ok said.now) }
-    ensures { IfOk result (IsJudged (surveyed scope.now.strict scope.now.files.now scope.now.descs.now) method.now.class.now method.now.name.now method.now.desc.now) }
+    ensures { IfOk result (IsJudged (surveyed scope.now.strict scope.now.files.now scope.now.descs.now) method.now.class.now
+        method.now.name.now method.now.desc.now) }
 {
     let lines = said.world.as_slice();
     let under = program_as_given(alloc, scope.files, lines, method)?;
@@ -376,8 +384,10 @@ fn judged_as_given(
     text: &[u8],
 ) -> Result<Judged, Refused>
     requires few { length scope.now.files.now ≤ most_classes }
-    requires handed { IsHandedIn (map (λ desc. desc.items) scope.now.descs.now) method.now.class.now method.now.name.now method.now.desc.now text.now }
-    ensures { IfOk result (IsJudged (surveyed scope.now.strict scope.now.files.now scope.now.descs.now) method.now.class.now method.now.name.now method.now.desc.now) }
+    requires handed { IsHandedIn (map (λ desc. desc.items) scope.now.descs.now) method.now.class.now method.now.name.now
+        method.now.desc.now text.now }
+    ensures { IfOk result (IsJudged (surveyed scope.now.strict scope.now.files.now scope.now.descs.now) method.now.class.now
+        method.now.name.now method.now.desc.now) }
 {
     match DescText::read(alloc, text) {
         Ok(said) => judged_as_said(alloc, scope, method, text, &said),
@@ -400,8 +410,10 @@ fn judged_as_open(
     text: &[u8],
 ) -> Result<Judged, Refused>
     requires few { length scope.now.files.now ≤ most_classes }
-    requires open { IsOpenText (surveyed scope.now.strict scope.now.files.now scope.now.descs.now) assumed method.now.class.now method.now.name.now method.now.desc.now text.now }
-    ensures { IfOk result (IsJudged (surveyed scope.now.strict scope.now.files.now scope.now.descs.now) method.now.class.now method.now.name.now
+    requires open { IsOpenText (surveyed scope.now.strict scope.now.files.now scope.now.descs.now) assumed method.now.class.now
+        method.now.name.now method.now.desc.now text.now }
+    ensures { IfOk result (IsJudged (surveyed scope.now.strict scope.now.files.now scope.now.descs.now) method.now.class.now
+        method.now.name.now
         method.now.desc.now) }
 {
     let answer = prove_line(alloc, text, scope.files, NODES)?;
@@ -430,7 +442,8 @@ fn judged_under(
     requires program { IsMethodProgram under.now.lines (map (λ file. file.items) scope.now.files.now) method.now.class.now
         method.now.name.now method.now.desc.now (program_of under.now.program) }
     requires as_asked { scope.now.strict ≡ true → (under.now.lines ≡ []) × (narrow ≡ false) }
-    ensures { IfOk result (IsJudged (surveyed scope.now.strict scope.now.files.now scope.now.descs.now) method.now.class.now method.now.name.now
+    ensures { IfOk result (IsJudged (surveyed scope.now.strict scope.now.files.now scope.now.descs.now) method.now.class.now
+        method.now.name.now
         method.now.desc.now) }
 {
     let lines = under.lines.as_slice();
@@ -456,7 +469,8 @@ fn judged_strictly(
     method: &MethodWords<'_>,
 ) -> Result<Judged, Refused>
     requires { length scope.now.files.now ≤ most_classes }
-    ensures { IfOk result (IsJudged (surveyed scope.now.strict scope.now.files.now scope.now.descs.now) method.now.class.now method.now.name.now method.now.desc.now) }
+    ensures { IfOk result (IsJudged (surveyed scope.now.strict scope.now.files.now scope.now.descs.now) method.now.class.now
+        method.now.name.now method.now.desc.now) }
 {
     let under = program_as_given(alloc, scope.files, &[], method)?;
     judged_under(alloc, scope, method, &under, false)
@@ -470,7 +484,8 @@ fn judged_assuming(
 ) -> Result<Judged, Refused>
     requires few { length scope.now.files.now ≤ most_classes }
     requires lax { scope.now.strict ≡ false }
-    ensures { IfOk result (IsJudged (surveyed scope.now.strict scope.now.files.now scope.now.descs.now) method.now.class.now method.now.name.now method.now.desc.now) }
+    ensures { IfOk result (IsJudged (surveyed scope.now.strict scope.now.files.now scope.now.descs.now) method.now.class.now
+        method.now.name.now method.now.desc.now) }
 {
     let leave = Leave {
         initialised: true,
@@ -488,7 +503,8 @@ fn judged_by_template(
     method: &MethodWords<'_>,
 ) -> Result<Judged, Refused>
     requires { length scope.now.files.now ≤ most_classes }
-    ensures { IfOk result (IsJudged (surveyed scope.now.strict scope.now.files.now scope.now.descs.now) method.now.class.now method.now.name.now method.now.desc.now) }
+    ensures { IfOk result (IsJudged (surveyed scope.now.strict scope.now.files.now scope.now.descs.now) method.now.class.now
+        method.now.name.now method.now.desc.now) }
 {
     if scope.strict {
         judged_strictly(alloc, scope, method)
@@ -510,7 +526,8 @@ pub(crate) fn judge(
     method: &MethodWords<'_>,
 ) -> Result<Judged, Refused>
     requires { length scope.now.files.now ≤ most_classes }
-    ensures { IfOk result (IsJudged (surveyed scope.now.strict scope.now.files.now scope.now.descs.now) method.now.class.now method.now.name.now
+    ensures { IfOk result (IsJudged (surveyed scope.now.strict scope.now.files.now scope.now.descs.now) method.now.class.now
+        method.now.name.now
         method.now.desc.now) }
 {
     match given_for(alloc, scope.descs, method)? {

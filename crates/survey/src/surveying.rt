@@ -210,8 +210,10 @@ fn survey_scope<O: Sink>(
 ) -> Result<u8, Stop>
     requires few { length scope.now.files.now ≤ most_classes }
     requires spelled { AllSpell (map (λ file. file.items) scope.now.files.now) scope.now.classes.now }
-    ensures told { IfOk result (λ status. Tells O.taken (surveyed scope.now.strict scope.now.files.now scope.now.descs.now) out.old out.new) }
-    ensures begun { OnErr result (BeginsToTell O.taken (surveyed scope.now.strict scope.now.files.now scope.now.descs.now) out.old out.new) }
+    ensures told { IfOk result (λ status. Tells O.taken (surveyed scope.now.strict scope.now.files.now scope.now.descs.now) out.old
+        out.new) }
+    ensures begun { OnErr result (BeginsToTell O.taken (surveyed scope.now.strict scope.now.files.now scope.now.descs.now) out.old
+        out.new) }
     ensures all { IfOk result (λ status. status ≡ 0 → AreAllProved (surveyed scope.now.strict scope.now.files.now scope.now.descs.now)) }
     ensures whole { IfOk result (λ status. status ≡ 0 → length kept.now.files.items ≡ length asked.now.classes.now) }
 {

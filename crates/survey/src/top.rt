@@ -182,7 +182,8 @@ pub fn survey<F: Files, O: Sink, E: Sink>(
 ) -> u8
     // Each line that begins with YES is true of the class files that are surveyed. Status 0 says that each method that is asked is
     // proved, with what its line shows.
-    ensures headline { HasSurveyed (F.held files.old) O.taken (is_strict (map string_bytes words.now)) (class_words (map string_bytes words.now))
+    ensures headline { HasSurveyed (F.held files.old) O.taken (is_strict (map string_bytes words.now)) (class_words
+        (map string_bytes words.now))
         (desc_words (map string_bytes words.now)) out.old out.new result }
 {
     match Asked::from_words(alloc, words) {

@@ -107,7 +107,8 @@ fn yes_lines(
     assumed: &Assumed,
     touched: Touched,
 ) -> Result<MethodLines, AllocError>
-    ensures { IfOk result (λ lines. (s : Surveyed) → IsProved s given assumed.now method.now.class.now method.now.name.now method.now.desc.now
+    ensures { IfOk result (λ lines. (s : Surveyed) → IsProved s given assumed.now method.now.class.now method.now.name.now
+        method.now.desc.now
         → AreTrue s lines.text) }
 {
     if is_plain(method.class)
@@ -251,7 +252,8 @@ fn method_lines(
     requires { length scope.now.files.now ≤ most_classes }
     ensures text { IfOk result (λ lines. AreTrue (surveyed scope.now.strict scope.now.files.now scope.now.descs.now) lines.text) }
     ensures proved { IfOk result (λ lines. lines.sort ≡ Sort.Yes
-        → IsProvedSo (surveyed scope.now.strict scope.now.files.now scope.now.descs.now) method.now.class.now method.now.name.now method.now.desc.now) }
+        → IsProvedSo (surveyed scope.now.strict scope.now.files.now scope.now.descs.now) method.now.class.now method.now.name.now
+        method.now.desc.now) }
 {
     match judge(alloc, scope, method) {
         Ok(judged) => judged_lines(alloc, method, &judged),
@@ -269,9 +271,11 @@ fn survey_words<O: Sink>(
 ) -> Result<(Sort, bool), Stop>
     requires { length scope.now.files.now ≤ most_classes }
     ensures told { IfOk result (λ sort. Tells O.taken (surveyed scope.now.strict scope.now.files.now scope.now.descs.now) out.old out.new) }
-    ensures begun { OnErr result (BeginsToTell O.taken (surveyed scope.now.strict scope.now.files.now scope.now.descs.now) out.old out.new) }
+    ensures begun { OnErr result (BeginsToTell O.taken (surveyed scope.now.strict scope.now.files.now scope.now.descs.now) out.old
+        out.new) }
     ensures proved { IfOk result (λ sort. sort.0 ≡ Sort.Yes
-        → IsProvedSo (surveyed scope.now.strict scope.now.files.now scope.now.descs.now) method.now.class.now method.now.name.now method.now.desc.now) }
+        → IsProvedSo (surveyed scope.now.strict scope.now.files.now scope.now.descs.now) method.now.class.now method.now.name.now
+        method.now.desc.now) }
 {
     match method_lines(alloc, scope, method) {
         Ok(lines) => match put_text(out, lines.text.as_slice()) {
@@ -301,7 +305,8 @@ fn survey_method<O: Sink>(
 ) -> Result<Tally, Stop>
     requires { length scope.now.files.now ≤ most_classes }
     ensures told { IfOk result (λ t. Tells O.taken (surveyed scope.now.strict scope.now.files.now scope.now.descs.now) out.old out.new) }
-    ensures begun { OnErr result (BeginsToTell O.taken (surveyed scope.now.strict scope.now.files.now scope.now.descs.now) out.old out.new) }
+    ensures begun { OnErr result (BeginsToTell O.taken (surveyed scope.now.strict scope.now.files.now scope.now.descs.now) out.old
+        out.new) }
     ensures before { IfOk result (λ t. IsTrue t.all → IsTrue tally.all) }
     ensures proved { IfOk result (λ t. IsTrue t.all
         → IsProvedMethod (surveyed scope.now.strict scope.now.files.now scope.now.descs.now) class.now (method_content method.now)) }
@@ -332,10 +337,12 @@ fn survey_methods<O: Sink>(
 ) -> Result<Tally, Stop>
     requires { length scope.now.files.now ≤ most_classes }
     ensures told { IfOk result (λ t. Tells O.taken (surveyed scope.now.strict scope.now.files.now scope.now.descs.now) out.old out.new) }
-    ensures begun { OnErr result (BeginsToTell O.taken (surveyed scope.now.strict scope.now.files.now scope.now.descs.now) out.old out.new) }
+    ensures begun { OnErr result (BeginsToTell O.taken (surveyed scope.now.strict scope.now.files.now scope.now.descs.now) out.old
+        out.new) }
     ensures before { IfOk result (λ t. IsTrue t.all → IsTrue tally.all) }
     ensures proved { IfOk result (λ t. IsTrue t.all
-        → AllByRecursion (IsProvedMethod (surveyed scope.now.strict scope.now.files.now scope.now.descs.now) class.now) (map method_content methods.now)) }
+        → AllByRecursion (IsProvedMethod (surveyed scope.now.strict scope.now.files.now scope.now.descs.now) class.now)
+        (map method_content methods.now)) }
 {
     let mut so_far = tally;
     for method in methods {
@@ -357,7 +364,8 @@ fn survey_class<O: Sink>(
 ) -> Result<Tally, Stop>
     requires { length scope.now.files.now ≤ most_classes }
     ensures told { IfOk result (λ t. Tells O.taken (surveyed scope.now.strict scope.now.files.now scope.now.descs.now) out.old out.new) }
-    ensures begun { OnErr result (BeginsToTell O.taken (surveyed scope.now.strict scope.now.files.now scope.now.descs.now) out.old out.new) }
+    ensures begun { OnErr result (BeginsToTell O.taken (surveyed scope.now.strict scope.now.files.now scope.now.descs.now) out.old
+        out.new) }
     ensures before { IfOk result (λ t. IsTrue t.all → IsTrue tally.all) }
     ensures proved { IfOk result (λ t. IsTrue t.all
         → IsProvedClass (surveyed scope.now.strict scope.now.files.now scope.now.descs.now) class.now) }
@@ -384,7 +392,8 @@ pub(crate) fn survey_classes<O: Sink>(
 ) -> Result<Tally, Stop>
     requires { length scope.now.files.now ≤ most_classes }
     ensures told { IfOk result (λ t. Tells O.taken (surveyed scope.now.strict scope.now.files.now scope.now.descs.now) out.old out.new) }
-    ensures begun { OnErr result (BeginsToTell O.taken (surveyed scope.now.strict scope.now.files.now scope.now.descs.now) out.old out.new) }
+    ensures begun { OnErr result (BeginsToTell O.taken (surveyed scope.now.strict scope.now.files.now scope.now.descs.now) out.old
+        out.new) }
     ensures proved { IfOk result (λ t. IsTrue t.all
         → AllByRecursion (IsProvedClass (surveyed scope.now.strict scope.now.files.now scope.now.descs.now)) scope.now.classes.now) }
 {

@@ -1,7 +1,8 @@
 //! The words of the command line.
 ghost use Rattle.std.specs.Prelude.{◌≡◌, ◌∷◌, ◌≤◌, ◌<◌, [], length, map, string_bytes, IfOk, IfSome, MatchOption, IsTrue};
 ghost use Rattle.std.specs.List.{list_all};
-ghost use Rattle.survey.specs.Words.{is_strict, behind_strict, behind_why, behind_descs, descs_in, desc_words, class_words, is_file_word, AreSurvey};
+ghost use Rattle.survey.specs.Words.{is_strict, behind_strict, behind_why, behind_descs, descs_in, desc_words};
+ghost use Rattle.survey.specs.Words.{class_words, is_file_word, AreSurvey};
 ghost use Rattle.class_base.specs.Limits.{most_classes};
 
 use class_base::MOST_CLASSES;

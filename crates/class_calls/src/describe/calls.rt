@@ -45,7 +45,8 @@ pub struct UnderLines<'a> {
 /// The method of these names, where it has a body.
 #[tactic(auto, using(crate::proofs::Answered::without_body, crate::proofs::Answered::without_method))]
 fn entry_in(world: &World<'_>, names: &MethodNames<'_>) -> Option<MethodRef>
-    ensures found { IfSome result (λ entry. find_method (classes_of world.now) names.now.class.now names.now.name.now names.now.desc.now ≡ Some entry) }
+    ensures found { IfSome result (λ entry. find_method (classes_of world.now) names.now.class.now names.now.name.now
+        names.now.desc.now ≡ Some entry) }
     ensures body { IfSome result (λ entry. IsTrue (has_body (classes_of world.now) entry)) }
     ensures none { result ≡ None → HasNone (classes_of world.now) names.now.class.now names.now.name.now names.now.desc.now }
 {
@@ -74,8 +75,10 @@ fn program_in<'a>(
         × IsWorldOf (set_up lines.now classes) (classes_of world)) }
     ensures program { IfOk result (λ found. IfSome found (λ program. IsMethodProgram lines.now (map (λ file. file.items) files.now)
         names.now.class.now names.now.name.now names.now.desc.now (program_of program))) }
-    ensures none { IfOk result (λ found. found ≡ None → HasNoMethod lines.now (map (λ file. file.items) files.now) names.now.class.now names.now.name.now names.now.desc.now) }
-    ensures refused { IfErr result (IsCaused (RefusesMethod lines.now (map (λ file. file.items) files.now) names.now.class.now names.now.name.now names.now.desc.now)) }
+    ensures none { IfOk result (λ found. found ≡ None → HasNoMethod lines.now (map (λ file. file.items) files.now) names.now.class.now
+        names.now.name.now names.now.desc.now) }
+    ensures refused { IfErr result (IsCaused (RefusesMethod lines.now (map (λ file. file.items) files.now) names.now.class.now
+        names.now.name.now names.now.desc.now)) }
 {
     match entry_in(&world, names) {
         Some(entry) => match close(alloc, world, entry) {
@@ -97,8 +100,10 @@ fn program_at<'a>(
     requires { length files.now ≤ most_classes }
     ensures program { IfOk result (λ found. IfSome found (λ program. IsMethodProgram lines.now (map (λ file. file.items) files.now)
         names.now.class.now names.now.name.now names.now.desc.now (program_of program))) }
-    ensures none { IfOk result (λ found. found ≡ None → HasNoMethod lines.now (map (λ file. file.items) files.now) names.now.class.now names.now.name.now names.now.desc.now) }
-    ensures refused { IfErr result (IsCaused (RefusesMethod lines.now (map (λ file. file.items) files.now) names.now.class.now names.now.name.now names.now.desc.now)) }
+    ensures none { IfOk result (λ found. found ≡ None → HasNoMethod lines.now (map (λ file. file.items) files.now) names.now.class.now
+        names.now.name.now names.now.desc.now) }
+    ensures refused { IfErr result (IsCaused (RefusesMethod lines.now (map (λ file. file.items) files.now) names.now.class.now
+        names.now.name.now names.now.desc.now)) }
 {
     let classes = match read_classes(alloc, files) {
         Ok(classes) => classes,
@@ -197,10 +202,13 @@ pub fn program_under<'a>(
         names.now.class.now names.now.name.now names.now.desc.now (program_of under.program))) }
     ensures needed { IfOk result (λ found. IfSome found (λ under. AreNeeded leave (map (λ file. file.items) files.now)
         names.now.class.now names.now.name.now names.now.desc.now first.now under.lines)) }
-    ensures none { IfOk result (λ found. found ≡ None → Under leave (map (λ file. file.items) files.now) names.now.class.now names.now.name.now names.now.desc.now first.now
+    ensures none { IfOk result (λ found. found ≡ None → Under leave (map (λ file. file.items) files.now) names.now.class.now
+        names.now.name.now names.now.desc.now first.now
         (λ lines. HasNoMethod lines (map (λ file. file.items) files.now) names.now.class.now names.now.name.now names.now.desc.now)) }
-    ensures refused { IfErr result (IsCaused (λ place fault. Under leave (map (λ file. file.items) files.now) names.now.class.now names.now.name.now names.now.desc.now first.now
-        (λ lines. RefusesMethod lines (map (λ file. file.items) files.now) names.now.class.now names.now.name.now names.now.desc.now place fault))) }
+    ensures refused { IfErr result (IsCaused (λ place fault. Under leave (map (λ file. file.items) files.now) names.now.class.now
+        names.now.name.now names.now.desc.now first.now
+        (λ lines. RefusesMethod lines (map (λ file. file.items) files.now) names.now.class.now names.now.name.now names.now.desc.now
+        place fault))) }
 {
     let mut lines = lines_again(alloc, first)?;
     for _round in 0..u64::MAX {
@@ -226,7 +234,8 @@ fn described_program<'a>(
     requires { length files.now ≤ most_classes }
     ensures program { IfOk result (λ under. IsMethodProgram under.lines (map (λ file. file.items) files.now)
         names.now.class.now names.now.name.now names.now.desc.now (program_of under.program)) }
-    ensures needed { IfOk result (λ under. AreNeeded leave (map (λ file. file.items) files.now) names.now.class.now names.now.name.now names.now.desc.now [] under.lines) }
+    ensures needed { IfOk result (λ under. AreNeeded leave (map (λ file. file.items) files.now) names.now.class.now names.now.name.now
+        names.now.desc.now [] under.lines) }
 {
     match program_under(alloc, files, &[], names, leave)? {
         Some(under) => Ok(under),

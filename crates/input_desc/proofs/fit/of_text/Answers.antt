@@ -4,5 +4,6 @@ use Rattle.input_desc.proofs.Fitted.{fitted_describes}
 use Rattle.input_desc.proofs.fit.of_text.Goals as goal
 
 pub returns-clause-described : goal.returns-clause-described
-returns-clause-described c = fitted_describes (program_of c.args.program.now) c.args.text c.as_slice.result.now c.fitted.result (search rules)
+returns-clause-described c = fitted_describes (program_of c.args.program.now) c.args.text c.as_slice.result.now c.fitted.result
+    (search rules)
     (search rules) (search rules) c.fitted.ensures.made

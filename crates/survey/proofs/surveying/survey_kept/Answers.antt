@@ -6,7 +6,8 @@ use Rattle.survey.proofs.surveying.survey_kept.Goals as goal
 
 pub returns-clause-begun : goal.returns-clause-begun
 returns-clause-begun g c = subst
-    (λ files. OnErr c.survey_scope.result (BeginsToTell g.O.Sink.taken (surveyed c.args.asked.now.strict files c.args.descs.now) c.args.out.now c.survey_scope.new.out))
+    (λ files. OnErr c.survey_scope.result (BeginsToTell g.O.Sink.taken (surveyed c.args.asked.now.strict files c.args.descs.now)
+    c.args.out.now c.survey_scope.new.out))
     c.as_slice-2.ensures.value c.survey_scope.ensures.begun
 
 pub returns-clause-all : goal.returns-clause-all

@@ -12,7 +12,8 @@ returns-in-Ok-survey_kept-clause-told g c =
     let names = map string_bytes c.args.asked.now.classes.now in
     let front = told_on taken s c.args.out.now c.read_files.new.out c.leave_out.new.out (c.in-Ok.ensures.told s)
     (c.in-Ok-leave_out.ensures.told s) in
-    ends held taken c.args.asked.now.strict names (map (λ name. name.now) c.args.asked.now.descs.items) s c.args.out.now c.survey_kept.new.out
+    ends held taken c.args.asked.now.strict names (map (λ name. name.now) c.args.asked.now.descs.items) s c.args.out.now
+    c.survey_kept.new.out
     c.in-Ok-survey_kept.status refl (c.in-Ok-leave_out.ensures.stay held names c.in-Ok.ensures.some) c.requires.descs
     (told_on taken s c.args.out.now c.leave_out.new.out c.survey_kept.new.out front c.in-Ok-survey_kept.ensures.told)
     c.in-Ok-survey_kept.ensures.all
@@ -27,7 +28,8 @@ returns-in-Ok-leave_out-clause-begun g c = λ status broken.
     let names = map string_bytes c.args.asked.now.classes.now in
     let front = told_on taken s c.args.out.now c.read_files.new.out c.leave_out.new.out (c.in-Ok.ensures.told s)
     (c.in-Ok-leave_out.ensures.told s) in
-    breaks held taken c.args.asked.now.strict names (map (λ name. name.now) c.args.asked.now.descs.items) s c.args.out.now c.survey_kept.new.out status refl
+    breaks held taken c.args.asked.now.strict names (map (λ name. name.now) c.args.asked.now.descs.items) s c.args.out.now
+    c.survey_kept.new.out status refl
     (c.in-Ok-leave_out.ensures.stay held names c.in-Ok.ensures.some) c.requires.descs broken
     (begun_on taken s c.args.out.now c.leave_out.new.out c.survey_kept.new.out front c.in-Err-survey_kept.ensures.begun)
 
@@ -35,12 +37,14 @@ pub returns-clause-begun : goal.returns-clause-begun
 returns-clause-begun g c = λ status broken.
     ends_early (g.F.Files.held c.args.files.now) g.O.Sink.taken c.args.asked.now.strict (map string_bytes c.args.asked.now.classes.now)
     (map (λ name. name.now) c.args.asked.now.descs.items) c.args.out.now c.leave_out.new.out status broken
-    (begun_on g.O.Sink.taken (nothing c.args.asked.now.strict) c.args.out.now c.read_files.new.out c.leave_out.new.out (c.in-Ok.ensures.told (nothing c.args.asked.now.strict))
+    (begun_on g.O.Sink.taken (nothing c.args.asked.now.strict) c.args.out.now c.read_files.new.out c.leave_out.new.out
+    (c.in-Ok.ensures.told (nothing c.args.asked.now.strict))
     (c.in-Err-leave_out.ensures.begun (nothing c.args.asked.now.strict)))
 
 pub returns-in-Err-passing_lines-clause-begun : goal.returns-in-Err-passing_lines-clause-begun
 returns-in-Err-passing_lines-clause-begun g c = λ status broken.
     ends_early (g.F.Files.held c.args.files.now) g.O.Sink.taken c.args.asked.now.strict (map string_bytes c.args.asked.now.classes.now)
     (map (λ name. name.now) c.args.asked.now.descs.items) c.args.out.now c.read_files.new.out status broken
-    (begun_on g.O.Sink.taken (nothing c.args.asked.now.strict) c.args.out.now c.read_files.new.out c.read_files.new.out (c.in-Ok.ensures.told (nothing c.args.asked.now.strict))
+    (begun_on g.O.Sink.taken (nothing c.args.asked.now.strict) c.args.out.now c.read_files.new.out c.read_files.new.out
+    (c.in-Ok.ensures.told (nothing c.args.asked.now.strict))
     (nothing_begun g.O.Sink.taken (nothing c.args.asked.now.strict) c.read_files.new.out))

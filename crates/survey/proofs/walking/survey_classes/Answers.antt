@@ -6,7 +6,8 @@ use Rattle.survey.proofs.Walks.{item_more}
 use Rattle.survey.proofs.walking.survey_classes.Goals as goal
 
 pub returns-in-Err-clause-begun : goal.returns-in-Err-clause-begun
-returns-in-Err-clause-begun g c = begun_on g.O.Sink.taken (surveyed c.args.scope.now.strict c.args.scope.now.files.now c.args.scope.now.descs.now) c.args.out.now
+returns-in-Err-clause-begun g c = begun_on g.O.Sink.taken (surveyed c.args.scope.now.strict c.args.scope.now.files.now
+    c.args.scope.now.descs.now) c.args.out.now
     c.loop-class.out c.survey_class.new.out c.loop-class.invariant.told c.in-Err.ensures.begun
 
 pub loop-class-preserved : goal.loop-class-preserved

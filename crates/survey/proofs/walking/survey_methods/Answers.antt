@@ -7,7 +7,8 @@ use Rattle.survey.proofs.Walks.{each_more}
 use Rattle.survey.proofs.walking.survey_methods.Goals as goal
 
 pub returns-in-Err-clause-begun : goal.returns-in-Err-clause-begun
-returns-in-Err-clause-begun g c = begun_on g.O.Sink.taken (surveyed c.args.scope.now.strict c.args.scope.now.files.now c.args.scope.now.descs.now) c.args.out.now
+returns-in-Err-clause-begun g c = begun_on g.O.Sink.taken (surveyed c.args.scope.now.strict c.args.scope.now.files.now
+    c.args.scope.now.descs.now) c.args.out.now
     c.loop-method.out c.survey_method.new.out c.loop-method.invariant.told c.in-Err.ensures.begun
 
 pub loop-method-preserved : goal.loop-method-preserved
