@@ -5,6 +5,7 @@ use Rattle.std.specs.Prelude.{position, is_none}
 use Rattle.std.specs.List.{filter, list_any, list_all, position_or_len, IsDistinct, AllByRecursion}
 use Rattle.std.specs.Str.{bytes_eq}
 use Rattle.std.proofs.lemmas.Bool.{and_from, and_parts, lt-ltb, ltb-true}
+use Rattle.std.proofs.lemmas.Bool.Decides.{nat_tests}
 use Rattle.std.proofs.lemmas.List.Folds.{list_any-append}
 use Rattle.std.proofs.lemmas.Map.Keys.{IsDistinct-head, IsDistinct-tail, IsDistinct-cons}
 use Rattle.list_views.proofs.Items.{length_mapped}
@@ -246,16 +247,19 @@ there names name built among e f =
 
 -- a place passes a test where some item does
 module _ {A : Type 0} (p : A → Bool) where
+  below_both : (m n : ℕ) → nat_lt (suc m) (suc n) ≡ nat_lt m n
+  below_both m n = grind (arith, nat_tests)
+
   shifted : (m n : ℕ) (b : Bool) → nat_lt m n ≡ b → nat_lt (1 + m) (suc n) ≡ b
-  shifted m n b h = h
+  shifted m n b h = below_both m n ∙ h
 
   at_all : (xs : List A) → nat_lt (position_or_len p xs) (length xs) ≡ list_any p xs
-  at_all [] = refl
+  at_all [] = grind (arith, nat_tests)
   at_all (x ∷ xs) = go (p x) (at_all xs)
     where
       go : (b : Bool) → nat_lt (position_or_len p xs) (length xs) ≡ list_any p xs
           → nat_lt (cond (not b) (1 + position_or_len p xs) 0) (suc (length xs)) ≡ (b || list_any p xs)
-      go true h = refl
+      go true h = lt-ltb 0 (suc (length xs)) (omega arith)
       go false h = shifted (position_or_len p xs) (length xs) (list_any p xs) h
 
   nowhere : (xs : List A) → is_none (position p xs) ≡ not (list_any p xs)
