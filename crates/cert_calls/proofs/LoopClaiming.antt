@@ -10,6 +10,7 @@ use Rattle.input_desc.specs.Entries.{entry_of}
 use Rattle.loop_check.specs.InputFitsGivens.{IsFitting}
 use Rattle.input_steps.specs.declared.refused.Refused.{Refused}
 use Rattle.input_steps.specs.Classes.{IsWorldOf}
+use Rattle.input_steps.specs.SetUp.{set_up}
 use Rattle.check_call.specs.declared.outcome.Outcome.{Outcome}
 use Rattle.cert_calls.specs.loop_call.Answers.{OfNodes, OfCert}
 use Rattle.cert_calls.specs.loop_call.Headline.{AllGoOnForEver, AllGoOnIfDone}
@@ -35,7 +36,8 @@ claims cert state desc files outcome a done =
     let world = given.1.1 in
     let entry = world.1.1 in
     let same = entry.1.1 in
-    let program = same.1.1 in
+    let alike = same.1.1 in
+    let program = alike.1.1 in
     let calls = program.1.1 in
     let typing = calls.1.1 in
     let described = typing.1.1 in
@@ -49,9 +51,9 @@ claims cert state desc files outcome a done =
       named = record {
         classes = a.0;
         spelled = a.1.0;
-        linked = subst (IsWorldOf a.0) (sym made.world_is) world.1.0;
         text = text.0;
         said = text.1.0;
+        linked = subst (IsWorldOf (set_up text.0.world a.0)) (sym made.world_is) world.1.0;
         entry = subst (λ (e : MethodRef). entry_of program.0.world text.0.entry ≡ Ok e) (sym made.entry_is) here;
         closed = made.closed;
         faultless = described.1.0.0;

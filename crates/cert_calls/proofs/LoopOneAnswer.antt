@@ -17,6 +17,7 @@ use Rattle.input_steps.specs.declared.refused.Refused.TheVariants.{At, Memory}
 use Rattle.input_steps.specs.declared.refused.Place.TheVariants as places
 use Rattle.input_steps.specs.declared.refused.Fault.TheVariants as faults_at
 use Rattle.input_steps.specs.Classes.{AllSpell, RefusesClasses, IsWorldOf, RefusesWorld}
+use Rattle.input_steps.specs.SetUp.{set_up}
 use Rattle.input_steps.specs.Programs.{IsProgramOf, RefusesProgram, IsAcyclic, RefusesCalls, RefusesTypes}
 use Rattle.input_steps.proofs.OneAnswer.{IsExact, IsOne, at_one, then_one, classes_exact, world_exact, program_exact, calls_exact}
 use Rattle.input_steps.proofs.OneText.{said_exact, text_exact}
@@ -36,7 +37,7 @@ use Rattle.cert_calls.specs.loop_call.Answers.{OfNodes, OfContent, OfCert}
 use Rattle.cert_calls.specs.loop_call.Laws.{AnswersAreOne}
 use Rattle.cert_calls.specs.loop_call.Lines.{refused_for}
 use Rattle.cert_calls.specs.loop_call.inner.Rest.{OfProgram, OfWorld}
-use Rattle.cert_calls.specs.loop_call.States.{Saying, OfState, IsSameEntry, RefusesOther}
+use Rattle.cert_calls.specs.loop_call.States.{Saying, OfState, IsSameEntry, RefusesOther, HasSameLines, RefusesLines}
 
 -- ---- certificates
 
@@ -93,6 +94,16 @@ name_exact text given = record {
       (λ fault. (fault ≡ descs.NoMethod) × (IsSameEntry text given → ⊥)) (λ f g h k. h.0 ∙ sym k.0);
 }
 
+-- ---- the state's lines
+
+lines_exact : (text : DescText) (given : StateText) → IsExact {A = Unit {0}} (λ nothing. HasSameLines text given) (RefusesLines text given)
+lines_exact text given = record {
+  one = λ a b h k. refl;
+  apart = λ nothing place fault same r. r.holds.1 same;
+  named = at_one {C = DescFault} (λ fault. places.State) faults_at.Desc
+      (λ fault. (fault ≡ descs.WorldLines) × (HasSameLines text given → ⊥)) (λ f g h k. h.0 ∙ sym k.0);
+}
+
 -- ---- the whole
 
 module _ (Says : Saying Outcome) (one : (p : Program) (typing : ℕ → CodeTypes) (described : Desc) (input : StateInput)
@@ -110,15 +121,17 @@ module _ (Says : Saying Outcome) (one : (p : Program) (typing : ℕ → CodeType
       then_one (λ entry. entry_of world text.entry ≡ Ok entry) (RefusesEntry world text) _
       (said_exact places.Description (entry_of world text.entry)) (λ entry e.
       then_one {A = Unit {0}} (λ nothing. IsSameEntry text given) (RefusesOther text given) _ (name_exact text given) (λ nothing s.
+      then_one {A = Unit {0}} (λ nothing. HasSameLines text given) (RefusesLines text given) _ (lines_exact text given) (λ nothing a.
       then_one (IsProgramOf world entry) (RefusesProgram world entry) (OfProgram Says text given) (program_exact world entry)
-      (λ p is. program_one text given p is.closed)))
+      (λ p is. program_one text given p is.closed))))
 
   classes_one : (state desc : List ℕ) (files : List (List ℕ)) → IsOne (λ result. OfState Says state desc files result)
   classes_one state desc files =
       then_one (AllSpell files) (RefusesClasses files) _ (classes_exact files) (λ classes s.
       then_one (IsDescText desc) (RefusesText desc) _ (text_exact description_of desc places.Description) (λ text t.
       then_one (IsStateText state) (RefusesState state) _ (text_exact state_of state places.State) (λ given g.
-      then_one (IsWorldOf classes) (RefusesWorld classes) (OfWorld Says text given) (world_exact classes)
+      then_one (IsWorldOf (set_up text.world classes)) (RefusesWorld (set_up text.world classes)) (OfWorld Says text given)
+      (world_exact (set_up text.world classes))
       (λ world w. world_one text given world))))
 
 pub answers_one : AnswersAreOne

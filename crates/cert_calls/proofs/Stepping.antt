@@ -17,6 +17,7 @@ use Rattle.input_steps.specs.declared.refused.Place.{Place}
 use Rattle.input_steps.specs.declared.refused.Fault.{Fault}
 use Rattle.input_steps.specs.Steps.{IsCaused, Then}
 use Rattle.input_steps.specs.Classes.{AllSpell, RefusesClasses, IsWorldOf, RefusesWorld, reading_classes, linking}
+use Rattle.input_steps.specs.SetUp.{set_up}
 use Rattle.input_steps.specs.Programs.{IsProgramOf, RefusesProgram, IsAcyclic, RefusesCalls, RefusesTypes, closing, testing_calls}
 use Rattle.input_steps.specs.Programs.{typing_methods}
 use Rattle.input_steps.proofs.Steps.{step_refused, step_goes}
@@ -24,8 +25,10 @@ use Rattle.desc_steps.specs.Descriptions.{IsDescText, RefusesText, RefusesEntry,
 use Rattle.desc_steps.specs.Descriptions.{describing}
 use Rattle.class_calls.specs.run_call.Answers.{IsStateText, RefusesState, IsInput, RefusesInput, reading_state, giving_input}
 use Rattle.check_call.specs.declared.outcome.Outcome.{Outcome}
-use Rattle.cert_calls.specs.loop_call.inner.Rest.{OfDesc, OfTyping, OfCalls, OfProgram, OfName, OfEntry, OfWorld, OfClasses, OfText, OfRead}
-use Rattle.cert_calls.specs.loop_call.States.{Saying, OfState, IsSameEntry, RefusesOther, naming_entry}
+use Rattle.cert_calls.specs.loop_call.inner.Rest.{OfDesc, OfTyping, OfCalls, OfProgram, OfLines, OfName, OfEntry, OfWorld, OfClasses}
+use Rattle.cert_calls.specs.loop_call.inner.Rest.{OfText, OfRead}
+use Rattle.cert_calls.specs.loop_call.States.{Saying, OfState, IsSameEntry, RefusesOther, naming_entry, HasSameLines}
+use Rattle.cert_calls.specs.loop_call.States.{RefusesLines, comparing_lines}
 
 abbrev Answer : Type 0
 Answer = Result Outcome Refused
@@ -71,12 +74,24 @@ module _ (Says : Saying Outcome) where
 
   module _ (text : DescText) (given : StateText) where
     pub program_refused : (world : World) (entry : MethodRef) (refused : Refused) → IsCaused (RefusesProgram world entry) refused
-        → OfName Says text given world entry (Err refused)
+        → OfLines Says text given world entry (Err refused)
     program_refused world entry refused h = step_refused (closing world entry) (OfProgram Says text given) refused h
 
     pub entry_goes : (world : World) (entry : MethodRef) (p : Program) (result : Answer) → IsProgramOf world entry p
-        → OfProgram Says text given p result → OfName Says text given world entry result
+        → OfProgram Says text given p result → OfLines Says text given world entry result
     entry_goes world entry p result is h = step_goes (closing world entry) (OfProgram Says text given) p result is h
+
+    -- ---- the state's lines
+
+    pub lines_refused : (world : World) (entry : MethodRef) (refused : Refused) → IsCaused (RefusesLines text given) refused
+        → OfName Says text given world entry (Err refused)
+    lines_refused world entry refused h = step_refused (comparing_lines text given) (λ nothing. OfLines Says text given world entry)
+        refused h
+
+    pub name_goes : (world : World) (entry : MethodRef) (result : Answer) → HasSameLines text given
+        → OfLines Says text given world entry result → OfName Says text given world entry result
+    name_goes world entry result alike h = step_goes (comparing_lines text given) (λ nothing. OfLines Says text given world entry) tt
+        result alike h
 
     -- ---- a world
 
@@ -100,13 +115,13 @@ module _ (Says : Saying Outcome) where
 
     -- ---- classes
 
-    pub world_refused : (classes : List ClassContent) (refused : Refused) → IsCaused (RefusesWorld classes) refused
+    pub world_refused : (classes : List ClassContent) (refused : Refused) → IsCaused (RefusesWorld (set_up text.world classes)) refused
         → OfClasses Says text given classes (Err refused)
-    world_refused classes refused h = step_refused (linking classes) (OfWorld Says text given) refused h
+    world_refused classes refused h = step_refused (linking (set_up text.world classes)) (OfWorld Says text given) refused h
 
-    pub classes_go : (classes : List ClassContent) (world : World) (result : Answer) → IsWorldOf classes world
+    pub classes_go : (classes : List ClassContent) (world : World) (result : Answer) → IsWorldOf (set_up text.world classes) world
         → OfWorld Says text given world result → OfClasses Says text given classes result
-    classes_go classes world result w h = step_goes (linking classes) (OfWorld Says text given) world result w h
+    classes_go classes world result w h = step_goes (linking (set_up text.world classes)) (OfWorld Says text given) world result w h
 
   -- ---- files
 
@@ -168,8 +183,10 @@ module _ (Says Tells : Saying Outcome) (on : (p : Program) (typing : ℕ → Cod
       (OfEntry Tells text given world) (λ entry r e.
       then_on {A = Unit {0}} (λ nothing. IsSameEntry text given) (RefusesOther text given) (λ nothing. OfName Says text given world entry)
       (λ nothing. OfName Tells text given world entry) (λ nothing r s.
+      then_on {A = Unit {0}} (λ nothing. HasSameLines text given) (RefusesLines text given)
+      (λ nothing. OfLines Says text given world entry) (λ nothing. OfLines Tells text given world entry) (λ nothing r a.
       then_on {A = Program} (IsProgramOf world entry) (RefusesProgram world entry) (OfProgram Says text given)
-      (OfProgram Tells text given) (λ p r is. program_on text given p r) r) r)
+      (OfProgram Tells text given) (λ p r is. program_on text given p r) r) r) r)
 
   pub files_on : (state desc : List ℕ) (files : List (List ℕ)) (result : Answer) → OfState Says state desc files result
       → OfState Tells state desc files result
@@ -179,5 +196,6 @@ module _ (Says Tells : Saying Outcome) (on : (p : Program) (typing : ℕ → Cod
       (λ text. OfText Tells state text classes) (λ text r t.
       then_on {A = StateText} (IsStateText state) (RefusesState state) (λ given. OfClasses Says text given classes)
       (λ given. OfClasses Tells text given classes) (λ given r g.
-      then_on {A = World} (IsWorldOf classes) (RefusesWorld classes) (OfWorld Says text given) (OfWorld Tells text given)
+      then_on {A = World} (IsWorldOf (set_up text.world classes)) (RefusesWorld (set_up text.world classes)) (OfWorld Says text given)
+      (OfWorld Tells text given)
       (λ world r w. world_on text given world r) r) r) r)

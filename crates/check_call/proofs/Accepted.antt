@@ -77,7 +77,8 @@ accepted_ends ended cert desc files (Ok outcome) bytes a accepts =
     let r = reached (AnswersCert cert) desc files outcome a in
     let p = r.program in
     let closed = r.named.closed in
-    let world = world_good files r.named.classes p.world (recursion_from_All IsBytes files bytes) r.named.spelled r.named.linked in
+    let world = world_good files r.named.text.world r.named.classes p.world (recursion_from_All IsBytes files bytes) r.named.spelled
+    r.named.linked in
     let small = methods_small p.world p.entry p.methods world closed.made in
     let own = own_desc p r.named.text r.described closed (few_params p.methods small) r.named.faultless r.named.is_described in
     all_end desc files p r.described r.named

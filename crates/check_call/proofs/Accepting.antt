@@ -11,6 +11,7 @@ use Rattle.input_desc.specs.Descs.{IsOwnDesc}
 use Rattle.input_desc.specs.Entries.{entry_of}
 use Rattle.input_desc.specs.Initial.{initial_of}
 use Rattle.input_steps.specs.Classes.{IsWorldOf}
+use Rattle.input_steps.specs.SetUp.{set_up}
 use Rattle.desc_steps.specs.Answers.{Saying, OfFiles}
 use Rattle.desc_steps.specs.Headline.{NameProgram, AllFittingEnd}
 use Rattle.desc_steps.specs.Names.{names_of}
@@ -55,9 +56,9 @@ reached Says desc files said a =
       named = record {
         classes = a.0;
         spelled = a.1.0;
-        linked = subst (IsWorldOf a.0) (sym made.world_is) world.1.0;
         text = text.0;
         said = text.1.0;
+        linked = subst (IsWorldOf (set_up text.0.world a.0)) (sym made.world_is) world.1.0;
         entry = subst (λ (e : MethodRef). entry_of program.0.world text.0.entry ≡ Ok e) (sym made.entry_is) here;
         closed = made.closed;
         faultless = described.1.0.0;

@@ -1,5 +1,5 @@
 -- What classes keep of files that are lists of bytes.
-use Rattle.std.proofs.Common.{◌≡◌, ◌∙◌, ◌≤◌, ◌<◌, ◌^◌, ◌++◌, ℕ, zero, suc, List, [], ◌∷◌, length, Some, sym, subst, arith}
+use Rattle.std.proofs.Common.{not, ◌≡◌, ◌∙◌, ◌≤◌, ◌<◌, ◌^◌, ◌++◌, ℕ, zero, suc, List, [], ◌∷◌, length, Some, sym, subst, arith}
 use Rattle.std.specs.Prelude.{IfSome, codes}
 use Rattle.std.specs.List.{AllByRecursion, flat_map}
 use Rattle.list_views.specs.ByteLists.{IsBytes}
@@ -23,7 +23,11 @@ use Rattle.class_read.specs.Rules.{IsMethodAttribute, IsMethod, WellFormed, Spel
 use Rattle.class_read.specs.Text.{u2, u4, counted, attribute_text, handler_text, code_text, attr_text, member_text, magic_number}
 use Rattle.class_read.specs.Text.{class_bytes}
 use Rattle.class_world.specs.World.{World, built_in, built_in_init, built_in_names}
+use Rattle.class_world.specs.Resolve.{is_initialiser}
+use Rattle.input_text.specs.declared.texts.WorldLine.{WorldLine}
 use Rattle.input_steps.specs.Classes.{AllSpell, IsWorldOf}
+use Rattle.input_steps.specs.SetUp.{without_initialiser, set_up}
+use Rattle.input_steps.proofs.SetUp.{every_kept, set_up_keeps}
 
 -- ---- what is kept
 
@@ -168,12 +172,27 @@ joined : {A : Type 0} (P : A → Type 0) (xs ys : List A) → AllByRecursion P x
 joined P [] ys h k = k
 joined P (x ∷ xs) ys h k = (h.0, joined P xs ys h.1 k)
 
--- the classes of the world that files make
-pub world_good : (files : List (List ℕ)) (classes : List ClassContent) (world : World) → AllByRecursion IsBytes files
-    → AllSpell files classes → IsWorldOf classes world → AllByRecursion IsOfBytes world
-world_good files classes world h s is =
+-- ---- classes as they enter a world
+
+without_good : (c : ClassContent) → IsOfBytes c → IsOfBytes (without_initialiser c)
+without_good c h = record {
+  pool = h.pool;
+  methods = every_kept (λ (m : MethodContent). not (is_initialiser m)) HasByteCode c.methods h.methods;
+}
+
+with_other_good : (c : ClassContent) (interfaces : List (List ℕ)) → IsOfBytes c → IsOfBytes (record c { interfaces = interfaces })
+with_other_good c interfaces h = record { pool = h.pool; methods = h.methods }
+
+set_up_of_bytes : (lines : List WorldLine) (classes : List ClassContent) → AllByRecursion IsOfBytes classes
+    → AllByRecursion IsOfBytes (set_up lines classes)
+set_up_of_bytes = set_up_keeps IsOfBytes without_good with_other_good
+
+-- the classes of the world that files make, however they enter it
+pub world_good : (files : List (List ℕ)) (lines : List WorldLine) (classes : List ClassContent) (world : World)
+    → AllByRecursion IsBytes files → AllSpell files classes → IsWorldOf (set_up lines classes) world → AllByRecursion IsOfBytes world
+world_good files lines classes world h s is =
     subst (AllByRecursion IsOfBytes) (sym is.world_is)
-    (joined IsOfBytes _ classes
+    (joined IsOfBytes _ (set_up lines classes)
     (all_mapped IsOfBytes (λ (n : List ℕ × List ℕ). built_in n.0 n.1) built_in_names
     (all_of (λ (n : List ℕ × List ℕ). IsOfBytes (built_in n.0 n.1)) (λ n. built_in_good n.0 n.1) built_in_names))
-    (all_spelled files classes h s))
+    (set_up_of_bytes lines classes (all_spelled files classes h s)))

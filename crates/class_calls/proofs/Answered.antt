@@ -1,17 +1,39 @@
 -- What is answered for class files, put together.
-use Rattle.std.proofs.Common.{◌≡◌, ℕ, List, Some}
-use Rattle.std.specs.Prelude.{slice_get}
+use Rattle.std.proofs.Common.{◌≡◌, ◌∙◌, ◌≤◌, ◌⊎◌, inl, inr, ℕ, false, List, [], ◌∷◌, ◌++◌, length, map}
+use Rattle.std.proofs.Common.{Some, None, refl, sym, ap, subst, arith}
+use Rattle.std.proofs.Common.{append_assoc, append-nil}
+use Rattle.std.specs.Prelude.{slice_get, IsTrue}
+use Rattle.std.specs.Global.{Vec}
+use Rattle.std.specs.List.{AllByRecursion}
+use Rattle.std.proofs.lemmas.Bool.{false≢true}
+use Rattle.std.proofs.lemmas.List.{length-map}
+use Rattle.class_base.specs.Limits.{most_classes}
 use Rattle.class_read.specs.Content.{ClassContent}
 use Rattle.class_world.specs.declared.world.MethodRef.{MethodRef}
+use Rattle.class_world.specs.Linking.{IsLinkable}
 use Rattle.class_world.specs.World.{World}
 use Rattle.class_world.specs.Members.{find_method}
+use Rattle.class_world.specs.Resolve.{has_body}
 use Rattle.class_program.specs.Programs.{Program}
-use Rattle.input_steps.specs.Classes.{AllSpell, IsWorldOf}
-use Rattle.input_steps.specs.Programs.{IsProgramOf}
+use Rattle.input_text.specs.declared.texts.WorldLine.{WorldLine}
+use Rattle.input_text.specs.declared.texts.WorldLine.TheVariants.{Initialised, Passed}
+use Rattle.input_steps.specs.declared.refused.Place.{Place}
+use Rattle.input_steps.specs.declared.refused.Fault.{Fault}
+use Rattle.input_steps.specs.declared.refused.Refused.{Refused}
+use Rattle.input_steps.specs.declared.refused.Refused.TheVariants.{At, Memory}
+use Rattle.input_steps.specs.Steps.{IsCaused}
+use Rattle.input_steps.specs.Classes.{AllSpell, IsWorldOf, RefusesClasses, RefusesWorld}
+use Rattle.input_steps.specs.SetUp.{set_up}
+use Rattle.input_steps.proofs.Files.{spell_length, spell_linkable}
+use Rattle.input_steps.specs.Programs.{IsProgramOf, RefusesProgram}
+use Rattle.class_calls.specs.declared.describe.calls.Asked.{Asked}
+use Rattle.class_calls.specs.declared.describe.lines.Leave.{Leave}
 use Rattle.class_calls.specs.declared.describe.methods.MethodNames.{MethodNames}
 use Rattle.class_calls.specs.describe.Methods.{method_lines, Names, IsNamed, IsFirstNamed}
 use Rattle.class_calls.specs.describe.Templates.{IsTemplate}
-use Rattle.class_calls.specs.describe.Calls.{ListsMethods, DescribesEntry, DescribesIn, Describes}
+use Rattle.class_calls.specs.describe.Lines.{IsMethodProgram, HasNone, HasNoMethod, RefusesMethod, allows, AsksFor, IsAdded, AreAdded}
+use Rattle.class_calls.specs.describe.Lines.{AreNeeded, Under}
+use Rattle.class_calls.specs.describe.Calls.{ListsMethods, Describes}
 
 pub is_named_one : (class : ClassContent) (word : List ℕ) (names : MethodNames) → names.class.now ≡ class.name
     → Names word names.name.now names.desc.now → IsNamed class word names
@@ -26,17 +48,157 @@ pub lists : (files : List (List ℕ)) (classes : List ClassContent) (class : Cla
 lists files classes class lines spelled first are = record
     { classes = classes; spelled = spelled; class = class; first = first; lines_are = are }
 
-pub entry_described : (world : World) (entry : MethodRef) (p : Program) (text : List ℕ) → IsProgramOf world entry p
-    → IsTemplate p text → DescribesEntry world entry text
-entry_described world entry p text program template = record { p = p; program = program; template = template }
+-- ---- files and their classes
 
-pub in_described : (classes : List ClassContent) (word text : List ℕ) (world : World) (names : MethodNames) (entry : MethodRef)
-    → IsWorldOf classes world → IsFirstNamed classes word names
-    → find_method world names.class.now names.name.now names.desc.now ≡ Some entry → DescribesEntry world entry text
-    → DescribesIn classes word text
-in_described classes word text world names entry makes named found described = record
-    { world = world; makes = makes; names = names; named = named; entry = entry; found = found; described = described }
+pub few_classes : (files : List (Vec ℕ)) (classes : List ClassContent) → AllSpell (map (λ (file : Vec ℕ). file.items) files) classes
+    → length files ≤ most_classes → length classes ≤ most_classes
+few_classes files classes spelled few =
+    let read = spell_length (map (λ (file : Vec ℕ). file.items) files) classes spelled in
+    let same = length-map files (λ (file : Vec ℕ). file.items) in
+    omega (arith, read, same, few)
 
-pub files_described : (files : List (List ℕ)) (classes : List ClassContent) (word text : List ℕ) → AllSpell files classes
-    → DescribesIn classes word text → Describes files word text
-files_described files classes word text spelled described = record { classes = classes; spelled = spelled; described = described }
+pub classes_link : (files : List (List ℕ)) (classes : List ClassContent) → AllSpell files classes → AllByRecursion IsLinkable classes
+classes_link files classes spelled = spell_linkable files classes spelled
+
+-- ---- a method's program
+
+pub without_body : (world : World) (class name desc : List ℕ) (entry : MethodRef) → find_method world class name desc ≡ Some entry
+    → has_body world entry ≡ false → HasNone world class name desc
+without_body world class name desc entry found none other f b =
+    let same : Some entry ≡ Some other = sym found ∙ f in
+    let one : entry ≡ other = cc in
+    absurd (false≢true (sym none ∙ (ap (has_body world) one ∙ b)))
+
+pub without_method : (world : World) (class name desc : List ℕ) → find_method world class name desc ≡ None
+    → HasNone world class name desc
+without_method world class name desc none other f b = absurd (let no : None ≡ Some other = sym none ∙ f in cc)
+
+-- classes that files spell make a world as some lines say
+abbrev pub IsMade : List WorldLine → List (List ℕ) → World → Type 0
+IsMade lines files world = (classes : List ClassContent) × (AllSpell files classes × IsWorldOf (set_up lines classes) world)
+
+module _ (lines : List WorldLine) (files : List (List ℕ)) (class name desc : List ℕ) where
+  pub is_method_program : (world : World) (entry : MethodRef) (p : Program) → IsMade lines files world
+      → find_method world class name desc ≡ Some entry → IsProgramOf world entry p → IsMethodProgram lines files class name desc p
+  is_method_program world entry p made found program = record {
+    classes = made.0;
+    spelled = made.1.0;
+    world = world;
+    makes = made.1.1;
+    entry = entry;
+    found = found;
+    program = program;
+  }
+
+  pub has_no_method : (world : World) → IsMade lines files world → HasNone world class name desc → HasNoMethod lines files class name desc
+  has_no_method world made none =
+      record { classes = made.0; spelled = made.1.0; world = world; makes = made.1.1; none = none }
+
+  pub at_files : (refused : Refused) → IsCaused (RefusesClasses files) refused → IsCaused (RefusesMethod lines files class name desc)
+      refused
+  at_files (At place fault) h = inl h
+  at_files Memory h = tt
+
+  pub at_world : (classes : List ClassContent) (refused : Refused) → AllSpell files classes
+      → IsCaused (RefusesWorld (set_up lines classes)) refused → IsCaused (RefusesMethod lines files class name desc) refused
+  at_world classes (At place fault) spelled h = inr (classes, (spelled, inl h))
+  at_world classes Memory spelled h = tt
+
+  pub at_entry : (world : World) (entry : MethodRef) (refused : Refused) → IsMade lines files world
+      → find_method world class name desc ≡ Some entry → IsCaused (RefusesProgram world entry) refused
+      → IsCaused (RefusesMethod lines files class name desc) refused
+  at_entry world entry (At place fault) made found h = inr (
+    made.0,
+    (
+      made.1.0,
+      inr (record {
+        world = world;
+        makes = made.1.1;
+        entry = entry;
+        found = found;
+        refused = h;
+      }),
+    ),
+  )
+  at_entry world entry Memory made found h = tt
+
+-- ---- lines that are added
+
+module _ (leave : Leave) (files : List (List ℕ)) (class name desc : List ℕ) where
+  added_more : (before more : List WorldLine) (line : WorldLine) → AreAdded leave files class name desc before more
+      → IsAdded leave files class name desc (before ++ more) line → AreAdded leave files class name desc before (more ++ line ∷ [])
+  added_more before [] line h one =
+      (subst (λ (ls : List WorldLine). IsAdded leave files class name desc ls line) (append-nil before) one, tt)
+  added_more before (x ∷ more) line h one = (
+    h.0,
+    added_more (before ++ x ∷ []) more line h.1
+        (subst (λ (ls : List WorldLine). IsAdded leave files class name desc ls line) (sym (append_assoc before (x ∷ []) more)) one),
+  )
+
+  one_added : (before more : List WorldLine) (line : WorldLine) (place : Place) (fault : Fault) (first : List WorldLine)
+      → AreNeeded leave files class name desc first before → RefusesMethod before files class name desc place fault
+      → IsTrue (allows leave line) × AsksFor fault line → more ≡ before ++ line ∷ [] → AreNeeded leave files class name desc first more
+  one_added before more line place fault first h refused asked push = record {
+    more = h.more ++ line ∷ [];
+    behind = push ∙ (ap (λ ls. ls ++ line ∷ []) h.behind ∙ append_assoc first h.more (line ∷ []));
+    added = added_more first h.more line h.added
+        (subst (λ (ls : List WorldLine). IsAdded leave files class name desc ls line) h.behind (record {
+          allowed = asked.0;
+          place = place;
+          fault = fault;
+          refused = refused;
+          asks = asked.1;
+        }));
+  }
+
+  pub needed_more : (before more : List WorldLine) (line : WorldLine) (refused : Refused) (place : Place) (fault : Fault)
+      (first : List WorldLine) → refused ≡ At place fault → IsCaused (RefusesMethod before files class name desc) refused
+      → AreNeeded leave files class name desc first before → IsTrue (allows leave line) × AsksFor fault line
+      → more ≡ before ++ line ∷ [] → AreNeeded leave files class name desc first more
+  needed_more before more line refused place fault first is caused h asked push =
+      one_added before more line place fault first h
+      (subst (λ (r : Refused). IsCaused (RefusesMethod before files class name desc) r) is caused) asked push
+
+  pub needed_first : (first lines : List WorldLine) → lines ≡ first → AreNeeded leave files class name desc first lines
+  needed_first first lines e = record { more = []; behind = e ∙ sym (append-nil first); added = tt }
+
+  pub none_under : (first lines : List WorldLine) → AreNeeded leave files class name desc first lines
+      → HasNoMethod lines files class name desc
+      → Under leave files class name desc first (λ (ls : List WorldLine). HasNoMethod ls files class name desc)
+  none_under first lines needed none = (lines, (needed, none))
+
+  pub refused_under : (first lines : List WorldLine) (refused : Refused) → AreNeeded leave files class name desc first lines
+      → IsCaused (RefusesMethod lines files class name desc) refused
+      → IsCaused (λ place fault. Under leave files class name desc first
+      (λ (ls : List WorldLine). RefusesMethod ls files class name desc place fault)) refused
+  refused_under first lines (At place fault) needed h = (lines, (needed, h))
+  refused_under first lines Memory needed h = tt
+
+  -- without leave nothing is added
+  none_added : (before more : List WorldLine) → leave.initialised ≡ false → leave.passed ≡ false
+      → AreAdded leave files class name desc before more → more ≡ []
+  none_added before [] i p h = refl
+  none_added before (Initialised name' ∷ more) i p h = absurd (false≢true (sym i ∙ h.0.allowed))
+  none_added before (Passed name' ∷ more) i p h = absurd (false≢true (sym p ∙ h.0.allowed))
+
+  pub as_given : (first lines : List WorldLine) → leave.initialised ≡ false → leave.passed ≡ false
+      → AreNeeded leave files class name desc first lines → lines ≡ first
+  as_given first lines i p h =
+      h.behind ∙ (ap (λ ls. first ++ ls) (none_added first h.more i p h.added) ∙ append-nil first)
+
+pub files_described : (asked : Asked) (files : List (List ℕ)) (classes : List ClassContent) (word text : List ℕ) (names : MethodNames)
+    (lines : List WorldLine) (p : Program) → AllSpell files classes → IsFirstNamed classes word names
+    → IsMethodProgram lines files names.class.now names.name.now names.desc.now p
+    → AreNeeded asked.leave files names.class.now names.name.now names.desc.now [] lines → IsTemplate asked.narrow lines p text
+    → Describes asked files word text
+files_described asked files classes word text names lines p spelled named program needed template = record {
+  classes = classes;
+  spelled = spelled;
+  names = names;
+  named = named;
+  lines = lines;
+  needed = needed;
+  p = p;
+  program = program;
+  template = template;
+}

@@ -10,6 +10,7 @@ use Rattle.input_desc.specs.Entries.{entry_of}
 use Rattle.input_steps.specs.declared.refused.Refused.{Refused}
 use Rattle.input_steps.specs.Steps.{IsCaused, Then}
 use Rattle.input_steps.specs.Classes.{AllSpell, RefusesClasses, IsWorldOf, RefusesWorld}
+use Rattle.input_steps.specs.SetUp.{set_up}
 use Rattle.input_steps.specs.Programs.{IsProgramOf, RefusesProgram, IsAcyclic, RefusesCalls, HasTypings, RefusesTypes}
 use Rattle.input_steps.proofs.Steps.{then_refused, then_goes}
 use Rattle.class_calls.specs.run_call.Answers.{IsStateText, RefusesState, RefusesEntry, IsInput, RefusesInput, AnswersRun}
@@ -74,20 +75,25 @@ module _ (fuel : ℕ) (text : StateText) where
   abbrev WithEntry : World → Answer → Type 0
   WithEntry world = Then (IsNamed world) (RefusesEntry world text) (AnswersEntry fuel text world)
 
-  pub world_refused : (classes : List ClassContent) (refused : Refused) → IsCaused (RefusesWorld classes) refused
-      → AnswersNamed fuel text classes (Err refused)
-  world_refused classes refused h = then_refused (IsWorldOf classes) (RefusesWorld classes) WithEntry refused h
+  -- the classes as they enter the world
+  abbrev entered : List ClassContent → List ClassContent
+  entered classes = set_up text.world classes
 
-  pub entry_is_refused : (classes : List ClassContent) (world : World) (refused : Refused) → IsWorldOf classes world
+  pub world_refused : (classes : List ClassContent) (refused : Refused) → IsCaused (RefusesWorld (set_up text.world classes)) refused
+      → AnswersNamed fuel text classes (Err refused)
+  world_refused classes refused h = then_refused (IsWorldOf (entered classes)) (RefusesWorld (entered classes)) WithEntry refused h
+
+  pub entry_is_refused : (classes : List ClassContent) (world : World) (refused : Refused) → IsWorldOf (set_up text.world classes) world
       → IsCaused (RefusesEntry world text) refused → AnswersNamed fuel text classes (Err refused)
   entry_is_refused classes world refused w h =
-      then_goes (IsWorldOf classes) (RefusesWorld classes) WithEntry world (Err refused) w
+      then_goes (IsWorldOf (entered classes)) (RefusesWorld (entered classes)) WithEntry world (Err refused) w
       (then_refused (IsNamed world) (RefusesEntry world text) (AnswersEntry fuel text world) refused h)
 
-  pub named_runs : (classes : List ClassContent) (world : World) (entry : MethodRef) (result : Answer) → IsWorldOf classes world
-      → entry_of world text.entry ≡ Ok entry → AnswersEntry fuel text world entry result → AnswersNamed fuel text classes result
+  pub named_runs : (classes : List ClassContent) (world : World) (entry : MethodRef) (result : Answer)
+      → IsWorldOf (set_up text.world classes) world → entry_of world text.entry ≡ Ok entry
+      → AnswersEntry fuel text world entry result → AnswersNamed fuel text classes result
   named_runs classes world entry result w e h =
-      then_goes (IsWorldOf classes) (RefusesWorld classes) WithEntry world result w
+      then_goes (IsWorldOf (entered classes)) (RefusesWorld (entered classes)) WithEntry world result w
       (then_goes (IsNamed world) (RefusesEntry world text) (AnswersEntry fuel text world) entry result e h)
 
 -- ---- files

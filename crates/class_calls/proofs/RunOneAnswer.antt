@@ -17,6 +17,7 @@ use Rattle.input_steps.specs.declared.refused.Place.TheVariants as places
 use Rattle.input_steps.specs.declared.refused.Fault.TheVariants as faults
 use Rattle.input_steps.specs.Programs.{IsProgramOf, RefusesProgram, IsAcyclic, RefusesCalls, HasTypings, RefusesTypes}
 use Rattle.input_steps.specs.Classes.{AllSpell, RefusesClasses, IsWorldOf, RefusesWorld}
+use Rattle.input_steps.specs.SetUp.{set_up}
 use Rattle.input_steps.proofs.OneText.{said_exact, text_exact}
 use Rattle.input_steps.proofs.OneAnswer.{map_some_one, IsExact, IsOne, at_one, then_one, none_some, classes_exact, world_exact}
 use Rattle.input_steps.proofs.OneAnswer.{program_exact, calls_exact, types_exact}
@@ -78,6 +79,7 @@ answers_one fuel state files =
     then_one (AllSpell files) (RefusesClasses files) _ (classes_exact files) (λ classes s.
     then_one (IsStateText state) (RefusesState state) (λ text. AnswersNamed fuel text classes)
     (text_exact state_of state places.State) (λ text t.
-    then_one (IsWorldOf classes) (RefusesWorld classes) _ (world_exact classes) (λ world w.
+    then_one (IsWorldOf (set_up text.world classes)) (RefusesWorld (set_up text.world classes)) _
+    (world_exact (set_up text.world classes)) (λ world w.
     then_one (λ entry. entry_of world text.entry ≡ Ok entry) (RefusesEntry world text) (AnswersEntry fuel text world)
     (said_exact places.State (entry_of world text.entry)) (λ entry e. entry_one fuel text world entry))))

@@ -1,11 +1,12 @@
 -- Descriptions that leave no input out: each state with which the method can begin fits them.
-use Rattle.std.proofs.Common.{◌≡◌, ◌≢◌, ℕ, ◌<◌, ℤ, ◌≤ℤ◌, Bool, true, false, List, [], ◌∷◌, ◌++◌, map, Some, None, Ok, ◌⊎◌, inl, inr}
+use Rattle.std.proofs.Common.{◌≡◌, ◌≢◌, ℕ, ◌<◌, ℤ, ◌≤ℤ◌, Bool, true, false, List, [], ◌∷◌, ◌++◌, length, Some, None, Ok, ◌⊎◌, inl, inr}
 use Rattle.std.proofs.Common.{sym, refl, ap, subst, ◌∙◌, arith}
-use Rattle.std.specs.Prelude.{slice_get, int_le, ◌||◌}
+use Rattle.std.specs.Prelude.{slice_get, ◌||◌}
 use Rattle.std.specs.List.{AllZip, list_all}
 use Rattle.std.specs.Option.{option_map_or}
+use Rattle.std.specs.Ordering.{int_eq}
 use Rattle.std.proofs.lemmas.Bool.{false≢true, and_parts, cases_order}
-use Rattle.std.proofs.lemmas.Int.{ints}
+use Rattle.std.proofs.lemmas.Bool.Decides.{Decides-int_eq}
 use Rattle.std.proofs.lemmas.List.{length-map}
 use Rattle.std.proofs.lemmas.Slice.Zip.{AllZip-long}
 use Rattle.list_views.proofs.Truths.{or_either}
@@ -31,11 +32,13 @@ use Rattle.class_program.specs.Programs.{Program, IsClosed}
 use Rattle.input_text.specs.Answers.{SaysOf}
 use Rattle.input_text.specs.Descriptions.{description_of}
 use Rattle.input_text.specs.declared.texts.DescText.{DescText}
+use Rattle.input_text.specs.declared.texts.WorldLine.{WorldLine}
 use Rattle.input_desc.specs.declared.desc.Input.{Input}
 use Rattle.input_desc.specs.declared.desc.Input.TheVariants.{Int, Ref}
 use Rattle.input_desc.specs.declared.desc.Desc.{Desc}
 use Rattle.input_desc.specs.Entries.{entry_of}
-use Rattle.input_desc.specs.Given.{params_of, statics_of, argument_slot, slots_of}
+use Rattle.input_desc.specs.Given.{params_of, statics_of, argument_slot}
+use Rattle.input_desc.specs.Narrow.{arguments_of, slots_in}
 use Rattle.input_desc.specs.Descs.{has_receiver, desc_fault, IsDescribed}
 use Rattle.input_desc.specs.Fitting.{FitsInput, IsListed, FitsDescription}
 use Rattle.input_desc.proofs.Unfit.{all_fitting}
@@ -44,14 +47,20 @@ use Rattle.input_desc.proofs.Zipped.{zip_before}
 use Rattle.class_calls.specs.declared.describe.inputs.Listed.TheVariants.{Same, Share}
 use Rattle.class_calls.specs.describe.Starts.{HasReceiver, IsStartState}
 use Rattle.class_calls.specs.describe.Whole.{is_any, is_open, is_nullable, behind, are_comparable, ListsAll, IsWhole}
-use Rattle.class_calls.specs.describe.Templates.{IsTemplate}
+use Rattle.class_calls.specs.describe.Templates.{HasNumbers, IsTemplate}
 use Rattle.class_calls.proofs.Pairs.{swapped, listed_behind}
 
 -- ---- one input
 
-within : (least greatest lo hi n : ℤ) → int_le lo least ≡ true → int_le greatest hi ≡ true → least ≤ℤ n → n ≤ℤ greatest
-    → (lo ≤ℤ n) × (n ≤ℤ hi)
-within least greatest lo hi n low high l h = (omega (arith, ints), omega (arith, ints))
+within : (least greatest lo hi n : ℤ) → lo ≡ least → hi ≡ greatest → least ≤ℤ n → n ≤ℤ greatest → (lo ≤ℤ n) × (n ≤ℤ hi)
+within least greatest lo hi n low high l h = (subst (λ (m : ℤ). m ≤ℤ n) (sym low) l, subst (λ (m : ℤ). n ≤ℤ m) (sym high) h)
+
+has_numbers : (world : World) (slot : Slot) (input : Input) → is_open world slot input ≡ true → HasNumbers slot input
+has_numbers world (slots.Num kind) (Int interval) o =
+    let both = and_parts (int_eq interval.lo (least_of kind)) (int_eq interval.hi (greatest_of kind)) o in
+    ((Decides-int_eq interval.lo (least_of kind)).0 both.0, (Decides-int_eq interval.hi (greatest_of kind)).0 both.1)
+has_numbers world (slots.Num kind) (Ref s has shape) o = absurd (false≢true o)
+has_numbers world (slots.Ref t) input o = tt
 
 any_shape : (shape : Shape) (heap : Heap) (value : Value) → is_any shape ≡ true → HasShape shape heap value
 any_shape shapes.Tree heap value e = absurd (false≢true e)
@@ -62,7 +71,7 @@ fits_open : (world : World) (heap : Heap) (slot : Slot) (input : Input) (value :
     → is_open world slot input ≡ true → (value ≡ values.Null → is_nullable input ≡ true) → Holds (types_of world) heap slot value
     → FitsInput (types_of world) heap input value
 fits_open world heap (slots.Num kind) (Int interval) (values.Int n) laws o null h =
-    let both = and_parts (int_le interval.lo (least_of kind)) (int_le (greatest_of kind) interval.hi) o in
+    let both = has_numbers world (slots.Num kind) (Int interval) o in
     (n, (refl, within (least_of kind) (greatest_of kind) interval.lo interval.hi n both.0 both.1 h.0 h.1))
 fits_open world heap (slots.Num kind) (Int interval) values.Null laws o null h = absurd h
 fits_open world heap (slots.Num kind) (Int interval) (values.Ref r) laws o null h = absurd h
@@ -189,18 +198,23 @@ share_listed world heap wanted given pairs i j o q v w held lists apart at_v at_
 
 -- ---- the whole
 
-whole_fits : (p : Program) (desc : Desc) (state : MachineState) → Laws p.world → IsWhole p.world (has_receiver p) (slots_of p) desc
-    → IsStartState p state → FitsDescription p desc state
-whole_fits p desc state laws whole start =
+-- as many arguments as parameters
+as_many : (narrow : Bool) (params : List Slot) → length (arguments_of narrow params) ≡ length params
+as_many true params = refl
+as_many false params = length-map params argument_slot
+
+whole_fits : (narrow : Bool) (p : Program) (desc : Desc) (state : MachineState) → Laws p.world
+    → IsWhole p.world (has_receiver p) (slots_in narrow p) desc → IsStartState narrow p state → FitsDescription p desc state
+whole_fits narrow p desc state laws whole start =
     let types = types_of p.world in
     let heap = state.heap in
     let given = start.args ++ state.statics in
     let params : params_of p ≡ start.method.params = ap (λ o. option_map_or (λ m. m.params) o []) start.entry in
-    let arguments : AllZip (Holds types heap) (map argument_slot (params_of p)) start.args = subst
-    (λ ps. AllZip (Holds types heap) (map argument_slot ps) start.args) (sym params) start.arguments in
-    let held : AllZip (Holds types heap) (slots_of p) given = zip_joined (Holds types heap) (map argument_slot (params_of p))
+    let arguments : AllZip (Holds types heap) (arguments_of narrow (params_of p)) start.args = subst
+    (λ ps. AllZip (Holds types heap) (arguments_of narrow ps) start.args) (sym params) start.arguments in
+    let held : AllZip (Holds types heap) (slots_in narrow p) given = zip_joined (Holds types heap) (arguments_of narrow (params_of p))
     (statics_of p) start.args state.statics arguments start.statics in
-    let opened = all_fitting (is_open p.world) (IsOpenAt p.world) (λ slot input e. e) 0 (slots_of p) desc.inputs whole.count
+    let opened = all_fitting (is_open p.world) (IsOpenAt p.world) (λ slot input e. e) 0 (slots_in narrow p) desc.inputs whole.count
     whole.opened in
     record {
       method = start.method;
@@ -210,28 +224,31 @@ whole_fits p desc state laws whole start =
       one = start.one;
       start = start.start;
       normal = start.normal;
-      count = AllZip-long (Holds types heap) (map argument_slot start.method.params) start.args start.arguments
-          ∙ length-map start.method.params argument_slot;
+      count = AllZip-long (Holds types heap) (arguments_of narrow start.method.params) start.args start.arguments
+          ∙ as_many narrow start.method.params;
       statics = start.statics;
       typed = start.typed;
-      inputs = fit_all p.world heap (has_receiver p) (slots_of p) desc.inputs given laws opened whole.nullable
+      inputs = fit_all p.world heap (has_receiver p) (slots_in narrow p) desc.inputs given laws opened whole.nullable
           (λ e. received_more start.args state.statics (start.receiver e)) held;
-      same = λ i j o v w apart at_v at_w e f. same_listed p.world heap (slots_of p) given desc.same i j o v w laws held whole.same
+      same = λ i j o v w apart at_v at_w e f. same_listed p.world heap (slots_in narrow p) given desc.same i j o v w laws held whole.same
           apart at_v at_w e f;
       share = λ i j o v w apart at_v at_w r s. listed_behind i j desc.same desc.share
-          (share_listed p.world heap (slots_of p) given desc.share i j r.start s.start v w held whole.share apart at_v at_w r.names
+          (share_listed p.world heap (slots_in narrow p) given desc.share i j r.start s.start v w held whole.share apart at_v at_w r.names
           s.names);
     }
 
-pub is_template : (p : Program) (bytes : List ℕ) (said : DescText) (desc : Desc) → IsClosed p
-    → SaysOf description_of bytes (Ok said) → entry_of p.world said.entry ≡ Ok p.entry
-    → (desc_fault p said ≡ None) × IsDescribed p said desc → IsWhole p.world (has_receiver p) (slots_of p) desc → IsTemplate p bytes
-is_template p bytes said desc closed says entry described whole = record {
+pub is_template : (narrow : Bool) (lines : List WorldLine) (p : Program) (bytes : List ℕ) (said : DescText) (desc : Desc) → IsClosed p
+    → SaysOf description_of bytes (Ok said) → said.world ≡ lines → entry_of p.world said.entry ≡ Ok p.entry
+    → (desc_fault p said ≡ None) × IsDescribed p said desc → IsWhole p.world (has_receiver p) (slots_in narrow p) desc
+    → IsTemplate narrow lines p bytes
+is_template narrow lines p bytes said desc closed says lines_are entry described whole = record {
   text = said;
   says = says;
+  lines_are = lines_are;
   entry = entry;
   fits = described.0;
   desc = desc;
   described = described.1;
-  whole = λ state start. whole_fits p desc state (world_laws p.world closed.known.linked) whole start;
+  numbers = all_fitting (is_open p.world) HasNumbers (has_numbers p.world) 0 (slots_in narrow p) desc.inputs whole.count whole.opened;
+  whole = λ state start. whole_fits narrow p desc state (world_laws p.world closed.known.linked) whole start;
 }

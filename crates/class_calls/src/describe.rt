@@ -5,10 +5,13 @@ mod checked;
 mod fault;
 mod inputs;
 mod json;
+mod lines;
 mod methods;
 mod whole;
 mod written;
 
-pub use calls::{methods_of, template_of};
+pub use calls::{Asked, UnderLines, methods_of, program_under, template_of};
 pub use checked::template;
 pub use fault::DescribeFault;
+pub use lines::{Leave, line_again};
+pub use methods::MethodNames;

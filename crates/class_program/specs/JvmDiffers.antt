@@ -2,7 +2,8 @@
 --
 -- Classes of `java.lang` are built in here with their constructors alone, selection asks for no packages, no object is
 -- finalized, and exceptions have no traces. Each definition below says where that could be seen; that of fields is
--- `is_hidden` of `class_world`.
+-- `is_hidden` of `class_world`. They speak of the classes that are there: what could be seen of an interface that a description
+-- passes over is a premise (docs/MACHINE.md).
 use Rattle.std.specs.Prelude.{ℕ, ◌==◌, ◌&&◌, ◌||◌, not, Bool, false, if◌then◌else◌, List, [], ◌∷◌, slice_get, is_none, codes}
 use Rattle.std.specs.List.{list_any}
 use Rattle.std.specs.Option.{option_map_or}

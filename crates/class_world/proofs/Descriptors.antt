@@ -1,4 +1,4 @@
--- Methods of classes that are read have the descriptors of methods.
+-- Methods of classes that are read, and of those that can be linked, have the descriptors of methods.
 use Rattle.std.proofs.Common.{◌≡◌, ℕ, ◌+◌, ◌≤◌, Bool, true, List, [], ◌∷◌, Option, Some, None, sym, refl, ap, ◌∙◌, subst}
 use Rattle.std.specs.Prelude.{slice_get, map, option_and_then}
 use Rattle.std.specs.List.{list_all, AllByRecursion}
@@ -15,7 +15,7 @@ use Rattle.class_read.specs.Rules.{IsMethod, text_of, method_of}
 use Rattle.class_read.specs.declared.text.MemberText.{MemberText}
 use Rattle.class_world.specs.declared.world.MethodRef.{MethodRef}
 use Rattle.class_world.specs.World.{World, built_ins, built_in_names, world_of}
-use Rattle.class_world.specs.Linking.{CanBeRead, has_descriptor, have_descriptors}
+use Rattle.class_world.specs.Linking.{CanBeRead, IsLinkable, has_descriptor, have_descriptors}
 use Rattle.class_world.specs.Resolve.{method_at}
 use Rattle.class_world.proofs.Few.{all_append}
 
@@ -25,20 +25,20 @@ methods_have pool [] h = refl
 methods_have pool (m ∷ ms) h = and_from (has_descriptor (method_of pool m)) (list_all has_descriptor (map (method_of pool) ms))
     (descriptor_again Method m.flags (text_of pool m.desc) h.0.member.descriptor) (methods_have pool ms h.1)
 
-read_have : (c : ClassContent) → CanBeRead c → have_descriptors c ≡ true
+pub read_have : (c : ClassContent) → CanBeRead c → have_descriptors c ≡ true
 read_have c r =
     let s = r.1 in
     ap (λ x. list_all has_descriptor x.methods) (sym s.content) ∙ methods_have s.text.pool s.text.methods s.rules.methods
 
-all_have : (cs : List ClassContent) → AllByRecursion CanBeRead cs → list_all have_descriptors cs ≡ true
+all_have : (cs : List ClassContent) → AllByRecursion IsLinkable cs → list_all have_descriptors cs ≡ true
 all_have [] h = refl
-all_have (c ∷ cs) h = and_from (have_descriptors c) (list_all have_descriptors cs) (read_have c h.0) (all_have cs h.1)
+all_have (c ∷ cs) h = and_from (have_descriptors c) (list_all have_descriptors cs) h.0.descriptors (all_have cs h.1)
 
 built_ins_have : list_all have_descriptors built_ins ≡ true
 unfolding built_in_names is_descriptor method_type types_at returned_at
 built_ins_have = refl
 
-pub world_has : (given : List ClassContent) (world : World) → world ≡ world_of given → AllByRecursion CanBeRead given
+pub world_has : (given : List ClassContent) (world : World) → world ≡ world_of given → AllByRecursion IsLinkable given
     → list_all have_descriptors world ≡ true
 world_has given world e h = subst (λ (w : World). list_all have_descriptors w ≡ true) (sym e)
     (all_append have_descriptors built_ins given built_ins_have (all_have given h))

@@ -1,4 +1,4 @@
--- Classes that are read have few members.
+-- Classes that are read, and those that can be linked, have few members.
 use Rattle.std.proofs.Common.{◌≡◌, ◌++◌, ℕ, zero, suc, ◌<◌, Bool, true, List, [], ◌∷◌, length, Option, Some, None, sym, refl, ap}
 use Rattle.std.proofs.Common.{◌∙◌, subst, arith}
 use Rattle.std.specs.Prelude.{slice_get, position, option_and_then, IfSome}
@@ -7,12 +7,12 @@ use Rattle.std.proofs.lemmas.Bool.{and_from, and_parts, lt-ltb, ltb-true}
 use Rattle.class_read.specs.Content.{ClassContent}
 use Rattle.class_read.specs.Rules.{field_of, method_of}
 use Rattle.class_world.specs.World.{World, built_ins, built_in_names, world_of}
-use Rattle.class_world.specs.Linking.{CanBeRead, has_few_members}
+use Rattle.class_world.specs.Linking.{CanBeRead, IsLinkable, has_few_members}
 use Rattle.std.proofs.lemmas.List.Quantifiers.{position-Some}
 use Rattle.code_forms.proofs.list_views.Items.{length_mapped}
 use Rattle.class_world.specs.Members.{is_method_named, declared_method}
 
-few_read : (c : ClassContent) → CanBeRead c → has_few_members c ≡ true
+pub few_read : (c : ClassContent) → CanBeRead c → has_few_members c ≡ true
 few_read c r =
     let s = r.1 in
     let fields : length c.fields ≡ length s.text.fields = ap (λ x. length x.fields) (sym s.content)
@@ -22,20 +22,20 @@ few_read c r =
     and_from _ _ (lt-ltb (length c.fields) 65536 (omega (arith, fields, s.rules.fields_fit)))
     (lt-ltb (length c.methods) 65536 (omega (arith, methods, s.rules.methods_fit)))
 
-all_read : (cs : List ClassContent) → AllByRecursion CanBeRead cs → list_all has_few_members cs ≡ true
-all_read [] h = refl
-all_read (c ∷ cs) h = and_from (has_few_members c) (list_all has_few_members cs) (few_read c h.0) (all_read cs h.1)
+all_few : (cs : List ClassContent) → AllByRecursion IsLinkable cs → list_all has_few_members cs ≡ true
+all_few [] h = refl
+all_few (c ∷ cs) h = and_from (has_few_members c) (list_all has_few_members cs) h.0.few (all_few cs h.1)
 
 pub all_append : (p : ClassContent → Bool) (xs ys : List ClassContent) → list_all p xs ≡ true → list_all p ys ≡ true
     → list_all p (xs ++ ys) ≡ true
 all_append p [] ys e f = f
 all_append p (x ∷ xs) ys e f = let r = and_parts (p x) (list_all p xs) e in and_from (p x) _ r.0 (all_append p xs ys r.1 f)
 
-pub few_world : (given : List ClassContent) (world : World) → world ≡ world_of given → AllByRecursion CanBeRead given
+pub few_world : (given : List ClassContent) (world : World) → world ≡ world_of given → AllByRecursion IsLinkable given
     → list_all has_few_members world ≡ true
 unfolding built_in_names
 few_world given world e h = subst (λ (w : World). list_all has_few_members w ≡ true) (sym e)
-    (all_append has_few_members built_ins given refl (all_read given h))
+    (all_append has_few_members built_ins given refl (all_few given h))
 
 pub few_methods : (world : World) (n : ℕ) (c : ClassContent) → list_all has_few_members world ≡ true → slice_get world n ≡ Some c
     → length c.methods < 65536

@@ -17,7 +17,7 @@ use Rattle.class_read.specs.declared.view.FieldView.{FieldView}
 use Rattle.class_read.specs.declared.view.MethodView.{MethodView}
 use Rattle.class_world.specs.World.{World, built_in, built_ins, built_in_names, world_of, class_of, super_of}
 use Rattle.class_world.specs.inner.Once.{once, interfaces_once}
-use Rattle.class_world.specs.Linking.{CanBeRead, has_few_members}
+use Rattle.class_world.specs.Linking.{CanBeRead, IsLinkable, has_few_members}
 use Rattle.class_world.specs.Members.{is_method_named, declared_method}
 use Rattle.class_world.specs.Fields.{field_slot}
 use Rattle.class_world.specs.Resolve.{is_field_named, declared_field, is_initialiser, is_initialised}
@@ -149,7 +149,7 @@ counts_more g i x counts more e m h = m ∙ ap₂ (λ xs y. xs ++ y ∷ []) e h 
 
 -- ---- classes that are read have members that differ
 
-distinct_read : (c : ClassContent) → CanBeRead c → HasDistinctMembers c
+pub distinct_read : (c : ClassContent) → CanBeRead c → HasDistinctMembers c
 distinct_read c r =
     let s = r.1 in
     let methods : map method_content_key c.methods ≡ map (key_of s.text.pool) s.text.methods = ap
@@ -161,9 +161,9 @@ distinct_read c r =
       fields = subst (IsDistinct same_key) (sym fields) s.rules.fields_differ;
     }
 
-all_distinct_read : (cs : List ClassContent) → AllByRecursion CanBeRead cs → AllByRecursion HasDistinctMembers cs
-all_distinct_read [] h = tt
-all_distinct_read (c ∷ cs) h = (distinct_read c h.0, all_distinct_read cs h.1)
+all_distinct : (cs : List ClassContent) → AllByRecursion IsLinkable cs → AllByRecursion HasDistinctMembers cs
+all_distinct [] h = tt
+all_distinct (c ∷ cs) h = (h.0.distinct, all_distinct cs h.1)
 
 distinct_built : (names : List (List ℕ × List ℕ)) → AllByRecursion HasDistinctMembers (map (λ n. built_in n.0 n.1) names)
 unfolding IsDistinct
@@ -175,10 +175,10 @@ all_both : (P : ClassContent → Type 0) (xs ys : List ClassContent) → AllByRe
 all_both P [] ys e f = f
 all_both P (x ∷ xs) ys e f = (e.0, all_both P xs ys e.1 f)
 
-pub distinct_world : (given : List ClassContent) (world : World) → world ≡ world_of given → AllByRecursion CanBeRead given
+pub distinct_world : (given : List ClassContent) (world : World) → world ≡ world_of given → AllByRecursion IsLinkable given
     → AllByRecursion HasDistinctMembers world
 distinct_world given world e h = subst (λ (w : World). AllByRecursion HasDistinctMembers w) (sym e)
-    (all_both HasDistinctMembers built_ins given (distinct_built built_in_names) (all_distinct_read given h))
+    (all_both HasDistinctMembers built_ins given (distinct_built built_in_names) (all_distinct given h))
 
 -- ---- looking members up
 

@@ -1,4 +1,4 @@
--- Codes of classes that are read are short.
+-- Codes of classes that are read, and of those that can be linked, are short.
 use Rattle.std.proofs.Common.{◌≡◌, ℕ, zero, suc, ◌<◌, Bool, true, List, [], ◌∷◌, length, Option, Some, None, sym, refl, ap, ◌∙◌, subst}
 use Rattle.std.specs.Prelude.{slice_get, map, option_and_then, nat_lt}
 use Rattle.std.specs.List.{list_all, AllByRecursion}
@@ -13,7 +13,7 @@ use Rattle.class_read.specs.declared.text.AttrText.TheVariants.{Skipped, Code}
 use Rattle.class_read.specs.declared.text.MemberText.{MemberText}
 use Rattle.class_world.specs.declared.world.MethodRef.{MethodRef}
 use Rattle.class_world.specs.World.{World, built_ins, built_in_names, world_of}
-use Rattle.class_world.specs.Linking.{CanBeRead, has_short_code, has_short_codes}
+use Rattle.class_world.specs.Linking.{CanBeRead, IsLinkable, has_short_code, has_short_codes}
 use Rattle.class_world.specs.Resolve.{method_at}
 use Rattle.class_world.proofs.Few.{all_append}
 
@@ -32,20 +32,20 @@ short_methods pool [] h = refl
 short_methods pool (m ∷ ms) h = and_from (has_short_code (method_of pool m)) (list_all has_short_code (map (method_of pool) ms))
     (short_attributes pool m.attributes h.0.attributes) (short_methods pool ms h.1)
 
-short_read : (c : ClassContent) → CanBeRead c → has_short_codes c ≡ true
+pub short_read : (c : ClassContent) → CanBeRead c → has_short_codes c ≡ true
 short_read c r =
     let s = r.1 in
     ap (λ x. list_all has_short_code x.methods) (sym s.content) ∙ short_methods s.text.pool s.text.methods s.rules.methods
 
-all_short_read : (cs : List ClassContent) → AllByRecursion CanBeRead cs → list_all has_short_codes cs ≡ true
-all_short_read [] h = refl
-all_short_read (c ∷ cs) h = and_from (has_short_codes c) (list_all has_short_codes cs) (short_read c h.0) (all_short_read cs h.1)
+all_short : (cs : List ClassContent) → AllByRecursion IsLinkable cs → list_all has_short_codes cs ≡ true
+all_short [] h = refl
+all_short (c ∷ cs) h = and_from (has_short_codes c) (list_all has_short_codes cs) h.0.short (all_short cs h.1)
 
-pub short_world : (given : List ClassContent) (world : World) → world ≡ world_of given → AllByRecursion CanBeRead given
+pub short_world : (given : List ClassContent) (world : World) → world ≡ world_of given → AllByRecursion IsLinkable given
     → list_all has_short_codes world ≡ true
 unfolding built_in_names
 short_world given world e h = subst (λ (w : World). list_all has_short_codes w ≡ true) (sym e)
-    (all_append has_short_codes built_ins given refl (all_short_read given h))
+    (all_append has_short_codes built_ins given refl (all_short given h))
 
 pub short_at : (world : World) (ref : MethodRef) (m : MethodContent) → list_all has_short_codes world ≡ true
     → method_at world ref ≡ Some m → has_short_code m ≡ true

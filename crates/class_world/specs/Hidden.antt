@@ -2,7 +2,8 @@
 --
 -- The standard asks a class first, then its superinterfaces, and then its superclass in the same way. Field look-up here
 -- goes along the superclass chain alone (`resolve_field`). The two find different fields exactly where a superinterface of
--- a class on the way to the field that is found declares a field of the same name and descriptor.
+-- a class on the way to the field that is found declares a field of the same name and descriptor. It is asked of the interfaces that
+-- are there; of one that a description passes over it is a premise (docs/MACHINE.md).
 use Rattle.std.specs.Prelude.{ℕ, ◌==◌, ◌&&◌, Bool, if◌then◌else◌, List, [], ◌∷◌, length}
 use Rattle.std.specs.List.{list_any, range_with_len}
 use Rattle.std.specs.Option.{is_some}

@@ -1,8 +1,8 @@
 -- When classes make a world, and else the first rule that they break: rule by rule, and of a rule the first class by
 -- its number (JVM specification, sections 5.3 and 5.3.5).
 use Rattle.std.specs.Prelude.{◌≡◌, ℕ, suc, ◌==◌, ◌||◌, ◌&&◌, not, Bool, true, false, if◌then◌else◌, List, [], ◌∷◌, length}
-use Rattle.std.specs.Prelude.{slice_get, Option, Some, None, is_none, nat_lt, Result, option_and_then, codes}
-use Rattle.std.specs.List.{list_any, list_all}
+use Rattle.std.specs.Prelude.{slice_get, Option, Some, None, is_none, nat_lt, Result, option_and_then, codes, map, IsTrue}
+use Rattle.std.specs.List.{list_any, list_all, IsDistinct}
 use Rattle.std.specs.Option.{option_map_or, option_or}
 use Rattle.std.specs.Str.{bytes_eq}
 use Rattle.code_forms.specs.list_views.Results as results
@@ -14,7 +14,8 @@ use Rattle.class_world.specs.declared.linking.LinkRule.TheVariants as rules
 use Rattle.code_forms.specs.class_base.declared.member_kind.MemberKind.TheVariants as kinds
 use Rattle.code_forms.specs.class_base.MemberKinds.{is_descriptor}
 use Rattle.class_read.specs.Rules.{Spells}
-use Rattle.class_read.specs.Content.{ClassContent, MethodContent}
+use Rattle.class_read.specs.Content.{ClassContent, FieldContent, MethodContent}
+pub use Rattle.code_forms.specs.class_base.Members.{Key, same_key}
 use Rattle.class_world.specs.World.{World, class_of, super_of, interfaces_of, is_interface_class, is_above, is_interface}
 use Rattle.class_world.specs.World.{is_abstract, is_static}
 
@@ -104,11 +105,20 @@ is_rooted world = option_map_or (λ c. not (is_interface c.flags) && (length c.i
 unfoldable pub is_linked : World → Bool
 is_linked world = is_none (link_fault world) && is_rooted world
 
--- ---- classes that are read
+-- ---- classes that can be linked
 
--- a class can be read: some class file spells it
-abbrev pub CanBeRead : ClassContent → Type 0
-CanBeRead class = (bytes : List ℕ) × Spells bytes class
+-- the name and descriptor of a field of a class file's content
+abbrev pub field_content_key : FieldContent → Key
+field_content_key f = (f.name, f.desc)
+
+-- the name and descriptor of a method of a class file's content
+abbrev pub method_content_key : MethodContent → Key
+method_content_key m = (m.name, m.desc)
+
+-- no two methods of a class, and no two of its fields, have the same name and descriptor (JVM specification, sections 4.5 and 4.6)
+pub record HasDistinctMembers (class : ClassContent) : Type 0 where
+  pub methods : IsDistinct same_key (map method_content_key class.methods)
+  pub fields : IsDistinct same_key (map field_content_key class.fields)
 
 -- A class has fewer than 65,536 fields and as many methods, as a class file counts them in 16 bits (JVM specification, section 4.11).
 abbrev pub has_few_members : ClassContent → Bool
@@ -129,6 +139,22 @@ has_descriptor m = is_descriptor kinds.Method m.flags m.desc
 -- every method of a class has such a descriptor
 abbrev pub have_descriptors : ClassContent → Bool
 have_descriptors class = list_all has_descriptor class.methods
+
+-- What linking asks of each class by itself: its members differ, it has few of them, their codes are short, and the descriptors of its
+-- methods are some. It is so of each class that is read (`ReadIsLinkable`).
+pub record IsLinkable (class : ClassContent) : Type 0 where
+  pub distinct : HasDistinctMembers class
+  pub few : IsTrue (has_few_members class)
+  pub short : IsTrue (has_short_codes class)
+  pub descriptors : IsTrue (have_descriptors class)
+
+-- a class can be read: some class file spells it
+abbrev pub CanBeRead : ClassContent → Type 0
+CanBeRead class = (bytes : List ℕ) × Spells bytes class
+
+-- each class that can be read can be linked
+abbrev pub ReadIsLinkable : Type 0
+ReadIsLinkable = (class : ClassContent) → CanBeRead class → IsLinkable class
 
 -- ---- answers
 

@@ -1,7 +1,9 @@
 //! The built-in classes: those of `java.lang` that instructions throw, with those above them (Java SE 8).
 ghost use Rattle.std.specs.Prelude.{◌≡◌, [], ◌∷◌, map, IfOk, OnOk};
+ghost use Rattle.std.specs.List.{list_any};
+ghost use Rattle.std.specs.Str.{bytes_eq};
 ghost use Rattle.class_read.specs.View.{method_content};
-ghost use Rattle.class_world.specs.World.{built_in, built_in_init, built_ins, world_of};
+ghost use Rattle.class_world.specs.World.{built_in, built_in_init, built_in_names, built_ins, world_of};
 
 use class_read::class_pool::Pool;
 use class_read::{ClassView, CodeView, MethodView};
@@ -53,6 +55,26 @@ static NAMES: [(&[u8], &[u8]); 15] = [
         b"java/lang/IncompatibleClassChangeError",
     ),
 ];
+
+/// Whether a name is that of one of these classes.
+fn is_named(name: &[u8], names: &[(&'static [u8], &'static [u8])]) -> bool
+    ensures { result ≡ list_any (bytes_eq name.now) (map (λ n. n.0.now) names.now) }
+{
+    for (known, _) in names {
+        if name == *known {
+            return true;
+        }
+    }
+    false
+}
+
+/// Whether a built-in class has this name.
+#[tactic(auto, unfolding(crate::specs::World::built_in_names))]
+pub fn is_built_in(name: &[u8]) -> bool
+    ensures { result ≡ list_any (bytes_eq name.now) (map (λ n. n.0) built_in_names) }
+{
+    is_named(name, &NAMES)
+}
 
 /// The pool without entries.
 fn empty_pool(alloc: Global) -> Result<Pool<'static>, AllocError>

@@ -3,7 +3,7 @@ ghost use Rattle.std.specs.Prelude.{◌≡◌, ℕ, List, None, IsTrue};
 ghost use Rattle.class_read.specs.Content.{ClassContent};
 ghost use Rattle.jvm_values.specs.declared.types.Ty.{Ty};
 ghost use Rattle.class_world.specs.World.{class_of};
-ghost use Rattle.class_world.specs.Linking.{is_array_interface, is_linked};
+ghost use Rattle.class_world.specs.Linking.{ReadIsLinkable, is_array_interface, is_linked};
 ghost use Rattle.class_world.specs.Types.{Sub, is_sub};
 ghost use Rattle.class_world.specs.BuiltIns.{IsWorld, HasBuiltIns, HasNoInterfacesBelow, HasFieldsInOrder};
 
@@ -12,6 +12,13 @@ ghost use Rattle.class_world.specs.BuiltIns.{IsWorld, HasBuiltIns, HasNoInterfac
 pub fn sub_is_least()
     ensures { (world : List ClassContent) → IsTrue (is_linked world) → (a b : Ty)
         → (IsTrue (is_sub world a b) → Sub world a b) × (Sub world a b → IsTrue (is_sub world a b)) }
+{}
+
+/// Each class that some class file spells can be linked: no two of its members have the same name and descriptor, it has fewer
+/// than 65,536 fields and as many methods, its codes are of fewer than 65,536 bytes, and the descriptors of its methods have at
+/// most 255 words of parameters.
+pub fn read_can_be_linked()
+    ensures { ReadIsLinkable }
 {}
 
 /// What every world has at the numbers below 15: classes that can be made, without fields, and all but the first below

@@ -24,6 +24,7 @@ mod select;
 mod types;
 mod world;
 
+pub use built_in::is_built_in;
 pub use class_read;
 pub use class_read::class_pool;
 pub use code_forms;
@@ -31,7 +32,7 @@ pub use code_forms::class_base;
 pub use fault::{LinkFault, MethodName};
 pub use laws::{
     built_ins_are_known, fields_keep_their_places, no_class_is_of_arrays,
-    no_interface_is_below_a_class, sub_is_least,
+    no_interface_is_below_a_class, read_can_be_linked, sub_is_least,
 };
 pub use meaning::Meaning;
 pub use world::{MethodRef, World};

@@ -1,7 +1,7 @@
 //! Worlds: linked classes.
 ghost use Rattle.std.specs.Prelude.{◌≡◌, ◌+◌, ◌<◌, ◌≤◌, length, slice_get, IfOk, IfSome, IsTrue};
 ghost use Rattle.class_world.specs.World.{world_of, class_of, is_above};
-ghost use Rattle.class_world.specs.Linking.{Refuses, CanBeRead, has_few_members, has_short_codes, have_descriptors, is_linked, link_fault, later_fault};
+ghost use Rattle.class_world.specs.Linking.{Refuses, IsLinkable, has_few_members, has_short_codes, have_descriptors, is_linked, link_fault, later_fault};
 ghost use Rattle.std.specs.List.{list_all, AllByRecursion};
 ghost use Rattle.class_world.specs.Fields.{fields_of};
 ghost use Rattle.class_world.specs.Members.{declared_method, find_method};
@@ -107,7 +107,8 @@ fn members_of<'a>(alloc: Global, roster: &Roster<'a>) -> Result<Members<'a>, All
 }
 
 impl<'a> World<'a> {
-    /// Links the classes, which are numbered from 15 in their order.
+    /// Links the classes, which are numbered from 15 in their order. What is asked of each of them holds of each class that is read
+    /// (`read_can_be_linked`).
     ///
     /// # Errors
     ///
@@ -115,7 +116,7 @@ impl<'a> World<'a> {
     /// by its number; or want of memory.
     pub fn link(alloc: Global, classes: Vec<ClassView<'a>>) -> Result<World<'a>, LinkFault>
         requires count { length classes.items + 15 ≤ 65535 }
-        requires read { AllByRecursion CanBeRead classes.items }
+        requires fit { AllByRecursion IsLinkable classes.items }
         ensures fault { Refuses result (link_fault (world_of classes.entry.items)) }
         ensures world { IfOk result (λ world. world.roster.classes ≡ world_of classes.entry.items) }
     {

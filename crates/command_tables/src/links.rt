@@ -24,14 +24,15 @@ fn closed_line(alloc: Global, case: &Case<'_>) -> Result<String> {
 }
 
 /// The tables leave out the program's name.
-fn without_program(alloc: Global, line: &str) -> Result<String, AllocError> {
+pub fn without_program(alloc: Global, line: &str) -> Result<String, AllocError> {
     match line.strip_prefix("jterm: ") {
         Some(rest) => String::from_str(alloc, rest),
         None => String::from_str(alloc, line),
     }
 }
 
-fn program_line(alloc: Global, program: &Program<'_>) -> Result<String> {
+/// The methods that the entry of a program reaches, or why it isn't taken.
+pub fn program_line(alloc: Global, program: &Program<'_>) -> Result<String> {
     match test_calls(alloc, program) {
         Ok(()) => typed_line(alloc, program),
         Err(refused) => refused_line(alloc, &refused),

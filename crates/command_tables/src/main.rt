@@ -1,10 +1,12 @@
 //! Answers the cases of the tables of commands: `link-52`, `jvm-52` and five more of linking, `run`, `run-52`, `check`, `check-2`, and four
-//! more of checks, `prove` and `prove-int`, `throws`, `migrate`, `bound`: each line of the input is the name of a table, a tab and the input fields of a
+//! more of checks, `prove` and `prove-int`, `throws`, `migrate`, `bound`, and `init-52` of texts of form 3: each line of the input is
+//! the name of a table, a tab and the input fields of a
 //! case, divided by tabs. The answer to each comes on a line of its own.
 #![tactic(auto)]
 
 mod bounds;
 mod checks;
+mod inits;
 mod links;
 mod migrates;
 mod proves;
@@ -32,6 +34,7 @@ impl Answers for Cases {
             "throws" => throws::answer(alloc, case),
             "migrate" => migrates::answer(alloc, case),
             "bound" => bounds::answer(alloc, case),
+            "init-52" => inits::answer(alloc, case),
             _ => bail!("the table is not known"),
         }
     }

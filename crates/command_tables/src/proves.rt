@@ -1,4 +1,5 @@
-//! `prove`, `prove-int`: a limit of nodes, or nothing, the bytes of a description and of class files; the first line that is said of the method,
+//! `prove`, `prove-int`: a limit of nodes, or nothing, the bytes of a description and of class files; the first line that is said of
+//! the method,
 //! or why there is none.
 ghost use Rattle.std.specs.Prelude.{◌≤◌, IfOk};
 ghost use Rattle.term_graph.specs.Limits.{most_nodes};
@@ -15,9 +16,16 @@ use term_graph::MOST_NODES;
 const GREATEST_NODES: u32 = MOST_NODES as u32;
 
 pub fn answer(alloc: Global, case: &Case<'_>) -> Result<String> {
-    let nodes = limit(case.text(0)?)?;
-    let desc = case.bytes(alloc, 1)?;
-    let files = files_from(alloc, case, 2)?;
+    answer_from(alloc, case, 0)
+}
+
+/// The same of a case whose fields begin at `first`.
+pub fn answer_from(alloc: Global, case: &Case<'_>, first: usize) -> Result<String>
+    requires { first ≤ 1 }
+{
+    let nodes = limit(case.text(first)?)?;
+    let desc = case.bytes(alloc, first + 1)?;
+    let files = files_from(alloc, case, first + 2)?;
     match prove_line(alloc, desc.as_slice(), files.as_slice(), nodes) {
         Ok(answer) => first_line(alloc, answer.out.as_slice()),
         Err(refused) => refused_line(alloc, &refused),

@@ -20,6 +20,7 @@ use Rattle.input_steps.specs.declared.refused.Place.{Place}
 use Rattle.input_steps.specs.declared.refused.Fault.{Fault}
 use Rattle.input_steps.specs.Steps.{IsCaused, Then}
 use Rattle.input_steps.specs.Classes.{AllSpell, RefusesClasses, IsWorldOf, RefusesWorld}
+use Rattle.input_steps.specs.SetUp.{set_up}
 use Rattle.input_steps.specs.Programs.{IsProgramOf, RefusesProgram, IsAcyclic, RefusesCalls, RefusesTypes}
 use Rattle.input_steps.proofs.Steps.{then_refused, then_goes}
 use Rattle.desc_steps.specs.declared.given.DescribedProgram.{DescribedProgram}
@@ -94,9 +95,10 @@ module _ (text : DescText) where
   abbrev IsNamed : World → MethodRef → Type 0
   IsNamed world entry = entry_of world text.entry ≡ Ok entry
 
-  pub world_refused : (classes : List ClassContent) (refused : Refused) → IsCaused (RefusesWorld classes) refused
+  pub world_refused : (classes : List ClassContent) (refused : Refused) → IsCaused (RefusesWorld (set_up text.world classes)) refused
       → OfClasses IsGiven text classes (Err refused)
-  world_refused classes refused h = then_refused (IsWorldOf classes) (RefusesWorld classes) (OfWorld text) refused h
+  world_refused classes refused h = then_refused (IsWorldOf (set_up text.world classes)) (RefusesWorld (set_up text.world classes))
+      (OfWorld text) refused h
 
   pub entry_is_refused : (world : World) (refused : Refused) → IsCaused (RefusesEntry world text) refused
       → OfWorld text world (Err refused)
@@ -106,9 +108,10 @@ module _ (text : DescText) where
       → OfEntry IsGiven text world entry result → OfWorld text world result
   named_goes world entry result e h = then_goes (IsNamed world) (RefusesEntry world text) (OfEntry IsGiven text world) entry result e h
 
-  pub world_goes : (classes : List ClassContent) (world : World) (result : Given) → IsWorldOf classes world
+  pub world_goes : (classes : List ClassContent) (world : World) (result : Given) → IsWorldOf (set_up text.world classes) world
       → OfWorld text world result → OfClasses IsGiven text classes result
-  world_goes classes world result w h = then_goes (IsWorldOf classes) (RefusesWorld classes) (OfWorld text) world result w h
+  world_goes classes world result w h = then_goes (IsWorldOf (set_up text.world classes)) (RefusesWorld (set_up text.world classes))
+      (OfWorld text) world result w h
 
 -- ---- files
 
@@ -174,7 +177,7 @@ module _ {X Y : Type 0} (from : Result X Refused) (to : Result Y Refused) (turns
 
     classes_turned : (text : DescText) (classes : List ClassContent) → OfClasses Says text classes from → OfClasses Tells text classes to
     classes_turned text classes =
-        then_turned {A = World} (IsWorldOf classes) (RefusesWorld classes)
+        then_turned {A = World} (IsWorldOf (set_up text.world classes)) (RefusesWorld (set_up text.world classes))
         (λ world. Then {A = MethodRef} (λ entry. entry_of world text.entry ≡ Ok entry) (RefusesEntry world text) (OfEntry Says text world))
         (λ world. Then {A = MethodRef} (λ entry. entry_of world text.entry ≡ Ok entry) (RefusesEntry world text)
         (OfEntry Tells text world))
@@ -236,9 +239,9 @@ names_it desc files given a =
     let named : NameProgram files desc program.0 described.0 = record {
       classes = a.0;
       spelled = a.1.0;
-      linked = subst (IsWorldOf a.0) (sym made.world_is) world.1.0;
       text = text.0;
       said = text.1.0;
+      linked = subst (IsWorldOf (set_up text.0.world a.0)) (sym made.world_is) world.1.0;
       entry = subst (λ (e : MethodRef). entry_of program.0.world text.0.entry ≡ Ok e) (sym made.entry_is) here;
       closed = made.closed;
       faultless = described.1.0.0;

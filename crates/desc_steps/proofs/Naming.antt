@@ -17,6 +17,8 @@ use Rattle.class_world.specs.World.{World, built_ins, built_in_names}
 use Rattle.class_program.specs.Programs.{Program}
 use Rattle.input_desc.specs.declared.desc.Desc.{Desc}
 use Rattle.input_steps.specs.Classes.{AllSpell}
+use Rattle.input_steps.specs.SetUp.{set_up}
+use Rattle.input_steps.proofs.SetUp.{set_up_names}
 use Rattle.desc_steps.specs.Headline.{NameProgram}
 use Rattle.desc_steps.specs.Names.{names_of}
 
@@ -89,4 +91,6 @@ pub names_are : (files : List (List ℕ)) (desc : List ℕ) (p : Program) (descr
     → list_all is_class_name (names_of p.world) ≡ true
 names_are files desc p described named =
     ap (λ (world : World). list_all is_class_name (names_of world)) named.linked.world_is
-    ∙ joined_names built_ins named.classes built_in_names_are (spelled_names files named.classes named.spelled)
+    ∙ joined_names built_ins (set_up named.text.world named.classes) built_in_names_are
+    (ap (λ (names : List (List ℕ)). list_all is_class_name names) (set_up_names named.text.world named.classes)
+    ∙ spelled_names files named.classes named.spelled)

@@ -23,6 +23,7 @@ use Rattle.input_steps.specs.declared.refused.Refused.{Refused}
 use Rattle.input_steps.specs.declared.refused.Place.TheVariants as places
 use Rattle.input_steps.specs.declared.refused.Fault.TheVariants as faults
 use Rattle.input_steps.specs.Classes.{AllSpell, RefusesClasses, IsWorldOf, RefusesWorld}
+use Rattle.input_steps.specs.SetUp.{set_up}
 use Rattle.input_steps.specs.Programs.{IsProgramOf, RefusesProgram, IsAcyclic, RefusesCalls, RefusesTypes}
 use Rattle.input_steps.proofs.OneAnswer.{map_some_one, IsExact, IsOne, at_one, then_one, none_some, classes_exact, world_exact}
 use Rattle.input_steps.proofs.OneAnswer.{program_exact, calls_exact, types_exact}
@@ -87,6 +88,7 @@ module _ {X : Type 0} (Says : Program → (ℕ → CodeTypes) → Desc → Resul
       then_one (AllSpell files) (RefusesClasses files) _ (classes_exact files) (λ classes s.
       then_one (IsDescText desc) (RefusesText desc) (λ text. OfClasses Says text classes)
       (text_exact description_of desc places.Description) (λ text t.
-      then_one (IsWorldOf classes) (RefusesWorld classes) _ (world_exact classes) (λ world w.
+      then_one (IsWorldOf (set_up text.world classes)) (RefusesWorld (set_up text.world classes)) _
+      (world_exact (set_up text.world classes)) (λ world w.
       then_one (λ entry. entry_of world text.entry ≡ Ok entry) (RefusesEntry world text) (OfEntry Says text world)
       (said_exact places.Description (entry_of world text.entry)) (λ entry e. entry_one text world entry))))

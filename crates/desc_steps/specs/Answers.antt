@@ -7,6 +7,7 @@ use Rattle.input_steps.specs.declared.refused.Refused.{Refused}
 use Rattle.input_steps.specs.declared.refused.Refused.TheVariants.{At, Memory}
 use Rattle.input_steps.specs.Steps.{◌>>=◌}
 use Rattle.input_steps.specs.Classes.{reading_classes, linking}
+use Rattle.input_steps.specs.SetUp.{set_up}
 use Rattle.input_steps.specs.Programs.{closing, testing_calls, typing_methods}
 use Rattle.desc_steps.specs.Descriptions.{reading_description, finding_entry, describing}
 
@@ -20,7 +21,7 @@ abbrev pub OfFiles : {X : Type 0} → Saying X → List ℕ → List (List ℕ) 
 OfFiles Says desc files = do
   classes ← reading_classes files
   text ← reading_description desc
-  world ← linking classes
+  world ← linking (set_up text.world classes)
   entry ← finding_entry world text
   program ← closing world entry
   acyclic ← testing_calls program

@@ -12,16 +12,18 @@ use Rattle.input_desc.specs.Descs.{desc_fault, IsDescribed}
 use Rattle.input_desc.specs.Entries.{entry_of}
 use Rattle.input_desc.specs.Fitting.{FitsDescription}
 use Rattle.input_steps.specs.Classes.{AllSpell, IsWorldOf}
+use Rattle.input_steps.specs.SetUp.{set_up}
 
--- Class files and a description name this program and this description of its inputs. The files spell classes, which link and make
--- the program's world. The description says a text, whose method is the program's entry. The program is closed: it has the methods
--- that the entry reaches, itself first, and the static fields that these name. The text has no fault against it, and says this.
+-- Class files and a description name this program and this description of its inputs. The files spell classes. The description says a
+-- text; as its lines say, the classes enter the program's world, which they link and make. The text's method is the program's entry.
+-- The program is closed: it has the methods that the entry reaches, itself first, and the static fields that these name. The text has
+-- no fault against it, and says this.
 pub record NameProgram (files : List (List ℕ)) (desc : List ℕ) (program : Program) (described : Desc) : Type 0 where
   pub classes : List ClassContent
   pub spelled : AllSpell files classes
-  pub linked : IsWorldOf classes program.world
   pub text : DescText
   pub said : SaysOf description_of desc (Ok text)
+  pub linked : IsWorldOf (set_up text.world classes) program.world
   pub entry : entry_of program.world text.entry ≡ Ok program.entry
   pub closed : IsClosed program
   pub faultless : desc_fault program text ≡ None

@@ -3,7 +3,7 @@ ghost use Rattle.std.specs.Prelude.{◌≤◌, length, map, Err, IfOk, IfErr, Is
 ghost use Rattle.std.specs.List.{AllByRecursion, list_all};
 ghost use Rattle.class_base.specs.ClassNames.{is_class_name};
 ghost use Rattle.class_base.specs.Limits.{most_classes};
-ghost use Rattle.class_world.specs.Linking.{CanBeRead};
+ghost use Rattle.class_world.specs.Linking.{IsLinkable};
 ghost use Rattle.class_world.specs.Resolve.{has_body};
 ghost use Rattle.class_world.specs.Worlds.{classes_of};
 ghost use Rattle.class_program.specs.Views.{program_of};
@@ -146,11 +146,11 @@ fn of_classes(
     classes: Vec<ClassView<'_>>,
 ) -> Result<DescribedProgram<'_>, Refused>
     requires few { length classes.items ≤ most_classes }
-    requires read { AllByRecursion CanBeRead classes.items }
+    requires fit { AllByRecursion IsLinkable classes.items }
     ensures answers { OfClasses IsGiven text classes.entry.items result }
     ensures ready { IfOk result IsReady }
 {
-    match link(alloc, classes) {
+    match link(alloc, text.world.as_slice(), classes) {
         Ok(world) => of_world(alloc, text, world),
         Err(refused) => Err(refused),
     }

@@ -5,7 +5,7 @@ use Rattle.std.specs.Option.{option_map, option_or}
 use Rattle.std.proofs.lemmas.Bool.{eqb-true, not-false}
 use Rattle.input_text.specs.declared.fault.DescFault.{DescFault}
 use Rattle.input_text.specs.declared.fault.DescFault.TheVariants.{Json, NoMethod, Abstract, ParamCount, ParamKind, EmptyInterval}
-use Rattle.input_text.specs.declared.fault.DescFault.TheVariants.{UnknownType, BadPair, BadObject, StaticCount, Memory}
+use Rattle.input_text.specs.declared.fault.DescFault.TheVariants.{UnknownType, BadPair, BadObject, StaticCount, WorldLines, Memory}
 use Rattle.input_desc.specs.Due.{IsFault, is_memory, fault_if}
 
 pub not_mapped : {A : Type 0} (f : A → DescFault) (o : Option A) → option_map f o ≡ None → o ≡ None
@@ -32,6 +32,7 @@ due (UnknownType i) wanted e = e
 due (BadPair n) wanted e = e
 due (BadObject n) wanted e = e
 due StaticCount wanted e = e
+due WorldLines wanted e = e
 due Memory wanted e = tt
 
 -- a fault that is due, and no want of memory, is wanted
@@ -46,6 +47,7 @@ due_is (UnknownType i) wanted other d = d
 due_is (BadPair n) wanted other d = d
 due_is (BadObject n) wanted other d = d
 due_is StaticCount wanted other d = d
+due_is WorldLines wanted other d = d
 due_is Memory wanted other d = absurd (other refl)
 
 -- want of memory is always due

@@ -2,6 +2,7 @@
 ghost use Rattle.std.specs.Prelude.{◌≡◌, IfOk, map};
 ghost use Rattle.class_program.specs.Views.{program_of};
 ghost use Rattle.input_desc.specs.Given.{argument_slot, field_slot, slots_of, statics_of, static_values};
+ghost use Rattle.input_desc.specs.Narrow.{arguments_of, slots_in};
 
 use class_program::{Program, StaticField};
 use jvm_values::{Kind, Slot, Value, initial_values};
@@ -50,6 +51,36 @@ pub fn inputs(alloc: Global, program: &Program<'_>) -> Result<Seq<Slot>, AllocEr
 {
     program.is_good();
     let mut slots = argument_slots(alloc, program.methods.at(0).params.as_slice())?;
+    let fields = field_slots(alloc, program.statics.as_slice())?;
+    slots.extend_from_slice(fields.as_slice())?;
+    Ok(slots)
+}
+
+/// What arguments are asked for: only the numbers of the parameters' own kinds, or any ints for them.
+fn arguments_of(alloc: Global, params: &[Slot], narrow: bool) -> Result<Seq<Slot>, AllocError>
+    ensures { IfOk result (λ slots. slots ≡ arguments_of narrow params.now) }
+{
+    if narrow {
+        Seq::from_slice(alloc, params)
+    } else {
+        argument_slots(alloc, params)
+    }
+}
+
+/// What the inputs of a program are, where only numbers of the parameters' own kinds are asked for, or any ints for them.
+///
+/// # Errors
+///
+/// Want of memory.
+pub fn inputs_in(
+    alloc: Global,
+    program: &Program<'_>,
+    narrow: bool,
+) -> Result<Seq<Slot>, AllocError>
+    ensures { IfOk result (λ slots. slots ≡ slots_in narrow (program_of program.now)) }
+{
+    program.is_good();
+    let mut slots = arguments_of(alloc, program.methods.at(0).params.as_slice(), narrow)?;
     let fields = field_slots(alloc, program.statics.as_slice())?;
     slots.extend_from_slice(fields.as_slice())?;
     Ok(slots)

@@ -15,6 +15,6 @@ pub use beginning::initial;
 pub use desc::{Desc, Input};
 pub use entries::{entry, state_entry};
 pub use fit::has_receiver;
-pub use given::inputs;
+pub use given::{inputs, inputs_in};
 pub use input_text::{DescFault, DescText, StateText};
 pub use states::{StateInput, state_of};

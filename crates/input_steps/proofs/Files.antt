@@ -9,7 +9,8 @@ use Rattle.class_read.specs.Reading.{Fails}
 use Rattle.class_read.specs.FirstFault.{class_in}
 use Rattle.class_read.specs.declared.fault.ClassFault.{ClassFault}
 use Rattle.class_read.specs.declared.fault.ClassFault.TheVariants as classes
-use Rattle.class_world.specs.Linking.{CanBeRead}
+use Rattle.class_world.specs.Linking.{IsLinkable}
+use Rattle.class_world.proofs.Linkable.{read_linkable}
 use Rattle.input_steps.specs.declared.refused.Refused.{Refused}
 use Rattle.input_steps.specs.declared.refused.Refused.TheVariants.{At, Memory}
 use Rattle.input_steps.specs.Steps.{IsCaused}
@@ -133,11 +134,12 @@ spell_length (f ∷ files) (c ∷ read) all = ap suc (spell_length files read al
 spell_length [] (c ∷ read) all = absurd all
 spell_length (f ∷ files) [] all = absurd all
 
-pub spell_read : (files : List (List ℕ)) (read : List ClassContent) → AllSpell files read → AllByRecursion CanBeRead read
-spell_read [] [] all = tt
-spell_read (f ∷ files) (c ∷ read) all = ((f, all.0), spell_read files read all.1)
-spell_read [] (c ∷ read) all = absurd all
-spell_read (f ∷ files) [] all = absurd all
+-- classes that files spell can be linked
+pub spell_linkable : (files : List (List ℕ)) (read : List ClassContent) → AllSpell files read → AllByRecursion IsLinkable read
+spell_linkable [] [] all = tt
+spell_linkable (f ∷ files) (c ∷ read) all = (read_linkable c (f, all.0), spell_linkable files read all.1)
+spell_linkable [] (c ∷ read) all = absurd all
+spell_linkable (f ∷ files) [] all = absurd all
 
 -- ---- one file more
 

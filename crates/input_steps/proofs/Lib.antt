@@ -2,5 +2,6 @@ pub mod Causes
 pub mod Files
 pub mod OneAnswer
 pub mod OneText
+pub mod SetUp
 pub mod Steps
 pub mod Texts

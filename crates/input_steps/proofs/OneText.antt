@@ -52,6 +52,7 @@ module _ {A : Type 0} (reader : Reader A) (bytes : List ℕ) where
   text_says (descs.BadPair n) h = absurd h.1
   text_says (descs.BadObject n) h = absurd h.1
   text_says descs.StaticCount h = absurd h.1
+  text_says descs.WorldLines h = absurd h.1
   text_says descs.Memory h = absurd (h.0 refl)
 
   text_fault_one : (f g : DescFault) → TextSays f → TextSays g → f ≡ g

@@ -25,4 +25,5 @@ caused place IsCause (descs.UnknownType i) h = of_input place IsCause (descs.Unk
 caused place IsCause (descs.BadPair n) h = of_input place IsCause (descs.BadPair n) (h (λ e. cc))
 caused place IsCause (descs.BadObject n) h = of_input place IsCause (descs.BadObject n) (h (λ e. cc))
 caused place IsCause descs.StaticCount h = of_input place IsCause descs.StaticCount (h (λ e. cc))
+caused place IsCause descs.WorldLines h = of_input place IsCause descs.WorldLines (h (λ e. cc))
 caused place IsCause descs.Memory h = tt

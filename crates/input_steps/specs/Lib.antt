@@ -1,5 +1,8 @@
 pub mod Steps
 pub mod Texts
 pub mod Classes
+pub mod SetUp
+pub mod SetUpLaws
+pub mod inner
 pub mod Programs
 pub mod Lines

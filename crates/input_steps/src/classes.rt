@@ -3,14 +3,17 @@ ghost use Rattle.std.specs.Prelude.{◌≡◌, ◌≤◌, length, map, IfOk, IfE
 ghost use Rattle.std.specs.List.{AllByRecursion};
 ghost use Rattle.class_read.specs.Rules.{Spells};
 ghost use Rattle.class_world.specs.Worlds.{classes_of};
-ghost use Rattle.class_world.specs.Linking.{CanBeRead};
+ghost use Rattle.class_world.specs.Linking.{IsLinkable};
 ghost use Rattle.class_base.specs.Limits.{most_classes};
 ghost use Rattle.input_steps.specs.Steps.{IsCaused};
+ghost use Rattle.input_steps.specs.SetUp.{set_up};
 ghost use Rattle.input_steps.specs.Classes.{AllSpell, RefusesClasses, IsWorldOf, RefusesWorld, RefusesFile, class_refusal};
 
 use crate::refused::{Fault, Place, Refused};
+use crate::set_up::set_up;
 use class_read::{ClassFault, ClassView};
 use class_world::{LinkFault, World};
+use input_text::WorldLine;
 use std::alloc::Global;
 
 /// What is said of the file of this number that has this fault.
@@ -57,15 +60,11 @@ pub fn read_classes<'a>(alloc: Global, files: &'a [Vec<u8>]) -> Result<Vec<Class
     Ok(classes)
 }
 
-/// The world of classes that files spell, at most 256.
-///
-/// # Errors
-///
-/// At `Link` the first rule that they break as a world; want of memory.
+/// The world of at most 256 classes.
 #[tactic(auto, using(crate::proofs::Causes::at_world))]
-pub fn link<'a>(alloc: Global, classes: Vec<ClassView<'a>>) -> Result<World<'a>, Refused>
+fn link_all<'a>(alloc: Global, classes: Vec<ClassView<'a>>) -> Result<World<'a>, Refused>
     requires few { length classes.items ≤ most_classes }
-    requires read { AllByRecursion CanBeRead classes.items }
+    requires fit { AllByRecursion IsLinkable classes.items }
     ensures world { IfOk result (λ world. IsWorldOf classes.entry.items (classes_of world)) }
     ensures refused { IfErr result (IsCaused (RefusesWorld classes.entry.items)) }
 {
@@ -76,5 +75,28 @@ pub fn link<'a>(alloc: Global, classes: Vec<ClassView<'a>>) -> Result<World<'a>,
             place: Place::Link,
             fault: Fault::Link(fault),
         }),
+    }
+}
+
+/// The world of at most 256 classes, as the lines of a description or a state say that they enter it. The members of each differ, it has
+/// few of them, their codes are short, and its methods have descriptors: so it is of each class that is read (`read_can_be_linked` of
+/// `class_world`).
+///
+/// # Errors
+///
+/// At `Link` the first rule that they break as a world; want of memory.
+pub fn link<'a>(
+    alloc: Global,
+    lines: &[WorldLine],
+    classes: Vec<ClassView<'a>>,
+) -> Result<World<'a>, Refused>
+    requires few { length classes.items ≤ most_classes }
+    requires fit { AllByRecursion IsLinkable classes.items }
+    ensures world { IfOk result (λ world. IsWorldOf (set_up lines.now classes.entry.items) (classes_of world)) }
+    ensures refused { IfErr result (IsCaused (RefusesWorld (set_up lines.now classes.entry.items))) }
+{
+    match set_up(alloc, lines, classes) {
+        Ok(entered) => link_all(alloc, entered),
+        Err(error) => Err(Refused::from(error)),
     }
 }

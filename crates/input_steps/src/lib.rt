@@ -2,15 +2,18 @@
 //! input: with the first fault at its place.
 //!
 //! The definitions stand in `specs/Steps` (steps one after another), `specs/Texts` (faults of what is read), `specs/Classes`,
-//! `specs/Programs` and `specs/Lines`.
+//! `specs/SetUp` (how classes enter the world), `specs/Programs` and `specs/Lines`.
 #![tactic(auto)]
 
 mod classes;
+mod laws;
 mod lines;
 mod programs;
 mod refused;
+mod set_up;
 
 pub use classes::{link, read_classes};
+pub use laws::{set_up_keeps_names, set_up_links, set_up_nothing, set_up_of_same_lines};
 pub use lines::refusal_text;
 pub use programs::{close, test_calls, typings};
 pub use refused::{Fault, Place, Refused, refuse_desc};

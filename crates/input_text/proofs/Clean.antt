@@ -1,7 +1,7 @@
 -- No reader of a value says that the text is no JSON.
 use Rattle.std.proofs.Common.{◌≡◌, ℕ, zero, suc, ℤ, ◌==◌, ◌&&◌, Bool, true, false, cond, List, [], ◌∷◌, Result, Ok, Err, Option}
 use Rattle.std.proofs.Common.{Some, None, refl, sym, subst, codes}
-use Rattle.std.specs.Prelude.{option_map, int_le}
+use Rattle.std.specs.Prelude.{option_map, int_le, nat_lt}
 use Rattle.std.specs.Option.{ok_or}
 use Rattle.std.specs.Str.{bytes_eq}
 use Rattle.serde_json.specs.Data.{Data, null, boolean, number, string, array, object, Items, no_items, item, Members}
@@ -9,21 +9,25 @@ use Rattle.serde_json.specs.Find.{as_object, as_array, as_str, as_bool, get_memb
 use Rattle.json_view.specs.Located.{Located, root_of}
 use Rattle.json_view.specs.Answers.{Reads}
 use Rattle.json_view.specs.Names.{least_unlisted, first_missing}
+use Rattle.json_view.specs.Place.{item_pointer}
 use Rattle.json_view.specs.Reading.{only_of, field_of, items_of, item_of, int_of, text_of, flag_of, first_fault, unknown_field}
 use Rattle.json_view.specs.Reading.{missing_field, at_member, at_item, within, whole_number_of, has_field}
 use Rattle.json_view.specs.declared.fault.JsonFault.{JsonFault}
 use Rattle.json_view.specs.declared.fault.JsonFault.TheVariants.{NotJson, WrongKind, MissingField, UnknownField, OutOfRange, Memory}
 use Rattle.jvm_values.specs.Kinds.{kind_of_code}
 use Rattle.input_text.specs.Answers.{Reader, Says, AnswersText, described}
-use Rattle.input_text.specs.Fields.{◌>>=◌, field, items_from, list_of, an_int, a_number, entry_of}
+use Rattle.list_views.specs.Results.{wanted, required}
+use Rattle.input_text.specs.Fields.{◌>>=◌, field, nth, items_from, list_of, an_int, a_number, entry_of}
 use Rattle.input_text.specs.Values.{int_value, ref_value, value_by, value_of}
 use Rattle.input_text.specs.Objects.{instance_of, a_byte, kind_of, nums_of, refs_of, object_of}
-use Rattle.input_text.specs.Inputs.{int_input, shape_of, ref_fields, ref_input, input_of, number_in, nth_number, both_numbers, pair_of}
-use Rattle.input_text.specs.Descriptions.{is_first_form, static_inputs, desc_end, desc_fields, description_of}
+use Rattle.input_text.specs.Inputs.{int_input, shape_of, ref_fields, ref_input, input_of, both_numbers, pair_of}
+use Rattle.input_text.specs.WorldLines.{line_named, world_line}
+use Rattle.input_text.specs.Descriptions.{is_first_form, is_third_form, world_lines, static_inputs, desc_end, desc_fields, description_of}
 use Rattle.input_text.specs.States.{static_values, state_end, state_fields, state_of}
 use Rattle.input_text.specs.declared.fault.DescFault.{DescFault}
 use Rattle.input_text.specs.declared.texts.EntryName.{EntryName}
 use Rattle.input_text.specs.declared.texts.InputText.{InputText}
+use Rattle.input_text.specs.declared.texts.WorldLine.{WorldLine}
 
 abbrev IsOther : JsonFault → Type 0
 IsOther NotJson = ⊥
@@ -49,6 +53,14 @@ choice false r s c d = d
 kinds : {A : Type 0} (found : Option A) (fault : JsonFault) → IsOther fault → IsClean (ok_or found fault)
 kinds (Some x) fault o = tt
 kinds None fault o = o
+
+is_wanted : {A : Type 0} (fault : JsonFault) (found : Option A) → IsOther fault → IsClean (wanted fault found)
+is_wanted fault (Some x) o = tt
+is_wanted fault None o = o
+
+is_required : (fault : JsonFault) (test : Bool) → IsOther fault → IsClean (required fault test)
+is_required fault true o = tt
+is_required fault false o = o
 
 firsts : (place : List ℕ) (a b : Option (List ℕ))
     → IsClean (first_fault (option_map (unknown_field place) a) (option_map (missing_field place) b))
@@ -115,6 +127,11 @@ of_list : {A : Type 0} (reader : Reader A) → AreClean reader → AreClean (lis
 unfolding list_of
 of_list reader c here = bind (ok_or (as_array here.value) (WrongKind here.place)) (items_from reader here.place 0)
     (kinds (as_array here.value) (WrongKind here.place) tt) (λ all. from_items reader here.place 0 all c)
+
+of_nth : {A : Type 0} (n : ℕ) (reader : Reader A) → AreClean reader → AreClean (nth n reader)
+unfolding nth
+of_nth n reader c here = bind (wanted (WrongKind here.place) (item_of n here)) reader
+    (is_wanted (WrongKind here.place) (item_of n here) tt) c
 
 of_int : AreClean an_int
 unfolding an_int
@@ -209,25 +226,36 @@ of_input : AreClean input_of
 unfolding input_of
 of_input here = choice (has_field (codes "lo") here) _ _ (of_int_input here) (of_ref_input here)
 
-in_number : (place : List ℕ) (there : Option Located) → IsClean (number_in place there)
-in_number place (Some there) = of_number there
-in_number place None = tt
-
 of_both : AreClean both_numbers
-unfolding both_numbers nth_number
-of_both here = bind _ _ (in_number here.place (item_of 0 here)) (λ _. bind _ _ (in_number here.place (item_of 1 here)) (λ _. tt))
+unfolding both_numbers
+of_both here = bind _ _ (of_nth 0 a_number of_number here) (λ _. bind _ _ (of_nth 1 a_number of_number here) (λ _. tt))
 
 of_pair : AreClean pair_of
 unfolding pair_of
 of_pair here = bind _ _ (items here) (λ count. choice (count == 2) _ _ (of_both here) tt)
 
+of_line : AreClean world_line
+unfolding world_line
+of_line here =
+    bind _ _ (items here) (λ count.
+    bind _ _ (is_required (WrongKind here.place) (nat_lt 0 count) tt) (λ _.
+    bind _ _ (of_nth 0 text_of text here) (λ word.
+    bind _ _ (is_wanted (WrongKind (item_pointer here.place 0)) (line_named word) tt) (λ _.
+    bind _ _ (is_required (WrongKind here.place) (count == 2) tt) (λ _.
+    bind _ _ (of_nth 1 text_of text here) (λ _. tt))))))
+
+of_world : (form : ℤ) → AreClean (world_lines form)
+unfolding world_lines
+of_world form here = choice (is_third_form form) _ _ (of_field (codes "world") (list_of world_line) (of_list world_line of_line) here) tt
+
 of_statics : (form : ℤ) → AreClean (static_inputs form)
 unfolding static_inputs
 of_statics form here = choice (is_first_form form) _ _ tt (of_field (codes "statics") (list_of input_of) (of_list input_of of_input) here)
 
-of_desc_end : (form : ℤ) (entry : EntryName) (params : List InputText) → AreClean (desc_end form entry params)
+of_desc_end : (form : ℤ) (entry : EntryName) (world : List WorldLine) (params : List InputText)
+    → AreClean (desc_end form entry world params)
 unfolding desc_end
-of_desc_end form entry params here =
+of_desc_end form entry world params here =
     bind _ _ (of_field (codes "same") (list_of pair_of) (of_list pair_of of_pair) here) (λ _.
     bind _ _ (of_field (codes "share") (list_of pair_of) (of_list pair_of of_pair) here) (λ _.
     bind _ _ (of_statics form here) (λ _. tt)))
@@ -237,11 +265,12 @@ unfolding desc_fields
 of_desc_fields form here =
     bind _ _ (only _ here) (λ _.
     bind _ _ (of_entry here) (λ entry.
+    bind _ _ (of_world form here) (λ world.
     bind _ _ (of_field (codes "params") (list_of input_of) (of_list input_of of_input) here)
-    (λ params. of_desc_end form entry params here)))
+    (λ params. of_desc_end form entry world params here))))
 
 of_form : {A : Type 0} (next : ℤ → Reader A) → ((form : ℤ) → AreClean (next form)) → (here : Located)
-    → IsClean (field (codes "form") (int_of (Rattle.std.proofs.Common.pos 1) (Rattle.std.proofs.Common.pos 2)) here >>= λ form. next
+    → IsClean (field (codes "form") (int_of (Rattle.std.proofs.Common.pos 1) (Rattle.std.proofs.Common.pos 3)) here >>= λ form. next
     form here)
 of_form next c here = bind _ _ (of_field (codes "form") (int_of _ _) (int _ _) here) (λ form. c form here)
 
@@ -254,16 +283,19 @@ unfolding static_values
 of_static_values form here = choice (is_first_form form) _ _ tt
     (bind _ _ (of_field (codes "statics") (list_of value_of) (of_list value_of of_value) here) (λ _. tt))
 
-of_state_end : (form : ℤ) (entry : EntryName) → AreClean (state_end form entry)
+of_state_end : (form : ℤ) (entry : EntryName) (world : List WorldLine) → AreClean (state_end form entry world)
 unfolding state_end
-of_state_end form entry here =
+of_state_end form entry world here =
     bind _ _ (of_field (codes "args") (list_of value_of) (of_list value_of of_value) here) (λ _.
     bind _ _ (of_field (codes "heap") (list_of object_of) (of_list object_of of_object) here) (λ _.
     bind _ _ (of_static_values form here) (λ _. tt)))
 
 of_state_fields : (form : ℤ) → AreClean (state_fields form)
 unfolding state_fields
-of_state_fields form here = bind _ _ (only _ here) (λ _. bind _ _ (of_entry here) (λ entry. of_state_end form entry here))
+of_state_fields form here =
+    bind _ _ (only _ here) (λ _.
+    bind _ _ (of_entry here) (λ entry.
+    bind _ _ (of_world form here) (λ world. of_state_end form entry world here)))
 
 pub of_state : AreClean state_of
 unfolding state_of

@@ -4,7 +4,7 @@ use Rattle.list_views.specs.FaultWords.{joined, number_field}
 use Rattle.json_view.specs.Faults.{fault_name as json_name, fault_fields as json_fields}
 use Rattle.input_text.specs.declared.fault.DescFault.{DescFault}
 use Rattle.input_text.specs.declared.fault.DescFault.TheVariants.{Json, NoMethod, Abstract, ParamCount, ParamKind, EmptyInterval}
-use Rattle.input_text.specs.declared.fault.DescFault.TheVariants.{UnknownType, BadPair, BadObject, StaticCount, Memory}
+use Rattle.input_text.specs.declared.fault.DescFault.TheVariants.{UnknownType, BadPair, BadObject, StaticCount, WorldLines, Memory}
 
 -- the name of a fault of a description or a state, by which a line of errors says it
 abbrev pub fault_name : DescFault → List ℕ
@@ -18,6 +18,7 @@ fault_name (UnknownType i) = codes "UnknownType"
 fault_name (BadPair n) = codes "BadPair"
 fault_name (BadObject n) = codes "BadObject"
 fault_name StaticCount = codes "StaticCount"
+fault_name WorldLines = codes "WorldLines"
 fault_name Memory = codes "Memory"
 
 -- what a fault's name is followed by: the number of the input, the object or the pair that it is about, of every
@@ -33,6 +34,7 @@ fault_fields (UnknownType i) = number_field (codes "i") i
 fault_fields (BadPair n) = number_field (codes "n") n
 fault_fields (BadObject n) = number_field (codes "n") n
 fault_fields StaticCount = []
+fault_fields WorldLines = []
 fault_fields Memory = []
 
 -- a fault in words: its name and then its fields

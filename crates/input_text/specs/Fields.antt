@@ -1,10 +1,12 @@
 -- Readers of JSON values, one after another: the first fault stands for all.
 use Rattle.std.specs.Prelude.{ℕ, suc, ℤ, pos, negsuc, nat_abs, List, [], ◌∷◌, codes, Result, Ok}
 pub use Rattle.list_views.specs.Results.{◌>>=◌}
+use Rattle.list_views.specs.Results.{wanted}
 use Rattle.serde_json.specs.Data.{Items, no_items, item}
 use Rattle.serde_json.specs.Find.{as_array}
-use Rattle.json_view.specs.Reading.{of_kind, field_of, at_item, int_of, text_of}
+use Rattle.json_view.specs.Reading.{of_kind, field_of, item_of, at_item, int_of, text_of}
 use Rattle.json_view.specs.declared.fault.JsonFault.{JsonFault}
+use Rattle.json_view.specs.declared.fault.JsonFault.TheVariants.{WrongKind}
 use Rattle.input_text.specs.Answers.{Reader}
 use Rattle.input_text.specs.declared.texts.EntryName.{EntryName}
 
@@ -23,6 +25,10 @@ items_from reader place n (item value rest) = do
 -- what a reader says of each item of a list
 unfoldable pub list_of : {A : Type 0} → Reader A → Reader (List A)
 list_of reader here = of_kind as_array here >>= items_from reader here.place 0
+
+-- what a reader says of item `n` of a list; where there is none, the list is of the wrong kind
+unfoldable pub nth : {A : Type 0} → ℕ → Reader A → Reader A
+nth n reader here = wanted (WrongKind here.place) (item_of n here) >>= reader
 
 -- ---- numbers
 

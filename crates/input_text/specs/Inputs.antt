@@ -1,15 +1,14 @@
 -- Inputs of descriptions: an object with a field `lo` is an int, and every other value is read as a reference. And pairs
 -- of inputs.
-use Rattle.std.specs.Prelude.{ℕ, ◌==◌, Option, Some, None, codes, if◌then◌else◌, List, Result, Ok, Err}
+use Rattle.std.specs.Prelude.{ℕ, ◌==◌, codes, if◌then◌else◌, List, Result, Ok, Err}
 use Rattle.std.specs.Str.{bytes_eq}
-use Rattle.json_view.specs.Located.{Located}
-use Rattle.json_view.specs.Reading.{only_of, has_field, items_of, item_of, text_of, flag_of}
+use Rattle.json_view.specs.Reading.{only_of, has_field, items_of, text_of, flag_of}
 use Rattle.json_view.specs.declared.fault.JsonFault.{JsonFault}
 use Rattle.json_view.specs.declared.fault.JsonFault.TheVariants.{WrongKind}
 use Rattle.jvm_values.specs.declared.shape.Shape.{Shape}
 use Rattle.jvm_values.specs.declared.shape.Shape.TheVariants.{Tree, Dag, Any}
 use Rattle.input_text.specs.Answers.{Reader}
-use Rattle.input_text.specs.Fields.{◌>>=◌, field, an_int, a_number}
+use Rattle.input_text.specs.Fields.{◌>>=◌, field, nth, an_int, a_number}
 use Rattle.input_text.specs.declared.texts.InputText.{InputText}
 use Rattle.input_text.specs.declared.texts.InputText.TheVariants.{Int, Ref}
 
@@ -53,20 +52,11 @@ ref_input here = only_of ref_names here >>= λ _. ref_fields here
 unfoldable pub input_of : Reader InputText
 input_of here = if has_field (codes "lo") here then int_input here else ref_input here
 
--- the number of an input that is item n of a list
-abbrev pub number_in : List ℕ → Option Located → Result ℕ JsonFault
-number_in place (Some there) = a_number there
-number_in place None = Err (WrongKind place)
-
--- the number of an input that stands at place `n` of a list
-unfoldable pub nth_number : ℕ → Reader ℕ
-nth_number n here = number_in here.place (item_of n here)
-
 -- the numbers of two inputs, the first two items of a list
 unfoldable pub both_numbers : Reader (ℕ × ℕ)
 both_numbers here = do
-  first ← nth_number 0 here
-  second ← nth_number 1 here
+  first ← nth 0 a_number here
+  second ← nth 1 a_number here
   Ok (first, second)
 
 -- a pair of inputs: a list of exactly two numbers; a list of another length is of the wrong kind

@@ -1,8 +1,10 @@
 pub mod Answers
 pub mod Fields
 pub mod Inputs
+pub mod WorldLines
 pub mod Descriptions
 pub mod Values
 pub mod Objects
 pub mod States
 pub mod Faults
+pub mod inner

@@ -2,15 +2,16 @@
 ghost use Rattle.std.specs.Prelude.{◌≡◌, ◌<◌, codes};
 ghost use Rattle.json_view.specs.Located.{located};
 ghost use Rattle.input_text.specs.Answers.{Says, AnswersText};
-ghost use Rattle.input_text.specs.Fields.{field, an_int};
+ghost use Rattle.input_text.specs.Fields.{field, nth, an_int, a_number};
 ghost use Rattle.json_view.specs.Reading.{flag_of, item_count};
-ghost use Rattle.input_text.specs.Inputs.{int_input, shape_of, ref_fields, ref_names, ref_input, nth_number, both_numbers};
+ghost use Rattle.input_text.specs.Inputs.{int_input, shape_of, ref_fields, ref_names, ref_input, both_numbers};
 ghost use Rattle.input_text.specs.Descriptions.{desc_names, static_inputs, desc_end, desc_fields, description_of};
 
 use crate::fault::DescFault;
 use crate::fields::{entry, int, number, text_field};
 use crate::lists::{Said, list_field};
-use crate::texts::{DescText, EntryName, InputText};
+use crate::texts::{DescText, EntryName, InputText, WorldLine};
+use crate::world_lines::world_lines;
 use json_view::{JsonFault, View, parse};
 use jvm_values::Shape;
 use list_views::Seq;
@@ -105,10 +106,10 @@ impl Said for InputText {
 }
 
 /// The number of an input that is an item of a list.
-#[tactic(auto, unfolding(crate::specs::Inputs::nth_number))]
+#[tactic(auto, unfolding(crate::specs::Fields::nth))]
 fn nth_number(alloc: Global, view: &View<'_, '_>, n: usize) -> Result<u32, JsonFault>
     requires { n < item_count (located view.now).value }
-    ensures { Says result (nth_number n (located view.now)) }
+    ensures { Says result (nth n a_number (located view.now)) }
 {
     let item = view.item(n);
     number(alloc, &item)
@@ -146,6 +147,8 @@ fn names(form: i64) -> &'static str
 {
     if form == 1 {
         "form class method desc params same share"
+    } else if form == 3 {
+        "form class method desc world params same share statics"
     } else {
         "form class method desc params same share statics"
     }
@@ -169,15 +172,17 @@ fn end(
     form: i64,
     view: &View<'_, '_>,
     entry: EntryName,
+    world: Seq<WorldLine>,
     params: Seq<InputText>,
 ) -> Result<DescText, JsonFault>
-    ensures { Says result (desc_end form entry params (located view.now)) }
+    ensures { Says result (desc_end form entry world params (located view.now)) }
 {
     let same = list_field(alloc, view, "same")?;
     let share = list_field(alloc, view, "share")?;
     let statics = statics(alloc, form, view)?;
     Ok(DescText {
         entry,
+        world,
         params,
         same,
         share,
@@ -192,8 +197,9 @@ fn fields(alloc: Global, form: i64, view: &View<'_, '_>) -> Result<DescText, Jso
 {
     view.only(alloc, names(form))?;
     let entry = entry(alloc, view)?;
+    let world = world_lines(alloc, form, view)?;
     let params = list_field(alloc, view, "params")?;
-    end(alloc, form, view, entry, params)
+    end(alloc, form, view, entry, world, params)
 }
 
 /// The description that a value says.
@@ -202,7 +208,7 @@ fn description(alloc: Global, view: &View<'_, '_>) -> Result<DescText, JsonFault
     ensures { Says result (description_of (located view.now)) }
 {
     let field = view.field(alloc, "form")?;
-    let form = field.int(alloc, 1, 2)?;
+    let form = field.int(alloc, 1, 3)?;
     fields(alloc, form, view)
 }
 

@@ -44,6 +44,8 @@ pub enum DescFault {
     },
     /// There are more or fewer static fields than the program names.
     StaticCount,
+    /// The lines about classes aren't those of the description.
+    WorldLines,
     /// Want of memory.
     Memory,
 }

@@ -23,6 +23,7 @@ impl DescFault {
             DescFault::BadPair { .. } => b"BadPair",
             DescFault::BadObject { .. } => b"BadObject",
             DescFault::StaticCount => b"StaticCount",
+            DescFault::WorldLines => b"WorldLines",
             DescFault::Memory => b"Memory",
         }
     }

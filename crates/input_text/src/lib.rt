@@ -10,9 +10,12 @@ mod fault_text;
 mod fields;
 mod lists;
 mod objects;
+mod same_lines;
 mod state;
 mod texts;
 mod values;
+mod world_lines;
 
 pub use fault::DescFault;
-pub use texts::{DescText, EntryName, InputText, ObjectText, StateText};
+pub use same_lines::are_same_lines;
+pub use texts::{DescText, EntryName, InputText, ObjectText, StateText, WorldLine};

@@ -7,7 +7,8 @@ ghost use Rattle.input_text.specs.States.{state_names, static_values, state_end,
 use crate::fault::DescFault;
 use crate::fields::entry;
 use crate::lists::list_field;
-use crate::texts::{EntryName, StateText};
+use crate::texts::{EntryName, StateText, WorldLine};
+use crate::world_lines::world_lines;
 use json_view::{JsonFault, View, parse};
 use jvm_values::Value;
 use list_views::Seq;
@@ -19,6 +20,8 @@ fn names(form: i64) -> &'static str
 {
     if form == 1 {
         "form class method desc args heap"
+    } else if form == 3 {
+        "form class method desc world args heap statics"
     } else {
         "form class method desc args heap statics"
     }
@@ -36,21 +39,23 @@ fn statics(alloc: Global, form: i64, view: &View<'_, '_>) -> Result<Option<Seq<V
     Ok(Some(values))
 }
 
-/// The fields behind the method.
+/// The fields behind the lines about classes.
 #[tactic(auto, unfolding(crate::specs::States::state_end))]
 fn end(
     alloc: Global,
     form: i64,
     view: &View<'_, '_>,
     entry: EntryName,
+    world: Seq<WorldLine>,
 ) -> Result<StateText, JsonFault>
-    ensures { Says result (state_end form entry (located view.now)) }
+    ensures { Says result (state_end form entry world (located view.now)) }
 {
     let args = list_field(alloc, view, "args")?;
     let heap = list_field(alloc, view, "heap")?;
     let statics = statics(alloc, form, view)?;
     Ok(StateText {
         entry,
+        world,
         args,
         heap,
         statics,
@@ -64,7 +69,8 @@ fn fields(alloc: Global, form: i64, view: &View<'_, '_>) -> Result<StateText, Js
 {
     view.only(alloc, names(form))?;
     let entry = entry(alloc, view)?;
-    end(alloc, form, view, entry)
+    let world = world_lines(alloc, form, view)?;
+    end(alloc, form, view, entry, world)
 }
 
 /// The state that a value says.
@@ -73,7 +79,7 @@ fn state(alloc: Global, view: &View<'_, '_>) -> Result<StateText, JsonFault>
     ensures { Says result (state_of (located view.now)) }
 {
     let field = view.field(alloc, "form")?;
-    let form = field.int(alloc, 1, 2)?;
+    let form = field.int(alloc, 1, 3)?;
     fields(alloc, form, view)
 }
 

@@ -13,6 +13,16 @@ pub struct EntryName {
     pub desc: Seq<u8>,
 }
 
+/// What a text says of how the classes enter the world.
+#[derive(Drop)]
+pub enum WorldLine {
+    /// The class of this name is initialised before the run begins (JVM specification, SE 8, section 5.5).
+    Initialised(Seq<u8>),
+    /// The interface of this name is passed over in lists of interfaces, where no class of the name is built in or handed in: a class
+    /// that lists it isn't below it, nor below what is above it.
+    Passed(Seq<u8>),
+}
+
 /// What a description says of one input: of a parameter or of a static field.
 #[derive(Drop)]
 pub enum InputText {
@@ -39,6 +49,8 @@ pub enum InputText {
 pub struct DescText {
     /// The method.
     pub entry: EntryName,
+    /// How the classes enter the world; none in a text of form 1 or 2.
+    pub world: Seq<WorldLine>,
     /// The parameters; in an instance method the receiver comes first.
     pub params: Seq<InputText>,
     /// Pairs of inputs that may be one object.
@@ -80,6 +92,8 @@ pub enum ObjectText {
 pub struct StateText {
     /// The method.
     pub entry: EntryName,
+    /// How the classes enter the world; none in a text of form 1 or 2.
+    pub world: Seq<WorldLine>,
     /// The arguments; in an instance method the receiver comes first.
     pub args: Seq<Value>,
     /// The objects, each under its number.

@@ -135,3 +135,37 @@ fn a_countdown_that_may_wrap_leaves_its_rules(rt: HostRuntime) -> Result<(), Fai
     );
     Ok(())
 }
+
+/// A class that implements an interface which isn't there.
+const IMPLEMENTING: &[u8] =
+    b"class A implements I\nmethod f ()V static stack 0 locals 0\nreturn\nend\n";
+
+/// A description of its method that passes the interface over.
+const PASSING: &[u8] =
+    b"{\"form\":3,\"class\":\"A\",\"method\":\"f\",\"desc\":\"()V\",\"world\":[[\"passed\",\"I\"]],\"params\":[],\
+      \"same\":[],\"share\":[],\"statics\":[]}";
+
+/// One that passes another interface over.
+const PASSING_OTHER: &[u8] =
+    b"{\"form\":3,\"class\":\"A\",\"method\":\"f\",\"desc\":\"()V\",\"world\":[[\"passed\",\"J\"]],\"params\":[],\
+      \"same\":[],\"share\":[],\"statics\":[]}";
+
+/// A class that names an interface as a type which isn't there.
+const NAMING: &[u8] =
+    b"class A implements I\nmethod f ()V static stack 1 locals 0\naconst_null\ncheckcast I\npop\nreturn\nend\n";
+
+// The status of `prove` for the class of a listing and a description.
+fn status_of(alloc: Global, listing: &[u8], desc: &[u8]) -> Result<u8, AllocError> {
+    let outcome = limited(alloc, listing, desc)?;
+    Ok(outcome.status)
+}
+
+#[test]
+fn an_interface_is_passed_over_where_a_line_says_so(rt: HostRuntime) -> Result<(), Fail> {
+    assert!(rt; status_of(rt.alloc(), IMPLEMENTING, PASSING)? == 0);
+    let other = limited(rt.alloc(), IMPLEMENTING, PASSING_OTHER);
+    assert!(rt; errs(other, 3, b"jterm: link: MissingClass name=I\n")?);
+    let named = limited(rt.alloc(), NAMING, PASSING);
+    assert!(rt; errs(named, 3, b"jterm: link: MissingClass name=I\n")?);
+    Ok(())
+}

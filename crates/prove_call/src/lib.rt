@@ -10,4 +10,5 @@ mod lines;
 
 pub use answer::Answer;
 pub use call::prove_line;
+pub use desc_steps;
 pub use laws::refusals_are_one;

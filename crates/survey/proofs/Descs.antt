@@ -170,12 +170,12 @@ first_more descs k desc said l e other so_far earlier text less at = go (split_l
         same_Some desc.items text (sym there ∙ (ap (slice_get (map (λ (d : Vec ℕ). d.items) descs)) (sym here) ∙ at)) in
         subst (λ (t : List ℕ). NamesOther t said.entry) same other
 
-pub is_used : (files descs : List (Vec ℕ)) (place : ℕ) (desc : Vec ℕ) (text : List ℕ) (said : DescText) (classes : List ClassContent)
+pub is_used : (strict : Bool) (files descs : List (Vec ℕ)) (place : ℕ) (desc : Vec ℕ) (text : List ℕ) (said : DescText) (classes : List ClassContent)
     → place < length descs → desc ≡ get_or descs place desc → SaysOf description_of desc.items (Ok said)
     → AllSpell (map (λ (file : Vec ℕ). file.items) files) classes → NamesAmong said classes
     → ComesFirst (map (λ (d : Vec ℕ). d.items) descs) place said
-    → slice_get (map (λ (d : Vec ℕ). d.items) descs) place ≡ Some text → IsUsed (surveyed files descs) place text
-is_used files descs place desc text said classes l e says spelled names first at =
+    → slice_get (map (λ (d : Vec ℕ). d.items) descs) place ≡ Some text → IsUsed (surveyed strict files descs) place text
+is_used strict files descs place desc text said classes l e says spelled names first at =
     let there : slice_get (map (λ (d : Vec ℕ). d.items) descs) place ≡ Some desc.items =
     get_file (λ (d : Vec ℕ). d.items) descs place desc desc.items l e refl in
     let same : desc.items ≡ text = same_Some desc.items text (sym there ∙ at) in

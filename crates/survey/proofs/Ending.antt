@@ -42,23 +42,23 @@ whole_begun : {S : Type 0} (taken : S → Option (List ℕ)) (s : Surveyed) (old
 whole_begun taken s old new lines put each =
     (text_of lines, [], (put, record { lines = lines; are = append-nil (text_of lines); each = each }))
 
-nothing_begun : {S : Type 0} (taken : S → Option (List ℕ)) (x : S) → BeginsToTell taken nothing x x
-nothing_begun taken x = ([], [], (Appends-nil (taken x), record { lines = []; are = refl; each = tt }))
+nothing_begun : {S : Type 0} (taken : S → Option (List ℕ)) (strict : Bool) (x : S) → BeginsToTell taken (nothing strict) x x
+nothing_begun taken strict x = ([], [], (Appends-nil (taken x), record { lines = []; are = refl; each = tt }))
 
 -- a whole survey's lines are true
 whole_told : {S : Type 0} (taken : S → Option (List ℕ)) (names descs : List (List ℕ)) (fates : List Fate) (s : Surveyed) (old new : S)
     (status : ℕ) → IsWhole taken names descs fates s old new status → BeginsToTell taken s old new
 whole_told taken names descs fates s old new status whole =
-    whole_begun taken s old new (whole.file_lines ++ (whole.desc_lines ++ (whole.method_lines ++ count_line whole.counts ∷ [])))
+    whole_begun taken s old new (whole.file_lines ++ (whole.desc_lines ++ (whole.method_lines ++ count_line s.strict whole.counts ∷ [])))
     whole.put whole.each
 
 -- ---- behind the descriptions
 
 -- the class files were read, some are left out, and what is left is surveyed
-module _ {F S : Type 0} (files : FilesSeen F) (taken : S → Option (List ℕ)) (faults : S → ℕ) (names descs : List (List ℕ))
+module _ {F S : Type 0} (files : FilesSeen F) (taken : S → Option (List ℕ)) (faults : S → ℕ) (strict : Bool) (names descs : List (List ℕ))
     (given : List (Vec ℕ)) (kept_old kept_new : Kept) (files_old files_new : F) where
   abbrev told : Surveyed
-  told = surveyed kept_new.files.items given
+  told = surveyed strict kept_new.files.items given
 
   abbrev contents : List (List ℕ)
   contents = map (λ (desc : Vec ℕ). desc.items) given
@@ -82,7 +82,7 @@ module _ {F S : Type 0} (files : FilesSeen F) (taken : S → Option (List ℕ)) 
       → Went taken faults IsOther (HaveRead files names kept_old files_old files_new) a b
       → Went taken faults IsOther (Leaves kept_old kept_new) b c
       → Went taken faults (IsTrueLine told) (IsTail told descs counts status) c d
-      → HasRun files taken faults names descs contents files_old files_new a d status
+      → HasRun files taken faults strict names descs contents files_old files_new a d status
   runs refused status counts a b c d few own left none first second third =
       let h = first.are in
       let after = second.are names h.fates first.lines h.kept in
@@ -97,6 +97,7 @@ module _ {F S : Type 0} (files : FilesSeen F) (taken : S → Option (List ℕ)) 
       let same = after.refused in
       record {
         s = told;
+        asked = refl;
         fates = after.after;
         read = accounted first.lines second.lines h second.are;
         whole = record {
@@ -136,9 +137,9 @@ module _ {F S : Type 0} (files : FilesSeen F) (taken : S → Option (List ℕ)) 
           (y : Went taken faults IsOther (Leaves kept_old kept_new) b c)
           (z : Went taken faults (IsTrueLine told) (IsTail told descs counts status) c d)
           → AllByRecursion (IsTrueLine told)
-          ((x.lines ++ y.lines) ++ (z.are.desc_lines ++ (z.are.method_lines ++ count_line z.are.counts ∷ [])))
+          ((x.lines ++ y.lines) ++ (z.are.desc_lines ++ (z.are.method_lines ++ count_line strict z.are.counts ∷ [])))
       all_true x y z =
-          all_both (IsTrueLine told) (x.lines ++ y.lines) (z.are.desc_lines ++ (z.are.method_lines ++ count_line z.are.counts ∷ []))
+          all_both (IsTrueLine told) (x.lines ++ y.lines) (z.are.desc_lines ++ (z.are.method_lines ++ count_line strict z.are.counts ∷ []))
           (all_both (IsTrueLine told) x.lines y.lines (all_as IsOther (IsTrueLine told) x.lines (others_true told) x.each)
           (all_as IsOther (IsTrueLine told) y.lines (others_true told) y.each))
           (subst (AllByRecursion (IsTrueLine told)) z.are.are z.each)
@@ -150,11 +151,11 @@ module _ {F S : Type 0} (files : FilesSeen F) (taken : S → Option (List ℕ)) 
       → counts.left_out ≡ (many - refused) - length kept_new.files.items → counts.refused ≡ refused
       → Went taken faults IsOther (HaveRead files names kept_old files_old files_new) a b
       → Went taken faults IsOther (Leaves kept_old kept_new) b c
-      → Went taken faults (IsTrueLine (surveyed used given)) (IsTail (surveyed used given) named counts status) c d
-      → HasRun files taken faults names descs contents files_old files_new a d status
+      → Went taken faults (IsTrueLine (surveyed strict used given)) (IsTail (surveyed strict used given) named counts status) c d
+      → HasRun files taken faults strict names descs contents files_old files_new a d status
   runs_so many refused status counts a b c d used named same is_used is_named few own left none first second third =
       let whole : Went taken faults (IsTrueLine told) (IsTail told named counts status) c d = subst
-      (λ (u : List (Vec ℕ)). Went taken faults (IsTrueLine (surveyed u given)) (IsTail (surveyed u given) named counts status) c d)
+      (λ (u : List (Vec ℕ)). Went taken faults (IsTrueLine (surveyed strict u given)) (IsTail (surveyed strict u given) named counts status) c d)
       is_used third in
       let last : Went taken faults (IsTrueLine told) (IsTail told descs counts status) c d = subst
       (λ (n : List (List ℕ)). Went taken faults (IsTrueLine told) (IsTail told n counts status) c d) is_named whole in
@@ -164,9 +165,10 @@ module _ {F S : Type 0} (files : FilesSeen F) (taken : S → Option (List ℕ)) 
   -- it stopped behind the class files
   pub breaks : (a b c d : S) (stop : Stop) → Went taken faults IsOther (HaveRead files names kept_old files_old files_new) a b
       → Went taken faults IsOther (Leaves kept_old kept_new) b c → Cut taken faults (IsTrueLine told) c d stop
-      → HasBroken files taken faults names contents files_old files_new a d stop
+      → HasBroken files taken faults strict names contents files_old files_new a d stop
   breaks a b c d stop first second third = record {
     s = told;
+    asked = refl;
     fates = (second.are names first.are.fates first.lines first.are.kept).after;
     read = inr (accounted first.lines second.lines first.are second.are);
     cut = cut_on taken faults (IsTrueLine told) (HaveRead files names kept_old files_old files_new) a b d stop
@@ -177,28 +179,29 @@ module _ {F S : Type 0} (files : FilesSeen F) (taken : S → Option (List ℕ)) 
 
   pub breaks_so : (a b c d : S) (stop : Stop) (used : List (Vec ℕ)) → used ≡ kept_new.files.items
       → Went taken faults IsOther (HaveRead files names kept_old files_old files_new) a b
-      → Went taken faults IsOther (Leaves kept_old kept_new) b c → Cut taken faults (IsTrueLine (surveyed used given)) c d stop
-      → HasBroken files taken faults names contents files_old files_new a d stop
+      → Went taken faults IsOther (Leaves kept_old kept_new) b c → Cut taken faults (IsTrueLine (surveyed strict used given)) c d stop
+      → HasBroken files taken faults strict names contents files_old files_new a d stop
   breaks_so a b c d stop used is_used first second third =
       breaks a b c d stop first second
-      (subst (λ (u : List (Vec ℕ)). Cut taken faults (IsTrueLine (surveyed u given)) c d stop) is_used third)
+      (subst (λ (u : List (Vec ℕ)). Cut taken faults (IsTrueLine (surveyed strict u given)) c d stop) is_used third)
 
 -- it stopped before anything was surveyed
-pub breaks_early : {F S : Type 0} (files : FilesSeen F) (taken : S → Option (List ℕ)) (faults : S → ℕ) (names contents : List (List ℕ))
+pub breaks_early : {F S : Type 0} (files : FilesSeen F) (taken : S → Option (List ℕ)) (faults : S → ℕ) (strict : Bool) (names contents : List (List ℕ))
     (files_old files_new : F) (a b : S) (stop : Stop) → Cut taken faults IsOther a b stop
-    → HasBroken files taken faults names contents files_old files_new a b stop
-breaks_early files taken faults names contents files_old files_new a b stop cut = record {
-  s = nothing;
+    → HasBroken files taken faults strict names contents files_old files_new a b stop
+breaks_early files taken faults strict names contents files_old files_new a b stop cut = record {
+  s = nothing strict;
+  asked = refl;
   fates = [];
   read = inl refl;
-  cut = cut_true taken faults nothing a b stop cut;
+  cut = cut_true taken faults (nothing strict) a b stop cut;
 }
 
-pub breaks_later : {F S : Type 0} (files : FilesSeen F) (taken : S → Option (List ℕ)) (faults : S → ℕ) (names contents : List (List ℕ))
+pub breaks_later : {F S : Type 0} (files : FilesSeen F) (taken : S → Option (List ℕ)) (faults : S → ℕ) (strict : Bool) (names contents : List (List ℕ))
     (Are : List (List ℕ) → Type 0) (files_old files_new : F) (a b c : S) (stop : Stop) → Went taken faults IsOther Are a b
-    → Cut taken faults IsOther b c stop → HasBroken files taken faults names contents files_old files_new a c stop
-breaks_later files taken faults names contents Are files_old files_new a b c stop went cut =
-    breaks_early files taken faults names contents files_old files_new a c stop (cut_on taken faults IsOther Are a b c stop went cut)
+    → Cut taken faults IsOther b c stop → HasBroken files taken faults strict names contents files_old files_new a c stop
+breaks_later files taken faults strict names contents Are files_old files_new a b c stop went cut =
+    breaks_early files taken faults strict names contents files_old files_new a c stop (cut_on taken faults IsOther Are a b c stop went cut)
 
 -- ---- the whole
 
@@ -239,11 +242,11 @@ done_low status (inl e) = omega (arith, e)
 done_low status (inr (inl e)) = omega (arith, e)
 done_low status (inr (inr e)) = omega (arith, e)
 
-module _ {F S : Type 0} (files : FilesSeen F) (taken : S → Option (List ℕ)) (faults : S → ℕ)
+module _ {F S : Type 0} (files : FilesSeen F) (taken : S → Option (List ℕ)) (faults : S → ℕ) (strict : Bool)
     (names descs contents : List (List ℕ)) where
   pub ends : (status : ℕ) (old mid new : F) (a b : S) → files.held mid ≡ files.held old → files.faults old ≤ files.faults mid
-      → DescsRead files descs contents old mid → HasRun files taken faults names descs contents mid new a b status
-      → HasSurveyed files taken faults names descs old new a b status
+      → DescsRead files descs contents old mid → HasRun files taken faults strict names descs contents mid new a b status
+      → HasSurveyed files taken faults strict names descs old new a b status
   ends status old mid new a b held before read run =
       let were = all_read files names descs contents run.fates run.s old mid new held before read run.read in
       let whole = run.whole in
@@ -252,6 +255,7 @@ module _ {F S : Type 0} (files : FilesSeen F) (taken : S → Option (List ℕ)) 
       let low = done_low status done in
       record {
         s = run.s;
+        asked = run.asked;
         fates = run.fates;
         told = whole_told taken names descs run.fates run.s a b status whole;
         read = inr were;
@@ -262,11 +266,12 @@ module _ {F S : Type 0} (files : FilesSeen F) (taken : S → Option (List ℕ)) 
       }
 
   pub stops : (stop : Stop) (old mid new : F) (a b : S) → files.held mid ≡ files.held old → files.faults old ≤ files.faults mid
-      → DescsRead files descs contents old mid → HasBroken files taken faults names contents mid new a b stop
-      → HasSurveyed files taken faults names descs old new a b (stop_status stop)
+      → DescsRead files descs contents old mid → HasBroken files taken faults strict names contents mid new a b stop
+      → HasSurveyed files taken faults strict names descs old new a b (stop_status stop)
   stops (Unread place fault) old mid new a b held before read broken = absurd broken.cut.stops
   stops Write old mid new a b held before read broken = record {
     s = broken.s;
+    asked = broken.asked;
     fates = broken.fates;
     told = begun taken faults broken.s a b Write broken.cut;
     read = were broken.read;
@@ -276,12 +281,13 @@ module _ {F S : Type 0} (files : FilesSeen F) (taken : S → Option (List ℕ)) 
     known = inr (inr (inl refl));
   }
     where
-      were : (broken.s ≡ nothing) ⊎ ClassesRead files names contents broken.fates broken.s mid new
-          → (broken.s ≡ nothing) ⊎ WereRead files names descs broken.fates broken.s old new
+      were : (broken.s ≡ nothing strict) ⊎ ClassesRead files names contents broken.fates broken.s mid new
+          → (broken.s ≡ nothing strict) ⊎ WereRead files names descs broken.fates broken.s old new
       were (inl none) = inl none
       were (inr done) = inr (all_read files names descs contents broken.fates broken.s old mid new held before read done)
   stops Memory old mid new a b held before read broken = record {
     s = broken.s;
+    asked = broken.asked;
     fates = broken.fates;
     told = begun taken faults broken.s a b Memory broken.cut;
     read = were broken.read;
@@ -291,36 +297,37 @@ module _ {F S : Type 0} (files : FilesSeen F) (taken : S → Option (List ℕ)) 
     known = inr (inr (inr refl));
   }
     where
-      were : (broken.s ≡ nothing) ⊎ ClassesRead files names contents broken.fates broken.s mid new
-          → (broken.s ≡ nothing) ⊎ WereRead files names descs broken.fates broken.s old new
+      were : (broken.s ≡ nothing strict) ⊎ ClassesRead files names contents broken.fates broken.s mid new
+          → (broken.s ≡ nothing strict) ⊎ WereRead files names descs broken.fates broken.s old new
       were (inl none) = inl none
       were (inr done) = inr (all_read files names descs contents broken.fates broken.s old mid new held before read done)
 
   -- so it is with slices of the lists
   pub ends_so : (status : ℕ) (old mid new : F) (a b : S) (named given : List (List ℕ)) → named ≡ descs → given ≡ contents
       → files.held mid ≡ files.held old → files.faults old ≤ files.faults mid
-      → DescsRead files named contents old mid → HasRun files taken faults names descs given mid new a b status
-      → HasSurveyed files taken faults names descs old new a b status
+      → DescsRead files named contents old mid → HasRun files taken faults strict names descs given mid new a b status
+      → HasSurveyed files taken faults strict names descs old new a b status
   ends_so status old mid new a b named given is_named is_given held before read run =
       ends status old mid new a b held before
       (subst (λ (n : List (List ℕ)). DescsRead files n contents old mid) is_named read)
-      (subst (λ (c : List (List ℕ)). HasRun files taken faults names descs c mid new a b status) is_given run)
+      (subst (λ (c : List (List ℕ)). HasRun files taken faults strict names descs c mid new a b status) is_given run)
 
   pub stops_so : (stop : Stop) (old mid new : F) (a b : S) (named given : List (List ℕ)) → named ≡ descs → given ≡ contents
       → files.held mid ≡ files.held old → files.faults old ≤ files.faults mid
-      → DescsRead files named contents old mid → HasBroken files taken faults names given mid new a b stop
-      → HasSurveyed files taken faults names descs old new a b (stop_status stop)
+      → DescsRead files named contents old mid → HasBroken files taken faults strict names given mid new a b stop
+      → HasSurveyed files taken faults strict names descs old new a b (stop_status stop)
   stops_so stop old mid new a b named given is_named is_given held before read broken =
       stops stop old mid new a b held before
       (subst (λ (n : List (List ℕ)). DescsRead files n contents old mid) is_named read)
-      (subst (λ (c : List (List ℕ)). HasBroken files taken faults names c mid new a b stop) is_given broken)
+      (subst (λ (c : List (List ℕ)). HasBroken files taken faults strict names c mid new a b stop) is_given broken)
 
   -- memory is wanting before anything is done
-  pub no_room : (old new : F) (a : S) → HasSurveyed files taken faults names descs old new a a 7
+  pub no_room : (old new : F) (a : S) → HasSurveyed files taken faults strict names descs old new a a 7
   no_room old new a = record {
-    s = nothing;
+    s = nothing strict;
+    asked = refl;
     fates = [];
-    told = nothing_begun taken a;
+    told = nothing_begun taken strict a;
     read = inl refl;
     whole = λ done. absurd (not_done 7 (omega arith) done);
     unread = λ five. absurd (omega (arith, five));
@@ -330,11 +337,12 @@ module _ {F S : Type 0} (files : FilesSeen F) (taken : S → Option (List ℕ)) 
 
   -- a description wasn't read
   pub unread : (stop : Stop) (old new : F) (a : S) → StoppedReading files descs old new stop
-      → HasSurveyed files taken faults names descs old new a a (stop_status stop)
+      → HasSurveyed files taken faults strict names descs old new a a (stop_status stop)
   unread (Unread place fault) old new a stopped = record {
-    s = nothing;
+    s = nothing strict;
+    asked = refl;
     fates = [];
-    told = nothing_begun taken a;
+    told = nothing_begun taken strict a;
     read = inl refl;
     whole = λ done. absurd (not_done 5 (omega arith) done);
     unread = λ five. record { place = place; name = stopped.0; is_named = stopped.1.0; fault = fault; cause = stopped.1.1 };
@@ -345,13 +353,13 @@ module _ {F S : Type 0} (files : FilesSeen F) (taken : S → Option (List ℕ)) 
   unread Memory old new a stopped = no_room old new a
 
   pub unread_so : (stop : Stop) (old new : F) (a : S) (named : List (List ℕ)) → named ≡ descs
-      → StoppedReading files named old new stop → HasSurveyed files taken faults names descs old new a a (stop_status stop)
+      → StoppedReading files named old new stop → HasSurveyed files taken faults strict names descs old new a a (stop_status stop)
   unread_so stop old new a named is_named stopped =
       unread stop old new a (subst (λ (n : List (List ℕ)). StoppedReading files n old new stop) is_named stopped)
 
   -- ---- with the words
 
-  never_four : (status : ℕ) (old new : F) (a b : S) → HasSurveyed files taken faults names descs old new a b status → status ≡ 4 → ⊥
+  never_four : (status : ℕ) (old new : F) (a b : S) → HasSurveyed files taken faults strict names descs old new a b status → status ≡ 4 → ⊥
   never_four status old new a b h four = go h.known
     where
       go : IsDone status ⊎ ((status ≡ 5) ⊎ ((status ≡ 6) ⊎ (status ≡ 7))) → ⊥
@@ -361,22 +369,22 @@ module _ {F S : Type 0} (files : FilesSeen F) (taken : S → Option (List ℕ)) 
       go (inr (inr (inr e))) = omega (arith, e, four)
 
   pub surveyed_so : (is : Bool) (status : ℕ) (old new : F) (a b : S) → is ≡ true
-      → HasSurveyed files taken faults names descs old new a b status
-      → EndsSurvey files taken faults is names descs old new a b status
+      → HasSurveyed files taken faults strict names descs old new a b status
+      → EndsSurvey files taken faults is strict names descs old new a b status
   surveyed_so is status old new a b so h = record {
     usage = λ four. absurd (never_four status old new a b h four);
     refuses = λ no'. absurd (let e : true ≡ false = sym so ∙ no' in cc);
     surveys = λ other. h;
   }
 
-  pub no_survey : (is : Bool) (x : F) (a : S) → is ≡ false → EndsSurvey files taken faults is names descs x x a a 4
+  pub no_survey : (is : Bool) (x : F) (a : S) → is ≡ false → EndsSurvey files taken faults is strict names descs x x a a 4
   no_survey is x a no' = record {
     usage = λ four. (no', (refl, refl));
     refuses = λ e. inl refl;
     surveys = λ other. absurd (other refl);
   }
 
-  pub no_words : (is : Bool) (x : F) (a : S) → EndsSurvey files taken faults is names descs x x a a 7
+  pub no_words : (is : Bool) (x : F) (a : S) → EndsSurvey files taken faults is strict names descs x x a a 7
   no_words is x a = record {
     usage = λ four. absurd (omega (arith, four));
     refuses = λ e. inr refl;
@@ -384,22 +392,22 @@ module _ {F S : Type 0} (files : FilesSeen F) (taken : S → Option (List ℕ)) 
   }
 
 -- words of a survey, whose survey ended so
-pub asked_so : {F S : Type 0} (files : FilesSeen F) (taken : S → Option (List ℕ)) (faults : S → ℕ)
+pub asked_so : {F S : Type 0} (files : FilesSeen F) (taken : S → Option (List ℕ)) (faults : S → ℕ) (strict : Bool)
     (asked given names descs : List (List ℕ))
     (is : Bool) (done : Result ℕ Stop) (status : ℕ) (old new : F) (a b : S) → asked ≡ names → given ≡ descs → is ≡ true
     → IfOk done (λ own. status ≡ own) → IfErr done (λ stop. status ≡ stop_status stop)
-    → IfOk done (λ own. HasSurveyed files taken faults asked given old new a b own)
-    → IfErr done (λ stop. HasSurveyed files taken faults asked given old new a b (stop_status stop))
-    → EndsSurvey files taken faults is names descs old new a b status
-asked_so files taken faults asked given names descs is done status old new a b same_names same_descs so own stop told begun' =
-    surveyed_so files taken faults names descs is status old new a b so
-    (subst (λ (n : List (List ℕ)). HasSurveyed files taken faults n descs old new a b status) same_names
-    (subst (λ (d : List (List ℕ)). HasSurveyed files taken faults asked d old new a b status) same_descs
+    → IfOk done (λ own. HasSurveyed files taken faults strict asked given old new a b own)
+    → IfErr done (λ stop. HasSurveyed files taken faults strict asked given old new a b (stop_status stop))
+    → EndsSurvey files taken faults is strict names descs old new a b status
+asked_so files taken faults strict asked given names descs is done status old new a b same_names same_descs so own stop told begun' =
+    surveyed_so files taken faults strict names descs is status old new a b so
+    (subst (λ (n : List (List ℕ)). HasSurveyed files taken faults strict n descs old new a b status) same_names
+    (subst (λ (d : List (List ℕ)). HasSurveyed files taken faults strict asked d old new a b status) same_descs
     (go done own stop told begun')))
   where
     go : (done : Result ℕ Stop) → IfOk done (λ own. status ≡ own) → IfErr done (λ stop. status ≡ stop_status stop)
-        → IfOk done (λ own. HasSurveyed files taken faults asked given old new a b own)
-        → IfErr done (λ stop. HasSurveyed files taken faults asked given old new a b (stop_status stop))
-        → HasSurveyed files taken faults asked given old new a b status
-    go (Ok own) is' none told none' = subst (HasSurveyed files taken faults asked given old new a b) (sym is') told
-    go (Err stop) none is' none' begun'' = subst (HasSurveyed files taken faults asked given old new a b) (sym is') begun''
+        → IfOk done (λ own. HasSurveyed files taken faults strict asked given old new a b own)
+        → IfErr done (λ stop. HasSurveyed files taken faults strict asked given old new a b (stop_status stop))
+        → HasSurveyed files taken faults strict asked given old new a b status
+    go (Ok own) is' none told none' = subst (HasSurveyed files taken faults strict asked given old new a b) (sym is') told
+    go (Err stop) none is' none' begun'' = subst (HasSurveyed files taken faults strict asked given old new a b) (sym is') begun''

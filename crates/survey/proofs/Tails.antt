@@ -24,21 +24,21 @@ zero_all refused left false e = absurd (go (nat_lt 0 refused) e)
     go true e = omega (arith, e)
     go false e = omega (arith, e)
 
-module _ {S : Type 0} (taken : S → Option (List ℕ)) (faults : S → ℕ) (files descs : List (Vec ℕ)) (names : List (List ℕ))
+module _ {S : Type 0} (taken : S → Option (List ℕ)) (faults : S → ℕ) (strict : Bool) (files descs : List (Vec ℕ)) (names : List (List ℕ))
     (classes : List ClassContent) (counts : FileCounts) (c : Counts) (lost status : ℕ) (all : Bool) where
   -- descriptions, methods, and the counts
   pub is_tail : (a b d e : S) → AllSpell (map (λ (file : Vec ℕ). file.items) files) classes → counts.files ≡ length files
       → c.files ≡ counts.files → c.left_out ≡ counts.left_out → c.refused_files ≡ counts.refused + lost
       → status ≡ status_of c.refused_files all c.left_out
-      → (all ≡ true → AllByRecursion (IsProvedClass (surveyed files descs)) classes)
-      → Went taken faults IsOther (AreDescsTold (surveyed files descs) names lost) a b
-      → Went taken faults (IsTrueLine (surveyed files descs)) (λ lines. all ≡ all_proved lines) b d
-      → Went taken faults IsOther (λ lines. lines ≡ count_line c ∷ []) d e
-      → Went taken faults (IsTrueLine (surveyed files descs)) (IsTail (surveyed files descs) names counts status) a e
+      → (all ≡ true → AllByRecursion (IsProvedClass (surveyed strict files descs)) classes)
+      → Went taken faults IsOther (AreDescsTold (surveyed strict files descs) names lost) a b
+      → Went taken faults (IsTrueLine (surveyed strict files descs)) (λ lines. all ≡ all_proved lines) b d
+      → Went taken faults IsOther (λ lines. lines ≡ count_line strict c ∷ []) d e
+      → Went taken faults (IsTrueLine (surveyed strict files descs)) (IsTail (surveyed strict files descs) names counts status) a e
   is_tail a b d e spelled many own left refused status_is each first second third =
-      let s = surveyed files descs in
+      let s = surveyed strict files descs in
       went_on taken faults (IsTrueLine s) (AreDescsTold s names lost)
-      (λ lines. (m : List (List ℕ)) × ((lines ≡ m ++ count_line c ∷ []) × ((all ≡ all_proved m) × AllByRecursion (IsTrueLine s) m)))
+      (λ lines. (m : List (List ℕ)) × ((lines ≡ m ++ count_line strict c ∷ []) × ((all ≡ all_proved m) × AllByRecursion (IsTrueLine s) m)))
       (IsTail s names counts status) a b e
       (λ l rest told behind. record {
         desc_lines = l;
@@ -58,17 +58,17 @@ module _ {S : Type 0} (taken : S → Option (List ℕ)) (faults : S → ℕ) (fi
         };
       })
       (went_true taken faults s (AreDescsTold s names lost) a b first)
-      (methods second (went_true taken faults s (λ lines. lines ≡ count_line c ∷ []) d e third))
+      (methods second (went_true taken faults s (λ lines. lines ≡ count_line strict c ∷ []) d e third))
     where
-      methods : Went taken faults (IsTrueLine (surveyed files descs)) (λ lines. all ≡ all_proved lines) b d
-          → Went taken faults (IsTrueLine (surveyed files descs)) (λ lines. lines ≡ count_line c ∷ []) d e
-          → Went taken faults (IsTrueLine (surveyed files descs))
-          (λ lines. (m : List (List ℕ)) × ((lines ≡ m ++ count_line c ∷ [])
-          × ((all ≡ all_proved m) × AllByRecursion (IsTrueLine (surveyed files descs)) m))) b e
+      methods : Went taken faults (IsTrueLine (surveyed strict files descs)) (λ lines. all ≡ all_proved lines) b d
+          → Went taken faults (IsTrueLine (surveyed strict files descs)) (λ lines. lines ≡ count_line strict c ∷ []) d e
+          → Went taken faults (IsTrueLine (surveyed strict files descs))
+          (λ lines. (m : List (List ℕ)) × ((lines ≡ m ++ count_line strict c ∷ [])
+          × ((all ≡ all_proved m) × AllByRecursion (IsTrueLine (surveyed strict files descs)) m))) b e
       methods x y =
-          let s = surveyed files descs in
-          went_on taken faults (IsTrueLine s) (λ lines. lines ≡ x.lines) (λ lines. lines ≡ count_line c ∷ [])
+          let s = surveyed strict files descs in
+          went_on taken faults (IsTrueLine s) (λ lines. lines ≡ x.lines) (λ lines. lines ≡ count_line strict c ∷ [])
           (λ lines. (m : List (List ℕ))
-          × ((lines ≡ m ++ count_line c ∷ []) × ((all ≡ all_proved m) × AllByRecursion (IsTrueLine s) m))) b d e
+          × ((lines ≡ m ++ count_line strict c ∷ []) × ((all ≡ all_proved m) × AllByRecursion (IsTrueLine s) m))) b d e
           (λ l m f g. (x.lines, (ap (λ (k : List (List ℕ)). k ++ m) f ∙ ap (λ (k : List (List ℕ)). x.lines ++ k) g, (x.are, x.each))))
           (record { lines = x.lines; put = x.put; each = x.each; counts = x.counts; are = refl }) y

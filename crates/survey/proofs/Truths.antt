@@ -9,12 +9,14 @@ use Rattle.list_views.specs.FaultWords.{joined}
 use Rattle.list_views.specs.Shown.{is_hidden, has_no_hidden_byte, method_text, shown}
 use Rattle.list_views.proofs.ReadBack.{names_plain}
 use Rattle.std.proofs.lemmas.Bool.{eqb-true}
+use Rattle.survey.specs.declared.assuming.Assumed.{Assumed}
 use Rattle.survey.specs.declared.lacking.Lacks.{Lacks}
 use Rattle.survey.specs.declared.survey_notes.touching.Touched.{Touched}
 use Rattle.survey.specs.declared.lines.Head.{Head}
 use Rattle.survey.specs.declared.lines.Head.TheVariants.{Maybe, Refused, LeftOut, Count, Why}
-use Rattle.survey.specs.Claims.{Surveyed, IsProved, IsTrueLine, AreTrue}
+use Rattle.survey.specs.Claims.{Surveyed, IsProvedSo, IsTrueLine, AreTrue}
 use Rattle.survey.specs.Lines.{yes_line, words_text, lacks_text, no_input_text, no_class_text, touched_text, given_text}
+use Rattle.survey.specs.Lines.{narrow_text, others_text, passed_text, assumed_text}
 use Rattle.survey.specs.Lines.{errors_text, exceptions_text, constants_text}
 use Rattle.survey.specs.Lines.{printed, ended, text_of}
 use Rattle.survey.specs.inner.Putting.{IsOther}
@@ -137,6 +139,31 @@ no_class_stays : (no_class : Option (List ℕ)) → list_all stays (no_class_tex
 no_class_stays None = refl
 no_class_stays (Some name) = both_stay (codes " no-class=") (shown name) refl (name_stays name)
 
+narrow_stays : (assumed : Assumed) → list_all stays (narrow_text assumed) ≡ true
+narrow_stays assumed = go assumed.narrow
+  where
+    go : (b : Bool) → list_all stays (cond b (codes " narrow") []) ≡ true
+    go true = refl
+    go false = refl
+
+passed_stays : (assumed : Assumed) → list_all stays (passed_text assumed) ≡ true
+passed_stays assumed = go assumed.passed
+  where
+    go : (b : Bool) → list_all stays (cond b (codes " passed") []) ≡ true
+    go true = refl
+    go false = refl
+
+others_stay : (others : List (List ℕ)) → list_all stays (others_text others) ≡ true
+others_stay [] = refl
+others_stay (name ∷ others) = both_stay (codes " initialised=" ++ shown name) (others_text others)
+    (both_stay (codes " initialised=") (shown name) refl (name_stays name)) (others_stay others)
+
+assumed_stay : (assumed : Assumed) → list_all stays (assumed_text assumed) ≡ true
+assumed_stay assumed =
+    both_stay (narrow_text assumed ++ others_text assumed.others) (passed_text assumed)
+    (both_stay (narrow_text assumed) (others_text assumed.others) (narrow_stays assumed) (others_stay assumed.others))
+    (passed_stays assumed)
+
 errors_stay : (touched : Touched) → list_all stays (errors_text touched) ≡ true
 errors_stay touched = go touched.errors
   where
@@ -158,19 +185,20 @@ constants_stay touched = go touched.constants
     go true = refl
     go false = refl
 
-module _ (s : Surveyed) (class name desc : List ℕ) (given : Bool) (lacks : Lacks) (touched : Touched) where
-  yes_stays : list_all stays (yes_line class name desc given lacks touched) ≡ true
-  yes_stays = both_stay (joined (codes "YES " ∷ method_text class name desc ∷ [])) (words_text given lacks touched)
+module _ (s : Surveyed) (class name desc : List ℕ) (given : Bool) (assumed : Assumed) (lacks : Lacks) (touched : Touched) where
+  yes_stays : list_all stays (yes_line class name desc given assumed lacks touched) ≡ true
+  yes_stays = both_stay (joined (codes "YES " ∷ method_text class name desc ∷ [])) (words_text given assumed lacks touched)
       (all_stay (codes "YES " ∷ method_text class name desc ∷ []) (refl, (method_stays class name desc, tt)))
-      (both_stay (given_text given ++ lacks_text lacks) (touched_text touched)
-      (both_stay (given_text given) (lacks_text lacks) (given_stays given)
+      (both_stay ((given_text given ++ assumed_text assumed) ++ lacks_text lacks) (touched_text touched)
+      (both_stay (given_text given ++ assumed_text assumed) (lacks_text lacks)
+      (both_stay (given_text given) (assumed_text assumed) (given_stays given) (assumed_stay assumed))
       (both_stay (no_input_text lacks.no_input) (no_class_text lacks.no_class) (no_input_stays lacks.no_input)
       (no_class_stays lacks.no_class)))
       (both_stay (errors_text touched ++ exceptions_text touched) (constants_text touched)
       (both_stay (errors_text touched) (exceptions_text touched) (errors_stay touched) (exceptions_stay touched))
       (constants_stay touched)))
 
-  pub yes_true : IsYesJudged s class name desc given lacks → IsTrueLine s (yes_line class name desc given lacks touched)
+  pub yes_true : IsYesJudged s class name desc given assumed lacks → IsTrueLine s (yes_line class name desc given assumed lacks touched)
   yes_true judged = record {
     one = yes_stays;
     holds = λ begins. record {
@@ -178,6 +206,7 @@ module _ (s : Surveyed) (class name desc : List ℕ) (given : Bool) (lacks : Lac
       name = name;
       desc = desc;
       given = given;
+      assumed = assumed;
       lacks = lacks;
       touched = touched;
       is = refl;
@@ -187,21 +216,21 @@ module _ (s : Surveyed) (class name desc : List ℕ) (given : Bool) (lacks : Lac
   }
 
 -- such a line is no other
-yes_proved : (class name desc : List ℕ) (given : Bool) (lacks : Lacks) (touched : Touched)
-    → all_proved (yes_line class name desc given lacks touched ∷ []) ≡ true
-yes_proved class name desc given lacks touched = refl
+yes_proved : (class name desc : List ℕ) (given : Bool) (assumed : Assumed) (lacks : Lacks) (touched : Touched)
+    → all_proved (yes_line class name desc given assumed lacks touched ∷ []) ≡ true
+yes_proved class name desc given assumed lacks touched = refl
 
 -- ---- the lines of a method
 
 -- of one whose every run ends
-pub yes_lined : (class name desc line before text : List ℕ) (given : Bool) (lacks : Lacks) (touched : Touched)
-    → line ≡ yes_line class name desc given lacks touched → before ≡ [] → text ≡ before ++ ended line
-    → (s : Surveyed) → IsYesJudged s class name desc given lacks → AreLines s true text
-yes_lined class name desc line before text given lacks touched e none grown s judged = record {
+pub yes_lined : (class name desc line before text : List ℕ) (given : Bool) (assumed : Assumed) (lacks : Lacks) (touched : Touched)
+    → line ≡ yes_line class name desc given assumed lacks touched → before ≡ [] → text ≡ before ++ ended line
+    → (s : Surveyed) → IsYesJudged s class name desc given assumed lacks → AreLines s true text
+yes_lined class name desc line before text given assumed lacks touched e none grown s judged = record {
   lines = line ∷ [];
   are = grown ∙ (ap (λ t. t ++ ended line) none ∙ sym (text_one line));
-  each = (subst (IsTrueLine s) (sym e) (yes_true s class name desc given lacks touched judged), tt);
-  sort = subst (λ (l : List ℕ). all_proved (l ∷ []) ≡ true) (sym e) (yes_proved class name desc given lacks touched);
+  each = (subst (IsTrueLine s) (sym e) (yes_true s class name desc given assumed lacks touched judged), tt);
+  sort = subst (λ (l : List ℕ). all_proved (l ∷ []) ≡ true) (sym e) (yes_proved class name desc given assumed lacks touched);
 }
 
 -- of one of which no more is known: its first line
@@ -232,7 +261,7 @@ one_advice s old new words grown so_far =
     }
 
 -- it is proved
-pub judged_proved : (s : Surveyed) (class name desc : List ℕ) (given : Bool) (lacks : Lacks) → IsYesJudged s class name desc given lacks
-    → (under : Bool) × IsProved s under class name desc
-judged_proved s class name desc given lacks judged =
-    (given, record { text = judged.0; is = judged.1.0.0; ends = judged.1.0.1 })
+pub judged_proved : (s : Surveyed) (class name desc : List ℕ) (given : Bool) (assumed : Assumed) (lacks : Lacks)
+    → IsYesJudged s class name desc given assumed lacks → IsProvedSo s class name desc
+judged_proved s class name desc given assumed lacks judged =
+    (given, (assumed, record { text = judged.0; is = judged.1.0.0; ends = judged.1.0.1 }))

@@ -1,9 +1,10 @@
 -- Items of a list, one after another.
 use Rattle.std.proofs.Common.{◌≡◌, ◌∙◌, ℕ, ◌+◌, ◌<◌, ◌≤◌, List, [], ◌∷◌, ◌++◌, length, map, drop, get_or, sym, ap, subst}
-use Rattle.std.proofs.Common.{append_assoc, append-nil}
+use Rattle.std.proofs.Common.{append_assoc, append-nil, codes}
 use Rattle.std.specs.List.{AllByRecursion}
 use Rattle.std.proofs.lemmas.List.{drop_more, at_drop_all, map-append}
-use Rattle.survey.specs.Lines.{printed}
+use Rattle.list_views.specs.Shown.{shown}
+use Rattle.survey.specs.Lines.{printed, others_text}
 use Rattle.survey.specs.Words.{descs_in}
 
 -- ---- what holds of each
@@ -47,6 +48,26 @@ printed_more line new whole bytes i b l e push so_far =
 pub printed_end : (line whole bytes : List ℕ) (i : ℕ) → length bytes ≤ i → line ++ map printed (drop i bytes) ≡ whole → line ≡ whole
 printed_end line whole bytes i l so_far =
     sym (append-nil line) ∙ (ap (λ bs. line ++ map printed bs) (sym (at_drop_all (λ (bs : List ℕ). bs) bytes i l)) ∙ so_far)
+
+-- ---- words for classes that are taken to be initialised
+
+pub others_more : (line between new whole : List ℕ) (others : List (List ℕ)) (i : ℕ) (name : List ℕ) → i < length others
+    → name ≡ get_or others i name → between ≡ line ++ codes " initialised=" → new ≡ between ++ shown name
+    → line ++ others_text (drop i others) ≡ whole → new ++ others_text (drop (i + 1) others) ≡ whole
+others_more line between new whole others i name l e first second so_far =
+    let here : drop i others ≡ name ∷ drop (i + 1) others = drop_more others i name l ∙ ap (λ y. y ∷ drop (i + 1) others) (sym e) in
+    let rest = others_text (drop (i + 1) others) in
+    let word = codes " initialised=" in
+    ap (λ t. t ++ rest) (second ∙ ap (λ t. t ++ shown name) first)
+    ∙ (append_assoc (line ++ word) (shown name) rest
+    ∙ (append_assoc line word (shown name ++ rest)
+    ∙ (ap (λ t. line ++ t) (sym (append_assoc word (shown name) rest)) ∙ (ap (λ ns. line ++ others_text ns) (sym here) ∙ so_far))))
+
+pub others_end : (line whole : List ℕ) (others : List (List ℕ)) (i : ℕ) → length others ≤ i
+    → line ++ others_text (drop i others) ≡ whole → line ≡ whole
+others_end line whole others i l so_far =
+    sym (append-nil line)
+    ∙ (ap (λ ns. line ++ others_text ns) (sym (at_drop_all (λ (ns : List (List ℕ)). ns) others i l)) ∙ so_far)
 
 -- ---- names of descriptions
 

@@ -1,5 +1,6 @@
 pub mod Lines
 pub mod Lacking
+pub mod Assumptions
 pub mod Claims
 pub mod Fates
 pub mod Words

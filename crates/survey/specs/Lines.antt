@@ -5,6 +5,7 @@ use Rattle.std.specs.List.{flat_map}
 use Rattle.std.specs.Fmt.{decimal}
 use Rattle.list_views.specs.FaultWords.{joined}
 use Rattle.list_views.specs.Shown.{method_text, shown}
+use Rattle.survey.specs.declared.assuming.Assumed.{Assumed}
 use Rattle.survey.specs.declared.lacking.Lacks.{Lacks}
 use Rattle.survey.specs.declared.survey_notes.touching.Touched.{Touched}
 
@@ -13,6 +14,22 @@ use Rattle.survey.specs.declared.survey_notes.touching.Touched.{Touched}
 -- the word behind a method whose description was handed in
 abbrev pub given_text : Bool → List ℕ
 given_text given = if given then codes " described" else []
+
+-- the word behind a method whose parameters of type boolean, byte, char and short have the numbers of their types alone
+abbrev pub narrow_text : Assumed → List ℕ
+narrow_text assumed = if assumed.narrow then codes " narrow" else []
+
+-- a word for each other class that is taken to be initialised before the run, with its name as lines show it
+abbrev pub others_text : List (List ℕ) → List ℕ
+others_text others = flat_map (λ name. codes " initialised=" ++ shown name) others
+
+-- the word behind a method in whose world an interface is passed over
+abbrev pub passed_text : Assumed → List ℕ
+passed_text assumed = if assumed.passed then codes " passed" else []
+
+-- the words for all that is assumed
+abbrev pub assumed_text : Assumed → List ℕ
+assumed_text assumed = (narrow_text assumed ++ others_text assumed.others) ++ passed_text assumed
 
 -- the word behind a method that no state begins: some input of the description can't be given with these classes
 abbrev pub no_input_text : Bool → List ℕ
@@ -46,14 +63,16 @@ constants_text touched = if touched.constants then codes " constant-value" else 
 abbrev pub touched_text : Touched → List ℕ
 touched_text touched = (errors_text touched ++ exceptions_text touched) ++ constants_text touched
 
--- the words behind a proved method: whether its description was handed in, what is missing, and the premises that its program touches
-abbrev pub words_text : Bool → Lacks → Touched → List ℕ
-words_text given lacks touched = (given_text given ++ lacks_text lacks) ++ touched_text touched
+-- the words behind a proved method: whether its description was handed in, what is assumed, what is missing, and the premises that its
+-- program touches
+abbrev pub words_text : Bool → Assumed → Lacks → Touched → List ℕ
+words_text given assumed lacks touched = ((given_text given ++ assumed_text assumed) ++ lacks_text lacks) ++ touched_text touched
 
 -- the line of a proved method: `YES CLASS.NAMEDESC`, by its names as lines show them, and its words. No blank is part of a name as it is
 -- shown, so the words behind the names are no part of one
-abbrev pub yes_line : List ℕ → List ℕ → List ℕ → Bool → Lacks → Touched → List ℕ
-yes_line class name desc given lacks touched = joined (codes "YES " ∷ method_text class name desc ∷ []) ++ words_text given lacks touched
+abbrev pub yes_line : List ℕ → List ℕ → List ℕ → Bool → Assumed → Lacks → Touched → List ℕ
+yes_line class name desc given assumed lacks touched =
+    joined (codes "YES " ∷ method_text class name desc ∷ []) ++ words_text given assumed lacks touched
 
 -- ---- every other line
 
@@ -75,25 +94,30 @@ is_unproved line = begins (codes "MAYBE ") line || begins (codes "REFUSED ") lin
 abbrev pub file_line : List ℕ → List ℕ → List ℕ → List ℕ → List ℕ
 file_line head name place words = head ++ map printed ((name ++ place) ++ words)
 
--- how many lines and files there are of each sort
+-- how many lines and files there are of each sort; of those that begin with YES, how many show that something is taken to be so of classes
 pub record Counts : Type 0 where
   pub yes : ℕ
+  pub assumed : ℕ
   pub maybe : ℕ
   pub refused : ℕ
   pub files : ℕ
   pub left_out : ℕ
   pub refused_files : ℕ
 
+-- where nothing is taken to be so, nothing is said of how many lines show it
+abbrev pub assumed_count : Bool → ℕ → List ℕ
+assumed_count strict count = if strict then [] else codes " assumed=" ++ decimal count
+
 -- the counts in words
-abbrev pub count_rest : Counts → List ℕ
-count_rest c =
-    joined (codes "yes=" ∷ decimal c.yes ∷ codes " maybe=" ∷ decimal c.maybe ∷ codes " refused=" ∷ decimal c.refused
-    ∷ codes " files=" ∷ decimal c.files ∷ codes " left-out=" ∷ decimal c.left_out
+abbrev pub count_rest : Bool → Counts → List ℕ
+count_rest strict c =
+    joined (codes "yes=" ∷ decimal c.yes ∷ assumed_count strict c.assumed ∷ codes " maybe=" ∷ decimal c.maybe
+    ∷ codes " refused=" ∷ decimal c.refused ∷ codes " files=" ∷ decimal c.files ∷ codes " left-out=" ∷ decimal c.left_out
     ∷ codes " refused-files=" ∷ decimal c.refused_files ∷ [])
 
 -- the line of counts, the last one of a whole survey
-abbrev pub count_line : Counts → List ℕ
-count_line c = codes "COUNT " ++ map printed (count_rest c)
+abbrev pub count_line : Bool → Counts → List ℕ
+count_line strict c = codes "COUNT " ++ map printed (count_rest strict c)
 
 -- ---- texts
 

@@ -69,7 +69,7 @@ status_of refused all left = if nat_lt 0 refused then 3 else (if all && (left ==
 
 -- A survey that came to its end. The output took these lines, and nothing else: those of class files, of descriptions and of methods,
 -- and that of the counts. Each class file that isn't surveyed has its line, and so has each description that is of no use. The counts
--- of files are right, and so is the status. Status 0 says that each method with code is proved.
+-- of files are right, and so is the status. Status 0 says that each method that is asked is proved, with what its line shows.
 pub record IsWhole {S : Type 0} (taken : S → Option (List ℕ)) (names descs : List (List ℕ)) (fates : List Fate) (s : Surveyed)
     (old new : S)
     (status : ℕ) : Type 0 where
@@ -78,11 +78,11 @@ pub record IsWhole {S : Type 0} (taken : S → Option (List ℕ)) (names descs :
   pub method_lines : List (List ℕ)
   pub counts : Counts
   pub put : Appends (taken old) (taken new)
-      (text_of (file_lines ++ (desc_lines ++ (method_lines ++ count_line counts ∷ []))))
+      (text_of (file_lines ++ (desc_lines ++ (method_lines ++ count_line s.strict counts ∷ []))))
   pub said : AreSaid file_lines names fates
   pub useful : (place : ℕ) (name text : List ℕ) → slice_get descs place ≡ Some name → slice_get s.descs place ≡ Some text
       → IsUsed s place text ⊎ Among (SaysUseless name) desc_lines
-  pub each : AllByRecursion (IsTrueLine s) (file_lines ++ (desc_lines ++ (method_lines ++ count_line counts ∷ [])))
+  pub each : AllByRecursion (IsTrueLine s) (file_lines ++ (desc_lines ++ (method_lines ++ count_line s.strict counts ∷ [])))
   pub files_are : counts.files ≡ length s.files
   pub left_are : counts.left_out ≡ left_count fates
   pub refused_are : counts.refused_files ≡ refused_count fates + length desc_lines
@@ -93,16 +93,17 @@ pub record IsWhole {S : Type 0} (taken : S → Option (List ℕ)) (names descs :
 abbrev pub IsDone : ℕ → Type 0
 IsDone status = (status ≡ 0) ⊎ ((status ≡ 1) ⊎ (status ≡ 3))
 
--- What a call puts whose words name class files and descriptions. The output took the beginning of a text of whole lines, of which each
+-- What a call puts whose words name class files and descriptions, and ask that nothing be taken to be so, or don't. The output took the beginning of a text of whole lines, of which each
 -- that begins with YES is true of what is surveyed. Nothing is, or what was read. Statuses 0, 1 and 3 are those of a whole survey. Status
 -- 5 comes where a description was not read, and status 6 where the count of the sink's faults rose. There is no other but 7, which is
 -- that of want of memory.
 pub record HasSurveyed {F S : Type 0} (files : FilesSeen F) (taken : S → Option (List ℕ)) (out_faults : S → ℕ)
-    (names descs : List (List ℕ)) (files_old files_new : F) (old new : S) (status : ℕ) : Type 0 where
+    (strict : Bool) (names descs : List (List ℕ)) (files_old files_new : F) (old new : S) (status : ℕ) : Type 0 where
   pub s : Surveyed
   pub fates : List Fate
   pub told : BeginsToTell taken s old new
-  pub read : (s ≡ nothing) ⊎ WereRead files names descs fates s files_old files_new
+  pub asked : s.strict ≡ strict
+  pub read : (s ≡ nothing strict) ⊎ WereRead files names descs fates s files_old files_new
   pub whole : IsDone status → WereRead files names descs fates s files_old files_new × IsWhole taken names descs fates s old new status
   pub unread : status ≡ 5 → IsUnreadDesc files descs files_old files_new
   pub unwritten : status ≡ 6 → Rose (out_faults old) (out_faults new)
@@ -112,7 +113,7 @@ pub record HasSurveyed {F S : Type 0} (files : FilesSeen F) (taken : S → Optio
 
 -- Status 4 comes exactly where the words are none of a survey, or else memory is wanting; then nothing is put and nothing read.
 pub record EndsSurvey {F S : Type 0} (files : FilesSeen F) (taken : S → Option (List ℕ)) (out_faults : S → ℕ)
-    (is_survey : Bool) (names descs : List (List ℕ)) (files_old files_new : F) (old new : S) (status : ℕ) : Type 0 where
+    (is_survey strict : Bool) (names descs : List (List ℕ)) (files_old files_new : F) (old new : S) (status : ℕ) : Type 0 where
   pub usage : (status ≡ 4) → (is_survey ≡ false) × ((new ≡ old) × (files_new ≡ files_old))
   pub refuses : is_survey ≡ false → (status ≡ 4) ⊎ (status ≡ 7)
-  pub surveys : (status ≡ 4 → ⊥) → HasSurveyed files taken out_faults names descs files_old files_new old new status
+  pub surveys : (status ≡ 4 → ⊥) → HasSurveyed files taken out_faults strict names descs files_old files_new old new status

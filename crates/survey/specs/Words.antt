@@ -1,8 +1,18 @@
--- The words of a survey: `[--why] [--desc FILE].. CLASS..`.
-use Rattle.std.specs.Prelude.{ℕ, ◌==◌, ◌&&◌, not, Bool, true, List, [], ◌∷◌, length, nat_le, codes, if◌then◌else◌}
+-- The words of a survey: `[--strict] [--why] [--desc FILE].. CLASS..`.
+use Rattle.std.specs.Prelude.{ℕ, ◌==◌, ◌&&◌, not, Bool, true, false, List, [], ◌∷◌, length, nat_le, codes, if◌then◌else◌}
 use Rattle.std.specs.List.{list_all}
 use Rattle.std.specs.Str.{bytes_eq}
 use Rattle.class_base.specs.Limits.{most_classes}
+
+-- the words begin with `--strict`
+abbrev pub is_strict : List (List ℕ) → Bool
+is_strict [] = false
+is_strict (word ∷ words) = bytes_eq word (codes "--strict")
+
+-- the words behind `--strict`, which may stand first
+abbrev pub behind_strict : List (List ℕ) → List (List ℕ)
+behind_strict [] = []
+behind_strict (word ∷ words) = if bytes_eq word (codes "--strict") then words else word ∷ words
 
 -- the words behind `--why`, which may stand first
 abbrev pub behind_why : List (List ℕ) → List (List ℕ)
@@ -23,11 +33,11 @@ behind_descs (word ∷ name ∷ words) = if bytes_eq word (codes "--desc") then 
 
 -- the words that name descriptions
 abbrev pub desc_words : List (List ℕ) → List (List ℕ)
-desc_words words = descs_in (behind_why words)
+desc_words words = descs_in (behind_why (behind_strict words))
 
 -- the words that name class files, behind all descriptions
 abbrev pub class_words : List (List ℕ) → List (List ℕ)
-class_words words = behind_descs (behind_why words)
+class_words words = behind_descs (behind_why (behind_strict words))
 
 -- a word that names a file does not begin with `-`
 abbrev pub is_file_word : List ℕ → Bool

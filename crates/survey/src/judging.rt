@@ -1,29 +1,30 @@
 //! What is said of one method.
-ghost use Rattle.std.specs.Prelude.{◌≡◌, ◌≤◌, length, map, slice_get, Some, IfOk, IfSome, IsTrue};
-ghost use Rattle.std.specs.List.{AllByRecursion};
+ghost use Rattle.std.specs.Prelude.{◌≡◌, ◌≤◌, [], true, false, length, map, slice_get, Some, Ok, IfOk, IfSome, IsTrue};
 ghost use Rattle.class_base.specs.Limits.{most_classes};
-ghost use Rattle.class_world.specs.Linking.{CanBeRead};
-ghost use Rattle.class_world.specs.Members.{find_method};
-ghost use Rattle.class_world.specs.Resolve.{has_body};
 ghost use Rattle.class_world.specs.Worlds.{classes_of};
 ghost use Rattle.class_program.specs.Views.{program_of};
 ghost use Rattle.input_text.specs.Answers.{SaysOf};
 ghost use Rattle.input_text.specs.Descriptions.{description_of};
+ghost use Rattle.class_calls.specs.describe.Lines.{IsMethodProgram, AreNeeded};
 ghost use Rattle.class_calls.specs.describe.Templates.{IsTemplate};
+ghost use Rattle.survey.specs.Assumptions.{Shows};
 ghost use Rattle.prove_call.specs.Headline.{IsProved as SaysYes};
-ghost use Rattle.survey.specs.Claims.{Surveyed, NamesMethod, IsGivenText, IsOpenText};
-ghost use Rattle.survey.specs.inner.Wording.{surveyed, IsMethodProgram, IsUnder, IsJudged};
+ghost use Rattle.survey.specs.Claims.{Surveyed, NamesMethod, IsHandedIn, IsGivenText, IsOpenText};
+ghost use Rattle.survey.specs.inner.Wording.{surveyed, SaysLines, IsUnder, IsJudged};
 
+use crate::assuming::{Assumed, assumed_of, has_narrow};
 use crate::lacking::{Lacks, lacks_of};
 use crate::lines::{MethodWords, method_text};
 use crate::survey_notes::{Sources, Touched, premises_of};
 use crate::survey_why::{NARROWINGS, narrowed, put_advice, reason_text};
-use class_calls::describe::{DescribeFault, template};
+use class_calls::describe::{
+    DescribeFault, Leave, MethodNames, UnderLines, program_under, template,
+};
 use class_program::Program;
 use class_read::ClassView;
-use class_world::{LinkFault, MethodRef, World};
-use input_steps::{Fault, Place, Refused, close, link, read_classes};
-use input_text::{DescFault, DescText};
+use class_world::LinkFault;
+use input_steps::{Fault, Place, Refused};
+use input_text::{DescFault, DescText, WorldLine};
 use list_views::Seq;
 use prove_call::{Answer, prove_line};
 use std::alloc::{AllocError, Global};
@@ -40,6 +41,10 @@ pub(crate) struct Scope<'s, 'a> {
     pub(crate) classes: &'s [ClassView<'a>],
     /// The descriptions that were handed in.
     pub(crate) descs: &'s [Vec<u8>],
+    /// The interfaces that are passed over, as lines about classes.
+    pub(crate) lines: &'s [WorldLine],
+    /// Whether nothing is assumed of classes and parameters.
+    pub(crate) strict: bool,
     /// Whether advice is given.
     pub(crate) why: bool,
 }
@@ -61,6 +66,8 @@ pub(crate) enum Judged {
     Yes {
         /// Under a description that was handed in; else under its template.
         given: bool,
+        /// What is assumed of classes and parameters.
+        assumed: Assumed,
         /// What is missing behind that.
         lacks: Lacks,
         /// The premises that its program touches.
@@ -92,43 +99,52 @@ fn no_entry(alloc: Global, method: &MethodWords<'_>) -> Result<Refused, AllocErr
     })
 }
 
-/// The method of these names, which has a body.
-fn entry_in(
+/// The program of a method, under the lines that are given and, where there is leave, those that it needs.
+fn method_program<'a>(
     alloc: Global,
-    world: &World<'_>,
+    files: &'a [Vec<u8>],
+    lines: &[WorldLine],
     method: &MethodWords<'_>,
-) -> Result<MethodRef, Refused>
-    ensures found { IfOk result (λ entry. find_method (classes_of world.now) method.now.class.now method.now.name.now
-        method.now.desc.now ≡ Some entry) }
-    ensures body { IfOk result (λ entry. IsTrue (has_body (classes_of world.now) entry)) }
+    leave: Leave,
+) -> Result<UnderLines<'a>, Refused>
+    requires { length files.now ≤ most_classes }
+    ensures program { IfOk result (λ under. IsMethodProgram under.lines (map (λ file. file.items) files.now) method.now.class.now
+        method.now.name.now method.now.desc.now (program_of under.program)) }
+    ensures needed { IfOk result (λ under. AreNeeded leave (map (λ file. file.items) files.now) method.now.class.now
+        method.now.name.now method.now.desc.now lines.now under.lines) }
 {
-    match world.find(method.class, method.name, method.desc) {
-        Some(entry) => {
-            if world.has_body(entry) {
-                Ok(entry)
-            } else {
-                Err(no_entry(alloc, method)?)
-            }
-        }
+    let names = MethodNames {
+        class: method.class,
+        name: method.name,
+        desc: method.desc,
+    };
+    match program_under(alloc, files, lines, &names, leave)? {
+        Some(under) => Ok(under),
         None => Err(no_entry(alloc, method)?),
     }
 }
 
-/// The program of a method.
-#[tactic(auto, using(crate::proofs::Judgements::method_program, crate::proofs::Judgements::few_classes, crate::proofs::Judgements::classes_read))]
-fn method_program<'a>(
+/// The program of a method, under the lines that are given.
+#[tactic(auto, using(class_calls::proofs::Answered::as_given))]
+fn program_as_given<'a>(
     alloc: Global,
     files: &'a [Vec<u8>],
+    lines: &[WorldLine],
     method: &MethodWords<'_>,
-) -> Result<Program<'a>, Refused>
+) -> Result<UnderLines<'a>, Refused>
     requires { length files.now ≤ most_classes }
-    ensures { IfOk result (λ program. IsMethodProgram (map (λ file. file.items) files.now) method.now.class.now method.now.name.now
-        method.now.desc.now (program_of program)) }
+    ensures program { IfOk result (λ under. IsMethodProgram under.lines (map (λ file. file.items) files.now) method.now.class.now
+        method.now.name.now method.now.desc.now (program_of under.program)) }
+    ensures lines { IfOk result (λ under. under.lines ≡ lines.now) }
 {
-    let classes = read_classes(alloc, files)?;
-    let world = link(alloc, classes)?;
-    let entry = entry_in(alloc, &world, method)?;
-    close(alloc, world, entry)
+    let leave = Leave {
+        initialised: false,
+        passed: false,
+    };
+    match method_program(alloc, files, lines, method, leave) {
+        Ok(under) => Ok(under),
+        Err(refused) => Err(refused),
+    }
 }
 
 /// Whether a description's text names a method.
@@ -157,13 +173,13 @@ pub(crate) fn names_method(
 }
 
 /// The first description that names a method.
-#[tactic(auto, using(crate::proofs::Judgements::is_given))]
+#[tactic(auto, using(crate::proofs::Judgements::is_handed_in))]
 fn given_for<'s>(
     alloc: Global,
     descs: &'s [Vec<u8>],
     method: &MethodWords<'_>,
 ) -> Result<Option<&'s Vec<u8>>, AllocError>
-    ensures { IfOk result (λ found. IfSome found (λ text. IsGivenText (map (λ desc. desc.items) descs.now) method.now.class.now
+    ensures { IfOk result (λ found. IfSome found (λ text. IsHandedIn (map (λ desc. desc.items) descs.now) method.now.class.now
         method.now.name.now method.now.desc.now text.now.items)) }
 {
     for text in descs {
@@ -303,21 +319,24 @@ fn proved(
     alloc: Global,
     scope: &Scope<'_, '_>,
     method: &MethodWords<'_>,
-    program: &Program<'_>,
+    under: &UnderLines<'_>,
     given: bool,
+    assumed: Assumed,
     text: &[u8],
 ) -> Result<Judged, Refused>
-    requires program { IsMethodProgram (map (λ file. file.items) scope.now.files.now) method.now.class.now method.now.name.now
-        method.now.desc.now (program_of program.now) }
-    requires under { IsUnder (surveyed scope.now.files.now scope.now.descs.now) given method.now.class.now method.now.name.now
-        method.now.desc.now text.now }
-    ensures { IfOk result (IsJudged (surveyed scope.now.files.now scope.now.descs.now) method.now.class.now method.now.name.now
-        method.now.desc.now) }
+    requires program { IsMethodProgram under.now.lines (map (λ file. file.items) scope.now.files.now) method.now.class.now
+        method.now.name.now method.now.desc.now (program_of under.now.program) }
+    requires lines { SaysLines text.now under.now.lines }
+    requires proved { IsUnder (surveyed scope.now.strict scope.now.files.now scope.now.descs.now) given assumed method.now.class.now
+        method.now.name.now method.now.desc.now text.now }
+    ensures { IfOk result (IsJudged (surveyed scope.now.strict scope.now.files.now scope.now.descs.now) method.now.class.now
+        method.now.name.now method.now.desc.now) }
 {
-    let lacks = lacks_of(alloc, scope.files, method, program, text)?;
-    let touched = premises_of(alloc, &scope.sources(), program)?;
+    let lacks = lacks_of(alloc, scope.files, method, under, text)?;
+    let touched = premises_of(alloc, &scope.sources(), &under.program)?;
     Ok(Judged::Yes {
         given,
+        assumed,
         lacks,
         touched,
     })
@@ -328,46 +347,95 @@ fn told(
     alloc: Global,
     scope: &Scope<'_, '_>,
     method: &MethodWords<'_>,
-    program: &Program<'_>,
+    under: &UnderLines<'_>,
     given: bool,
+    assumed: Assumed,
     text: &[u8],
     answer: &Answer,
 ) -> Result<Judged, Refused>
     requires few { length scope.now.files.now ≤ most_classes }
-    requires program { IsMethodProgram (map (λ file. file.items) scope.now.files.now) method.now.class.now method.now.name.now
-        method.now.desc.now (program_of program.now) }
-    requires proved { answer.now.status ≡ 0 → IsUnder (surveyed scope.now.files.now scope.now.descs.now) given method.now.class.now
-        method.now.name.now method.now.desc.now text.now }
-    ensures { IfOk result (IsJudged (surveyed scope.now.files.now scope.now.descs.now) method.now.class.now method.now.name.now
-        method.now.desc.now) }
+    requires program { IsMethodProgram under.now.lines (map (λ file. file.items) scope.now.files.now) method.now.class.now
+        method.now.name.now method.now.desc.now (program_of under.now.program) }
+    requires lines { SaysLines text.now under.now.lines }
+    requires proved { answer.now.status ≡ 0 → IsUnder (surveyed scope.now.strict scope.now.files.now scope.now.descs.now) given assumed
+        method.now.class.now method.now.name.now method.now.desc.now text.now }
+    ensures { IfOk result (IsJudged (surveyed scope.now.strict scope.now.files.now scope.now.descs.now) method.now.class.now
+        method.now.name.now method.now.desc.now) }
 {
     if answer.status == 0 {
-        proved(alloc, scope, method, program, given, text)
+        proved(alloc, scope, method, under, given, assumed, text)
     } else {
         let template = if given { None } else { Some(text) };
-        Ok(maybe(alloc, scope, method, program, template, answer)?)
+        Ok(maybe(alloc, scope, method, &under.program, template, answer)?)
     }
 }
 
-/// What is said of a method under a description that was handed in.
+/// What is said of a method under a description that was handed in, whose lines about classes make its program.
 #[tactic(auto, using(crate::proofs::Judgements::proved_as_given))]
+fn judged_under_given(
+    alloc: Global,
+    scope: &Scope<'_, '_>,
+    method: &MethodWords<'_>,
+    under: &UnderLines<'_>,
+    assumed: Assumed,
+    text: &[u8],
+) -> Result<Judged, Refused>
+    requires few { length scope.now.files.now ≤ most_classes }
+    requires program { IsMethodProgram under.now.lines (map (λ file. file.items) scope.now.files.now) method.now.class.now
+        method.now.name.now method.now.desc.now (program_of under.now.program) }
+    requires lines { SaysLines text.now under.now.lines }
+    requires given { IsGivenText (surveyed scope.now.strict scope.now.files.now scope.now.descs.now) assumed method.now.class.now
+        method.now.name.now method.now.desc.now text.now }
+    ensures { IfOk result (IsJudged (surveyed scope.now.strict scope.now.files.now scope.now.descs.now) method.now.class.now
+        method.now.name.now method.now.desc.now) }
+{
+    let answer = prove_line(alloc, text, scope.files, NODES)?;
+    told(alloc, scope, method, under, true, assumed, text, &answer)
+}
+
+/// What is said of a method under a description that was handed in, which says this.
+#[tactic(auto, using(crate::proofs::Judgements::is_given, crate::proofs::Judgements::given_lines))]
+fn judged_as_said(
+    alloc: Global,
+    scope: &Scope<'_, '_>,
+    method: &MethodWords<'_>,
+    text: &[u8],
+    said: &DescText,
+) -> Result<Judged, Refused>
+    requires few { length scope.now.files.now ≤ most_classes }
+    requires handed { IsHandedIn (map (λ desc. desc.items) scope.now.descs.now) method.now.class.now method.now.name.now
+        method.now.desc.now text.now }
+    requires says { SaysOf description_of text.now (Ok said.now) }
+    ensures { IfOk result (IsJudged (surveyed scope.now.strict scope.now.files.now scope.now.descs.now) method.now.class.now
+        method.now.name.now method.now.desc.now) }
+{
+    let lines = said.world.as_slice();
+    let under = program_as_given(alloc, scope.files, lines, method)?;
+    let assumed = assumed_of(alloc, &under.program.world, method.class, lines, false)?;
+    judged_under_given(alloc, scope, method, &under, assumed, text)
+}
+
+/// What is said of a method under a description that was handed in.
 fn judged_as_given(
     alloc: Global,
     scope: &Scope<'_, '_>,
     method: &MethodWords<'_>,
-    program: &Program<'_>,
     text: &[u8],
 ) -> Result<Judged, Refused>
     requires few { length scope.now.files.now ≤ most_classes }
-    requires program { IsMethodProgram (map (λ file. file.items) scope.now.files.now) method.now.class.now method.now.name.now
-        method.now.desc.now (program_of program.now) }
-    requires given { IsGivenText (map (λ desc. desc.items) scope.now.descs.now) method.now.class.now method.now.name.now
+    requires handed { IsHandedIn (map (λ desc. desc.items) scope.now.descs.now) method.now.class.now method.now.name.now
         method.now.desc.now text.now }
-    ensures { IfOk result (IsJudged (surveyed scope.now.files.now scope.now.descs.now) method.now.class.now method.now.name.now
-        method.now.desc.now) }
+    ensures { IfOk result (IsJudged (surveyed scope.now.strict scope.now.files.now scope.now.descs.now) method.now.class.now
+        method.now.name.now method.now.desc.now) }
 {
-    let answer = prove_line(alloc, text, scope.files, NODES)?;
-    told(alloc, scope, method, program, true, text, &answer)
+    match DescText::read(alloc, text) {
+        Ok(said) => judged_as_said(alloc, scope, method, text, &said),
+        Err(DescFault::Memory) => Err(Refused::Memory),
+        Err(fault) => Err(Refused::At {
+            place: Place::Description,
+            fault: Fault::Desc(fault),
+        }),
+    }
 }
 
 /// What is said of a method under its template.
@@ -376,44 +444,111 @@ fn judged_as_open(
     alloc: Global,
     scope: &Scope<'_, '_>,
     method: &MethodWords<'_>,
-    program: &Program<'_>,
+    under: &UnderLines<'_>,
+    assumed: Assumed,
     text: &[u8],
 ) -> Result<Judged, Refused>
     requires few { length scope.now.files.now ≤ most_classes }
-    requires program { IsMethodProgram (map (λ file. file.items) scope.now.files.now) method.now.class.now method.now.name.now
-        method.now.desc.now (program_of program.now) }
-    requires open { IsOpenText (map (λ file. file.items) scope.now.files.now) method.now.class.now method.now.name.now
-        method.now.desc.now text.now }
-    ensures { IfOk result (IsJudged (surveyed scope.now.files.now scope.now.descs.now) method.now.class.now method.now.name.now
+    requires program { IsMethodProgram under.now.lines (map (λ file. file.items) scope.now.files.now) method.now.class.now
+        method.now.name.now method.now.desc.now (program_of under.now.program) }
+    requires lines { SaysLines text.now under.now.lines }
+    requires open { IsOpenText (surveyed scope.now.strict scope.now.files.now scope.now.descs.now) assumed method.now.class.now
+        method.now.name.now method.now.desc.now text.now }
+    ensures { IfOk result (IsJudged (surveyed scope.now.strict scope.now.files.now scope.now.descs.now) method.now.class.now
+        method.now.name.now
         method.now.desc.now) }
 {
     let answer = prove_line(alloc, text, scope.files, NODES)?;
-    told(alloc, scope, method, program, false, text, &answer)
+    told(alloc, scope, method, under, false, assumed, text, &answer)
 }
 
-/// What is said of a method for which no description was handed in.
-#[tactic(auto, using(crate::proofs::Judgements::is_open))]
-fn judged_by_template(
+/// What is said of a method under the template of its program.
+#[tactic(auto, using(crate::proofs::Judgements::is_open, crate::proofs::Judgements::open_lines))]
+fn judged_under(
     alloc: Global,
     scope: &Scope<'_, '_>,
     method: &MethodWords<'_>,
-    program: &Program<'_>,
+    under: &UnderLines<'_>,
+    narrow: bool,
 ) -> Result<Judged, Refused>
     requires few { length scope.now.files.now ≤ most_classes }
-    requires program { IsMethodProgram (map (λ file. file.items) scope.now.files.now) method.now.class.now method.now.name.now
-        method.now.desc.now (program_of program.now) }
-    ensures { IfOk result (IsJudged (surveyed scope.now.files.now scope.now.descs.now) method.now.class.now method.now.name.now
+    requires program { IsMethodProgram under.now.lines (map (λ file. file.items) scope.now.files.now) method.now.class.now
+        method.now.name.now method.now.desc.now (program_of under.now.program) }
+    requires as_asked { scope.now.strict ≡ true → (under.now.lines ≡ []) × (narrow ≡ false) }
+    ensures { IfOk result (IsJudged (surveyed scope.now.strict scope.now.files.now scope.now.descs.now) method.now.class.now
+        method.now.name.now
         method.now.desc.now) }
 {
-    match template(alloc, program) {
-        Ok(text) => judged_as_open(alloc, scope, method, program, text.as_slice()),
+    let lines = under.lines.as_slice();
+    let assumed = assumed_of(alloc, &under.program.world, method.class, lines, narrow)?;
+    match template(alloc, &under.program, lines, narrow) {
+        Ok(text) => judged_as_open(
+            alloc,
+            scope,
+            method,
+            under,
+            assumed,
+            text.as_slice(),
+        ),
         Err(DescribeFault::Memory) => Err(Refused::Memory),
         Err(_) => Ok(refused_for(alloc, method, b" description: Unwritable")?),
     }
 }
 
+/// What is said of a method for which no description was handed in, where nothing is taken to be so.
+fn judged_strictly(
+    alloc: Global,
+    scope: &Scope<'_, '_>,
+    method: &MethodWords<'_>,
+) -> Result<Judged, Refused>
+    requires { length scope.now.files.now ≤ most_classes }
+    ensures { IfOk result (IsJudged (surveyed scope.now.strict scope.now.files.now scope.now.descs.now) method.now.class.now
+        method.now.name.now method.now.desc.now) }
+{
+    let under = program_as_given(alloc, scope.files, &[], method)?;
+    judged_under(alloc, scope, method, &under, false)
+}
+
+/// What is said of a method for which no description was handed in, where classes may be taken to be initialised before.
+fn judged_assuming(
+    alloc: Global,
+    scope: &Scope<'_, '_>,
+    method: &MethodWords<'_>,
+) -> Result<Judged, Refused>
+    requires few { length scope.now.files.now ≤ most_classes }
+    requires lax { scope.now.strict ≡ false }
+    ensures { IfOk result (IsJudged (surveyed scope.now.strict scope.now.files.now scope.now.descs.now) method.now.class.now
+        method.now.name.now method.now.desc.now) }
+{
+    let leave = Leave {
+        initialised: true,
+        passed: false,
+    };
+    let under = method_program(alloc, scope.files, scope.lines, method, leave)?;
+    let narrow = has_narrow(&under.program);
+    judged_under(alloc, scope, method, &under, narrow)
+}
+
+/// What is said of a method for which no description was handed in.
+fn judged_by_template(
+    alloc: Global,
+    scope: &Scope<'_, '_>,
+    method: &MethodWords<'_>,
+) -> Result<Judged, Refused>
+    requires { length scope.now.files.now ≤ most_classes }
+    ensures { IfOk result (IsJudged (surveyed scope.now.strict scope.now.files.now scope.now.descs.now) method.now.class.now
+        method.now.name.now method.now.desc.now) }
+{
+    if scope.strict {
+        judged_strictly(alloc, scope, method)
+    } else {
+        judged_assuming(alloc, scope, method)
+    }
+}
+
 /// What is said of a method: by the first description that was handed in and names it (a second one is refused), else by its
-/// template.
+/// template. Where nothing is said of it, each further class that the method's program would initialise is taken to be initialised before, and parameters of type boolean,
+/// byte, char and short have the numbers of their types; a strict survey assumes neither, and passes no interface over.
 ///
 /// # Errors
 ///
@@ -424,12 +559,12 @@ pub(crate) fn judge(
     method: &MethodWords<'_>,
 ) -> Result<Judged, Refused>
     requires { length scope.now.files.now ≤ most_classes }
-    ensures { IfOk result (IsJudged (surveyed scope.now.files.now scope.now.descs.now) method.now.class.now method.now.name.now
+    ensures { IfOk result (IsJudged (surveyed scope.now.strict scope.now.files.now scope.now.descs.now) method.now.class.now
+        method.now.name.now
         method.now.desc.now) }
 {
-    let program = method_program(alloc, scope.files, method)?;
     match given_for(alloc, scope.descs, method)? {
-        Some(text) => judged_as_given(alloc, scope, method, &program, text.as_slice()),
-        None => judged_by_template(alloc, scope, method, &program),
+        Some(text) => judged_as_given(alloc, scope, method, text.as_slice()),
+        None => judged_by_template(alloc, scope, method),
     }
 }

@@ -14,9 +14,11 @@ ghost use Rattle.input_text.specs.Descriptions.{description_of};
 ghost use Rattle.desc_steps.specs.Givable.{HasObjects, CanBeGiven};
 ghost use Rattle.survey.specs.Lacking.{HasOne, BaseHasOne, SlotHasOne, ResultHasOne, PassedHaveOnes, CallHasOnes, FieldHasOnes};
 ghost use Rattle.survey.specs.Lacking.{OpHasOnes, CaughtHasOne, MethodHasOnes, AllNamedHaveOnes, IsWarned};
-ghost use Rattle.survey.specs.inner.Wording.{IsMethodProgram};
+ghost use Rattle.class_calls.specs.describe.Lines.{IsMethodProgram};
+ghost use Rattle.survey.specs.inner.Wording.{SaysLines};
 
 use crate::lines::MethodWords;
+use class_calls::describe::UnderLines;
 use class_program::{Call, CatchRange, FieldUse, Method, Op, Program, StaticField};
 use class_world::World;
 use input_desc::{Desc, DescFault, DescText, Input, entry};
@@ -378,7 +380,7 @@ fn fitted(alloc: Global, program: &Program<'_>, said: DescText) -> Result<Desc, 
     }
 }
 
-/// What is missing behind a YES for a method's program under a description.
+/// What is missing behind a YES for a method's program under a description, whose lines about classes make it.
 ///
 /// # Errors
 ///
@@ -388,16 +390,17 @@ pub(crate) fn lacks_of(
     alloc: Global,
     files: &[Vec<u8>],
     method: &MethodWords<'_>,
-    program: &Program<'_>,
+    under: &UnderLines<'_>,
     text: &[u8],
 ) -> Result<Lacks, Refused>
-    requires { IsMethodProgram (map (λ file. file.items) files.now) method.now.class.now method.now.name.now method.now.desc.now
-        (program_of program.now) }
+    requires program { IsMethodProgram under.now.lines (map (λ file. file.items) files.now) method.now.class.now method.now.name.now
+        method.now.desc.now (program_of under.now.program) }
+    requires lines { SaysLines text.now under.now.lines }
     ensures { IfOk result (IsWarned (map (λ file. file.items) files.now) text.now) }
 {
-    let said = said_of(alloc, program, text)?;
-    let desc = fitted(alloc, program, said)?;
-    let no_input = !all_can_be_given(&program.world, desc.inputs.as_slice());
-    let no_class = class_missing(alloc, program)?;
+    let said = said_of(alloc, &under.program, text)?;
+    let desc = fitted(alloc, &under.program, said)?;
+    let no_input = !all_can_be_given(&under.program.world, desc.inputs.as_slice());
+    let no_class = class_missing(alloc, &under.program)?;
     Ok(Lacks { no_input, no_class })
 }

@@ -11,8 +11,9 @@ use crate::lines::Head;
 use crate::putting::put_other;
 use crate::reading::{Kept, named};
 use class_read::ClassView;
-use class_world::LinkFault;
+use class_world::{LinkFault, is_built_in};
 use input_steps::{Fault, Refused, link, read_classes};
+use input_text::{DescFault, DescText, WorldLine};
 use io_ports::Sink;
 use list_views::Seq;
 use std::alloc::{AllocError, Global};
@@ -89,18 +90,18 @@ fn culprit_of(alloc: Global, files: &[Vec<u8>], fault: &Fault) -> Result<Culprit
     })
 }
 
-/// Whether classes make a world, or the fault that they have.
-#[tactic(auto, using(crate::proofs::Judgements::few_classes, crate::proofs::Judgements::classes_read))]
-fn tried(alloc: Global, files: &[Vec<u8>]) -> Result<(), Refused>
+/// Whether classes make a world as some lines say, or the fault that they have.
+#[tactic(auto, using(crate::proofs::Judgements::few_classes, crate::proofs::Judgements::classes_link))]
+fn tried(alloc: Global, files: &[Vec<u8>], lines: &[WorldLine]) -> Result<(), Refused>
     requires { length files.now ≤ most_classes }
 {
     let classes = read_classes(alloc, files)?;
-    let _world = link(alloc, classes)?;
+    let _world = link(alloc, lines, classes)?;
     Ok(())
 }
 
 /// The class file that can't be linked with the others, where there is one. Its place is one of theirs.
-fn unlinked(alloc: Global, files: &[Vec<u8>]) -> Result<Option<Culprit>, Stop>
+fn unlinked(alloc: Global, files: &[Vec<u8>], lines: &[WorldLine]) -> Result<Option<Culprit>, Stop>
     requires { length files.now ≤ most_classes }
     ensures found { IfOk result (λ found. IfSome found (λ culprit. culprit.at < length files.now)) }
     ensures stopped { IfErr result (λ stop. stop ≡ Memory) }
@@ -108,7 +109,7 @@ fn unlinked(alloc: Global, files: &[Vec<u8>]) -> Result<Option<Culprit>, Stop>
     if files.is_empty() {
         return Ok(None);
     }
-    let fault = match tried(alloc, files) {
+    let fault = match tried(alloc, files, lines) {
         Ok(()) => return Ok(None),
         Err(Refused::At { fault, .. }) => fault,
         Err(Refused::Memory) => return Err(Stop::Memory),
@@ -178,7 +179,12 @@ fn leave<O: Sink>(
 
 /// Leaves one class file out, where the others can't be linked with it, and puts a line for it; whether one is left out.
 #[tactic(auto, using(crate::proofs::Leavings::none_left, crate::proofs::Went::no_memory))]
-fn leave_one<O: Sink>(alloc: Global, kept: &mut Kept<'_>, out: &mut O) -> Result<bool, Stop>
+fn leave_one<O: Sink>(
+    alloc: Global,
+    lines: &[WorldLine],
+    kept: &mut Kept<'_>,
+    out: &mut O,
+) -> Result<bool, Stop>
     requires few { length kept.old.files.items ≤ most_classes }
     requires names { length kept.old.names.items ≡ length kept.old.files.items }
     ensures told { OnOk result (Went O.taken O.faults IsOther (Leaves kept.old kept.new) out.old out.new) }
@@ -186,7 +192,7 @@ fn leave_one<O: Sink>(alloc: Global, kept: &mut Kept<'_>, out: &mut O) -> Result
     ensures names { length kept.new.names.items ≡ length kept.new.files.items }
     ensures fewer { length kept.new.files.items ≤ length kept.old.files.items }
 {
-    match unlinked(alloc, kept.files.as_slice()) {
+    match unlinked(alloc, kept.files.as_slice(), lines) {
         Ok(Some(found)) => match leave(alloc, kept, &found, out) {
             Ok(()) => Ok(true),
             Err(stop) => Err(stop),
@@ -196,10 +202,128 @@ fn leave_one<O: Sink>(alloc: Global, kept: &mut Kept<'_>, out: &mut O) -> Result
     }
 }
 
-/// Leaves class files out until the others make a world. A line is put for each.
-#[tactic(auto, using(crate::proofs::Leavings::none_left, crate::proofs::Leavings::left_on, crate::proofs::Went::cut_on))]
-pub(crate) fn leave_out<O: Sink>(
+/// Whether a class of this name is built in or among some, or the name is that of an interface that arrays implement.
+fn is_there(classes: &[ClassView<'_>], name: &[u8]) -> bool {
+    if name == b"java/lang/Cloneable".as_slice() || name == b"java/io/Serializable".as_slice() {
+        return true;
+    }
+    if is_built_in(name) {
+        return true;
+    }
+    for class in classes {
+        if class.name == name {
+            return true;
+        }
+    }
+    false
+}
+
+/// Whether a line passes an interface over.
+fn is_passed(lines: &[WorldLine], name: &[u8]) -> bool {
+    for line in lines {
+        match line {
+            WorldLine::Passed(interface) => {
+                if interface.as_slice() == name {
+                    return true;
+                }
+            }
+            WorldLine::Initialised(_) => {}
+        }
+    }
+    false
+}
+
+/// What descriptions say. Those that can't be read say nothing.
+fn texts_said(alloc: Global, descs: &[Vec<u8>]) -> Result<Vec<DescText>, AllocError> {
+    let mut texts = Vec::new(alloc);
+    for desc in descs {
+        match DescText::read(alloc, desc.as_slice()) {
+            Ok(text) => texts.push(text)?,
+            Err(DescFault::Memory) => return Err(AllocError),
+            Err(_) => {}
+        }
+    }
+    Ok(texts)
+}
+
+/// Whether each description passes an interface over.
+fn all_pass(texts: &[DescText], name: &[u8]) -> bool {
+    for text in texts {
+        if !is_passed(text.world.as_slice(), name) {
+            return false;
+        }
+    }
+    true
+}
+
+/// Puts a line for each interface that a class lists, that none of the classes is, and that each description passes over.
+fn pass_listed(
     alloc: Global,
+    classes: &[ClassView<'_>],
+    texts: &[DescText],
+    class: &ClassView<'_>,
+    lines: &mut Seq<WorldLine>,
+) -> Result<(), AllocError> {
+    for interface in class.interfaces.as_slice() {
+        if !is_there(classes, *interface)
+            && !is_passed(lines.as_slice(), *interface)
+            && all_pass(texts, *interface)
+        {
+            lines.push(WorldLine::Passed(Seq::from_slice(alloc, *interface)?))?;
+        }
+    }
+    Ok(())
+}
+
+/// The lines that pass over each interface that a class of the files lists, that none of them is, and that each description passes over.
+fn missing_interfaces(
+    alloc: Global,
+    descs: &[Vec<u8>],
+    files: &[Vec<u8>],
+) -> Result<Seq<WorldLine>, Refused>
+    requires { length files.now ≤ most_classes }
+{
+    let classes = read_classes(alloc, files)?;
+    let texts = texts_said(alloc, descs)?;
+    let mut lines = Seq::new(alloc);
+    for class in classes.iter() {
+        pass_listed(
+            alloc,
+            classes.as_slice(),
+            texts.as_slice(),
+            class,
+            &mut lines,
+        )?;
+    }
+    Ok(lines)
+}
+
+/// The lines that pass over the interfaces which are missing in lists of interfaces; none where nothing is to be passed over. An
+/// interface that is handed in is never passed over, though its file may be left out later; nor is one that a description which was
+/// handed in doesn't pass over: its method couldn't be judged under it.
+fn passing_lines(
+    alloc: Global,
+    none: bool,
+    descs: &[Vec<u8>],
+    files: &[Vec<u8>],
+) -> Result<Seq<WorldLine>, Stop>
+    requires { length files.now ≤ most_classes }
+    ensures { IfErr result (λ stop. stop ≡ Memory) }
+{
+    if none {
+        return Ok(Seq::new(alloc));
+    }
+    match missing_interfaces(alloc, descs, files) {
+        Ok(lines) => Ok(lines),
+        Err(_) => Err(Stop::Memory),
+    }
+}
+
+/// Leaves class files out until the others make a world, as some lines about classes say. A line is put for each.
+#[tactic(auto, using(crate::proofs::Leavings::none_left, crate::proofs::Leavings::left_on, crate::proofs::Went::cut_on))]
+fn leave_all<O: Sink>(
+    alloc: Global,
+    lines: &[WorldLine],
     kept: &mut Kept<'_>,
     out: &mut O,
 ) -> Result<(), Stop>
@@ -210,11 +334,37 @@ pub(crate) fn leave_out<O: Sink>(
     ensures fewer { length kept.new.files.items ≤ length kept.old.files.items }
 {
     for _round in 0..kept.files.len() {
-        match leave_one(alloc, kept, out) {
+        match leave_one(alloc, lines, kept, out) {
             Ok(true) => {}
             Ok(false) => return Ok(()),
             Err(stop) => return Err(stop),
         }
     }
     Ok(())
+}
+
+/// Leaves class files out until the others make a world. A line is put for each. Interfaces that no file spells are passed over, but
+/// where nothing is to be: the lines about classes that say so.
+#[tactic(auto, using(crate::proofs::Went::no_memory))]
+pub(crate) fn leave_out<O: Sink>(
+    alloc: Global,
+    none: bool,
+    descs: &[Vec<u8>],
+    kept: &mut Kept<'_>,
+    out: &mut O,
+) -> Result<Seq<WorldLine>, Stop>
+    requires few { length kept.old.files.items ≤ most_classes }
+    requires names { length kept.old.names.items ≡ length kept.old.files.items }
+    ensures told { OnOk result (Went O.taken O.faults IsOther (Leaves kept.old kept.new) out.old out.new) }
+    ensures begun { IfErr result (Cut O.taken O.faults IsOther out.old out.new) }
+    ensures fewer { length kept.new.files.items ≤ length kept.old.files.items }
+{
+    let lines = match passing_lines(alloc, none, descs, kept.files.as_slice()) {
+        Ok(lines) => lines,
+        Err(stop) => return Err(stop),
+    };
+    match leave_all(alloc, lines.as_slice(), kept, out) {
+        Ok(()) => Ok(lines),
+        Err(stop) => Err(stop),
+    }
 }

@@ -1,10 +1,12 @@
 //! Lines, as they are written.
 ghost use Rattle.std.specs.Prelude.{◌≡◌, ◌++◌, map, codes, IfOk, OnOk};
+ghost use Rattle.survey.specs.Lines.{narrow_text, others_text, passed_text, assumed_text};
 ghost use Rattle.survey.specs.Lines.{given_text, no_input_text, no_class_text, lacks_text};
 ghost use Rattle.survey.specs.Lines.{errors_text, exceptions_text, constants_text, touched_text, words_text};
 ghost use Rattle.survey.specs.Lines.{printed, yes_line};
 ghost use Rattle.survey.specs.inner.Wording.{head_text, head_of, other_line};
 
+use crate::assuming::Assumed;
 use crate::lacking::Lacks;
 use crate::survey_notes::Touched;
 use list_views::Seq;
@@ -110,6 +112,40 @@ fn constants_text(touched: Touched) -> &'static [u8]
     }
 }
 
+fn narrow_text(assumed: &Assumed) -> &'static [u8]
+    ensures { result.now ≡ narrow_text assumed.now }
+{
+    if assumed.narrow { b" narrow" } else { b"" }
+}
+
+fn passed_text(assumed: &Assumed) -> &'static [u8]
+    ensures { result.now ≡ passed_text assumed.now }
+{
+    if assumed.passed { b" passed" } else { b"" }
+}
+
+/// Puts a word for each other class that is taken to be initialised behind a line.
+#[tactic(auto, using(crate::proofs::Walks::others_more, crate::proofs::Walks::others_end))]
+fn put_others(line: &mut Seq<u8>, others: &[Seq<u8>]) -> Result<(), AllocError>
+    ensures { OnOk result (line.new ≡ line.old ++ others_text others.now) }
+{
+    for name in others {
+        line.extend_from_slice(b" initialised=")?;
+        put_shown(line, name.as_slice())?;
+    }
+    Ok(())
+}
+
+/// The words for all that is assumed.
+fn assumed_text(alloc: Global, assumed: &Assumed) -> Result<Seq<u8>, AllocError>
+    ensures { IfOk result (λ text. text ≡ assumed_text assumed.now) }
+{
+    let mut text = Seq::from_slice(alloc, narrow_text(assumed))?;
+    put_others(&mut text, assumed.others.as_slice())?;
+    text.extend_from_slice(passed_text(assumed))?;
+    Ok(text)
+}
+
 /// A method by its class, its name and its descriptor.
 #[derive(Clone, Copy)]
 pub(crate) struct MethodWords<'a> {
@@ -164,14 +200,17 @@ fn touched_text(alloc: Global, touched: Touched) -> Result<Seq<u8>, AllocError>
 fn words_text(
     alloc: Global,
     given: bool,
+    assumed: &Assumed,
     lacks: &Lacks,
     touched: Touched,
 ) -> Result<Seq<u8>, AllocError>
-    ensures { IfOk result (λ text. text ≡ words_text given lacks.now touched) }
+    ensures { IfOk result (λ text. text ≡ words_text given assumed.now lacks.now touched) }
 {
+    let believed = assumed_text(alloc, assumed)?;
     let missing = lacks_text(alloc, lacks)?;
     let premises = touched_text(alloc, touched)?;
     let mut text = Seq::from_slice(alloc, given_text(given))?;
+    text.extend_from_slice(believed.as_slice())?;
     text.extend_from_slice(missing.as_slice())?;
     text.extend_from_slice(premises.as_slice())?;
     Ok(text)
@@ -182,12 +221,14 @@ pub(crate) fn yes_line(
     alloc: Global,
     method: &MethodWords<'_>,
     given: bool,
+    assumed: &Assumed,
     lacks: &Lacks,
     touched: Touched,
 ) -> Result<Seq<u8>, AllocError>
-    ensures { IfOk result (λ line. line ≡ yes_line method.now.class.now method.now.name.now method.now.desc.now given lacks.now touched) }
+    ensures { IfOk result (λ line. line ≡ yes_line method.now.class.now method.now.name.now method.now.desc.now given assumed.now
+        lacks.now touched) }
 {
-    let words = words_text(alloc, given, lacks, touched)?;
+    let words = words_text(alloc, given, assumed, lacks, touched)?;
     let names = shown_method(alloc, method.class, method.name, method.desc)?;
     let mut line = joined(alloc, &[b"YES ", names.as_slice()])?;
     line.extend_from_slice(words.as_slice())?;

@@ -5,7 +5,7 @@ ghost use Rattle.class_base.specs.Limits.{most_classes};
 ghost use Rattle.class_read.specs.View.{method_content};
 ghost use Rattle.input_steps.specs.Classes.{AllSpell};
 ghost use Rattle.survey.specs.Claims.{NamesOther, IsUsed, IsTrueLine};
-ghost use Rattle.survey.specs.Lines.{count_rest, count_line};
+ghost use Rattle.survey.specs.Lines.{assumed_count, count_rest, count_line};
 ghost use Rattle.survey.specs.Outside.{status_of};
 ghost use Rattle.survey.specs.inner.Wording.{surveyed, other_line};
 ghost use Rattle.survey.specs.inner.Putting.{IsOther, Went, Cut};
@@ -21,7 +21,7 @@ use crate::reading::{named, word_at};
 use crate::walking::{Tally, survey_classes};
 use class_read::{ClassView, MethodView};
 use input_steps::{Refused, read_classes};
-use input_text::{DescFault, DescText};
+use input_text::{DescFault, DescText, WorldLine};
 use io_ports::Sink;
 use list_views::Seq;
 use list_views::fault_words::{joined, number};
@@ -117,7 +117,7 @@ fn desc_fault(
     requires spelled { AllSpell (map (λ file. file.items) scope.now.files.now) scope.now.classes.now }
     ensures { IfOk result
         (λ fault. IfNone fault ((text : List ℕ) → slice_get (map (λ desc. desc.items) scope.now.descs.now) place ≡ Some text
-        → IsUsed (surveyed scope.now.files.now scope.now.descs.now) place text)) }
+        → IsUsed (surveyed scope.now.strict scope.now.files.now scope.now.descs.now) place text)) }
 {
     let said = match DescText::read(alloc, scope.descs[place].as_slice()) {
         Ok(said) => said,
@@ -158,7 +158,7 @@ fn put_lost<O: Sink>(
     requires place { place < length scope.now.descs.now }
     requires spelled { AllSpell (map (λ file. file.items) scope.now.files.now) scope.now.classes.now }
     ensures told { IfOk result (λ lost. Went O.taken O.faults IsOther
-        (IsDescTold (surveyed scope.now.files.now scope.now.descs.now) place name.now lost) out.old out.new) }
+        (IsDescTold (surveyed scope.now.strict scope.now.files.now scope.now.descs.now) place name.now lost) out.old out.new) }
     ensures begun { IfErr result (Cut O.taken O.faults IsOther out.old out.new) }
 {
     match desc_fault(alloc, scope, place) {
@@ -191,7 +191,7 @@ fn put_all_lost<O: Sink>(
     requires few { length names.now ≤ most_classes }
     requires same { length names.now ≡ length scope.now.descs.now }
     ensures told { IfOk result (λ count. Went O.taken O.faults IsOther
-        (AreDescsTold (surveyed scope.now.files.now scope.now.descs.now) (map (λ name. name.now) names.now) count) out.old out.new) }
+        (AreDescsTold (surveyed scope.now.strict scope.now.files.now scope.now.descs.now) (map (λ name. name.now) names.now) count) out.old out.new) }
     ensures begun { IfErr result (Cut O.taken O.faults IsOther out.old out.new) }
     ensures few { IfOk result (λ count. count ≤ most_classes) }
 {
@@ -218,15 +218,28 @@ pub(crate) struct FileCounts {
     pub(crate) refused: usize,
 }
 
-/// How many lines and files there are of each sort, in words.
+/// How many lines show that something is taken to be so of classes, in words; nothing where nothing is taken to be so.
+fn assumed_count(alloc: Global, strict: bool, count: usize) -> Result<Seq<u8>, AllocError>
+    ensures { IfOk result (λ text. text ≡ assumed_count strict count) }
+{
+    if strict {
+        return Ok(Seq::new(alloc));
+    }
+    let digits = number(alloc, count)?;
+    joined(alloc, &[b" assumed=", digits.as_slice()])
+}
+
+/// How many lines and files there are of each sort, in words. A strict survey, in which nothing is assumed, says nothing of that.
 fn count_text(
     alloc: Global,
+    strict: bool,
     tally: Tally,
     counts: FileCounts,
     refused: usize,
 ) -> Result<Seq<u8>, AllocError>
-    ensures { IfOk result (λ text. text ≡ count_rest (record {
+    ensures { IfOk result (λ text. text ≡ count_rest strict (record {
       yes = tally.yes;
+      assumed = tally.assumed;
       maybe = tally.maybe;
       refused = tally.refused;
       files = counts.files;
@@ -235,6 +248,7 @@ fn count_text(
     })) }
 {
     let yes = number(alloc, tally.yes)?;
+    let assumed = assumed_count(alloc, strict, tally.assumed)?;
     let maybe = number(alloc, tally.maybe)?;
     let not = number(alloc, tally.refused)?;
     let files = number(alloc, counts.files)?;
@@ -245,6 +259,7 @@ fn count_text(
         &[
             b"yes=",
             yes.as_slice(),
+            assumed.as_slice(),
             b" maybe=",
             maybe.as_slice(),
             b" refused=",
@@ -263,13 +278,15 @@ fn count_text(
 #[tactic(auto, using(crate::proofs::Went::no_memory))]
 fn put_counts<O: Sink>(
     alloc: Global,
+    strict: bool,
     tally: Tally,
     counts: FileCounts,
     refused: usize,
     out: &mut O,
 ) -> Result<(), Stop>
-    ensures told { OnOk result (Went O.taken O.faults IsOther (λ lines. lines ≡ count_line (record {
+    ensures told { OnOk result (Went O.taken O.faults IsOther (λ lines. lines ≡ count_line strict (record {
       yes = tally.yes;
+      assumed = tally.assumed;
       maybe = tally.maybe;
       refused = tally.refused;
       files = counts.files;
@@ -279,7 +296,7 @@ fn put_counts<O: Sink>(
         out.old out.new) }
     ensures begun { IfErr result (Cut O.taken O.faults IsOther out.old out.new) }
 {
-    match count_text(alloc, tally, counts, refused) {
+    match count_text(alloc, strict, tally, counts, refused) {
         Ok(text) => put_other(alloc, out, Head::Count, text.as_slice()),
         Err(AllocError) => Err(Stop::Memory),
     }
@@ -315,9 +332,9 @@ fn survey_scope<O: Sink>(
     requires refused { counts.refused ≤ most_classes }
     requires files { counts.files ≡ length scope.now.files.now }
     requires spelled { AllSpell (map (λ file. file.items) scope.now.files.now) scope.now.classes.now }
-    ensures told { IfOk result (λ status. Went O.taken O.faults (IsTrueLine (surveyed scope.now.files.now scope.now.descs.now))
-        (IsTail (surveyed scope.now.files.now scope.now.descs.now) (map (λ name. name.now) names.now) counts status) out.old out.new) }
-    ensures begun { IfErr result (Cut O.taken O.faults (IsTrueLine (surveyed scope.now.files.now scope.now.descs.now)) out.old
+    ensures told { IfOk result (λ status. Went O.taken O.faults (IsTrueLine (surveyed scope.now.strict scope.now.files.now scope.now.descs.now))
+        (IsTail (surveyed scope.now.strict scope.now.files.now scope.now.descs.now) (map (λ name. name.now) names.now) counts status) out.old out.new) }
+    ensures begun { IfErr result (Cut O.taken O.faults (IsTrueLine (surveyed scope.now.strict scope.now.files.now scope.now.descs.now)) out.old
         out.new) }
 {
     let lost = match put_all_lost(alloc, names, scope, out) {
@@ -329,7 +346,7 @@ fn survey_scope<O: Sink>(
         Err(stop) => return Err(stop),
     };
     let refused = counts.refused + lost;
-    match put_counts(alloc, tally, counts, refused, out) {
+    match put_counts(alloc, scope.strict, tally, counts, refused, out) {
         Ok(()) => Ok(status_of(refused, tally.all, counts.left_out)),
         Err(stop) => Err(stop),
     }
@@ -348,7 +365,7 @@ fn classes_of_files<'a>(alloc: Global, files: &'a [Vec<u8>]) -> Result<Vec<Class
     }
 }
 
-/// Puts the lines of a survey of class files that can be linked.
+/// Puts the lines of a survey of class files that can be linked, as some lines about classes say.
 #[tactic(auto, using(crate::proofs::Went::no_memory))]
 pub(crate) fn survey_kept<O: Sink>(
     alloc: Global,
@@ -356,6 +373,8 @@ pub(crate) fn survey_kept<O: Sink>(
     descs: &[Vec<u8>],
     files: &[Vec<u8>],
     counts: FileCounts,
+    lines: &[WorldLine],
+    strict: bool,
     why: bool,
     out: &mut O,
 ) -> Result<u8, Stop>
@@ -364,9 +383,9 @@ pub(crate) fn survey_kept<O: Sink>(
     requires same { length names.now ≡ length descs.now }
     requires refused { counts.refused ≤ most_classes }
     requires files { counts.files ≡ length files.now }
-    ensures told { IfOk result (λ status. Went O.taken O.faults (IsTrueLine (surveyed files.now descs.now))
-        (IsTail (surveyed files.now descs.now) (map (λ name. name.now) names.now) counts status) out.old out.new) }
-    ensures begun { IfErr result (Cut O.taken O.faults (IsTrueLine (surveyed files.now descs.now)) out.old out.new) }
+    ensures told { IfOk result (λ status. Went O.taken O.faults (IsTrueLine (surveyed strict files.now descs.now))
+        (IsTail (surveyed strict files.now descs.now) (map (λ name. name.now) names.now) counts status) out.old out.new) }
+    ensures begun { IfErr result (Cut O.taken O.faults (IsTrueLine (surveyed strict files.now descs.now)) out.old out.new) }
 {
     let classes = match classes_of_files(alloc, files) {
         Ok(classes) => classes,
@@ -376,6 +395,8 @@ pub(crate) fn survey_kept<O: Sink>(
         files,
         classes: classes.as_slice(),
         descs,
+        lines,
+        strict,
         why,
     };
     survey_scope(alloc, names, &scope, counts, out)

@@ -2,7 +2,7 @@
 ghost use Rattle.std.specs.Prelude.{◌≡◌, ◌≤◌, ◌+◌, ◌-◌, length, map, string_bytes, IfOk, IfErr};
 ghost use Rattle.class_base.specs.Limits.{most_classes};
 ghost use Rattle.survey.specs.Outside.{HasSurveyed, EndsSurvey};
-ghost use Rattle.survey.specs.Words.{class_words, desc_words, are_survey};
+ghost use Rattle.survey.specs.Words.{is_strict, class_words, desc_words, are_survey};
 ghost use Rattle.survey.specs.inner.Putting.{stop_status};
 ghost use Rattle.survey.specs.inner.Running.{HasRun, HasBroken};
 
@@ -49,10 +49,10 @@ fn survey_described<F: Files, O: Sink>(
     requires few_descs { length asked.now.descs.items ≤ most_classes }
     requires same { length asked.now.descs.items ≡ length descs.now }
     ensures told { IfOk result (λ status. HasRun (record { held = F.held; handed = F.handed; faults = F.faults }) O.taken
-        O.faults (map string_bytes asked.now.classes.now)
+        O.faults asked.now.strict (map string_bytes asked.now.classes.now)
         (map (λ name. name.now) asked.now.descs.items) (map (λ desc. desc.items) descs.now) files.old files.new out.old out.new status) }
     ensures begun { IfErr result (λ stop. HasBroken (record { held = F.held; handed = F.handed; faults = F.faults }) O.taken
-        O.faults (map string_bytes asked.now.classes.now)
+        O.faults asked.now.strict (map string_bytes asked.now.classes.now)
         (map (λ desc. desc.items) descs.now) files.old files.new out.old out.new stop) }
     ensures held { F.held files.new ≡ F.held files.old }
     ensures counts { F.faults files.old ≤ F.faults files.new }
@@ -62,13 +62,15 @@ fn survey_described<F: Files, O: Sink>(
         Err(stop) => return Err(stop),
     };
     let refused = refused_of(asked, &kept);
-    match leave_out(alloc, &mut kept, out) {
-        Ok(()) => match survey_kept(
+    match leave_out(alloc, asked.strict || refused > 0, descs, &mut kept, out) {
+        Ok(lines) => match survey_kept(
             alloc,
             asked.descs.as_slice(),
             descs,
             kept.files.as_slice(),
             counts_of(asked, &kept, refused),
+            lines.as_slice(),
+            asked.strict,
             asked.why,
             out,
         ) {
@@ -89,10 +91,10 @@ fn survey_asked<F: Files, O: Sink>(
     requires few { length asked.now.classes.now ≤ most_classes }
     requires few_descs { length asked.now.descs.items ≤ most_classes }
     ensures told { IfOk result (λ status. HasSurveyed (record { held = F.held; handed = F.handed; faults = F.faults }) O.taken
-        O.faults (map string_bytes asked.now.classes.now)
+        O.faults asked.now.strict (map string_bytes asked.now.classes.now)
         (map (λ name. name.now) asked.now.descs.items) files.old files.new out.old out.new status) }
     ensures begun { IfErr result (λ stop. HasSurveyed (record { held = F.held; handed = F.handed; faults = F.faults }) O.taken
-        O.faults (map string_bytes asked.now.classes.now)
+        O.faults asked.now.strict (map string_bytes asked.now.classes.now)
         (map (λ name. name.now) asked.now.descs.items) files.old files.new out.old out.new (stop_status stop)) }
 {
     match read_descs(alloc, asked.descs.as_slice(), files) {
@@ -131,7 +133,7 @@ fn stop_line(alloc: Global, asked: &Asked<'_>, stop: Stop) -> Result<Seq<u8>, Al
 }
 
 /// The words of a survey.
-const USAGE: &[u8] = b"survey: usage\n[--why] [--desc FILE].. CLASS..\n";
+const USAGE: &[u8] = b"survey: usage\n[--strict] [--why] [--desc FILE].. CLASS..\n";
 
 /// That memory ran out.
 const MEMORY: &[u8] = b"survey: memory\n";
@@ -170,24 +172,29 @@ fn without<E: Sink>(line: &[u8], status: u8, err: &mut E) -> u8
     status
 }
 
-/// Surveys the class files that the words name: `[--why] [--desc FILE].. CLASS..`, 1 to 256 class files and at most
+/// Surveys the class files that the words name: `[--strict] [--why] [--desc FILE].. CLASS..`, 1 to 256 class files and at most
 /// 256 descriptions. To `out` it puts, each as soon as it is known:
 ///
 /// - `REFUSED FILE class: FAULT` and `REFUSED FILE read: CAUSE` for a file that spells no class or wasn't read;
 /// - `LEFT OUT FILE link: FAULT` for a class that can't be linked with the others, which are surveyed without it;
 /// - `REFUSED FILE description: FAULT` for a description that names no method that is surveyed, or one that a description before it
 ///   names (`SecondDescription`);
-/// - for each method with code, in the order of the words and of the class's file, `YES METHOD`, `MAYBE REASON METHOD
+/// - for each method that is asked, in the order of the words and of the class's file, `YES METHOD`, `MAYBE REASON METHOD
 ///   PLACES` or `REFUSED METHOD FAULT`;
 /// - a line of counts.
 ///
 /// A method is proved under the first description that names it, then `described` stands behind it, else under its
-/// template. Behind a YES stands `no-input` where some input of it can't be given with these classes, so that no state begins it;
-/// `no-class=C` for the first type that its program names and that no object of these classes is of; and a word for each premise that
-/// its program touches: `handles-errors`, `compares-exceptions`, `constant-value`. With `--why` lines of advice follow, which begin with
-/// blanks. To `err` it puts a line where it ends before the counts. The exit status is
+/// template. Behind a YES stands what was assumed: `narrow`, where parameters of type boolean, byte, char and short have the numbers
+/// of their types alone; `initialised=CLASS` for each class that is taken to be initialised before, but the method's own and those above
+/// it; `passed`, where an interface is passed over: one that no file spells, which each description that was handed in passes over too;
+/// none where a file was refused. Static initialisers have no lines. With `--strict` none of this is assumed: a template has no lines
+/// about classes and takes every int, and initialisers are refused like other methods that can't be asked. Then stands `no-input` where
+/// some input of it can't be given with these classes, so that no state begins it; `no-class=C` for the first type that its program names
+/// and that no object of these classes is of; and a word for each premise that its program touches: `handles-errors`,
+/// `compares-exceptions`, `constant-value`. With `--why` lines of advice follow, which begin with blanks. To `err` it puts a line where
+/// it ends before the counts. The exit status is
 ///
-/// - 0: each method with code of each named class file is proved;
+/// - 0: each method with code of each named class file, but static initialisers, is proved, with what its line says is assumed;
 /// - 1: some aren't, or a class file is left out;
 /// - 3: a class file or a description is refused;
 /// - 4: the words are none of a survey;
@@ -205,7 +212,7 @@ pub fn survey<F: Files, O: Sink, E: Sink>(
     // Each line that begins with YES is true of what is surveyed, which is what the files handed over. Each class file that isn't
     // surveyed has its line, and so has each description that is of no use. What the status says is so.
     ensures headline { EndsSurvey (record { held = F.held; handed = F.handed; faults = F.faults }) O.taken O.faults
-        (are_survey (map string_bytes words.now))
+        (are_survey (map string_bytes words.now)) (is_strict (map string_bytes words.now))
         (class_words (map string_bytes words.now)) (desc_words (map string_bytes words.now)) files.old files.new out.old out.new result }
 {
     match Asked::from_words(alloc, words) {

@@ -1,13 +1,14 @@
 //! The methods of the classes, one after another.
-ghost use Rattle.std.specs.Prelude.{◌≡◌, ◌≤◌, ◌&&◌, true, false, length, map, IfOk, IfErr, IsTrue, Bool};
+ghost use Rattle.std.specs.Prelude.{◌≡◌, ◌≤◌, ◌&&◌, true, false, length, map, IfOk, IfErr, IsTrue};
 ghost use Rattle.std.specs.List.{AllByRecursion};
 ghost use Rattle.class_base.specs.Limits.{most_classes};
 ghost use Rattle.class_read.specs.View.{method_content};
-ghost use Rattle.survey.specs.Claims.{Surveyed, IsProved, IsTrueLine, IsProvedMethod, IsProvedClass};
+ghost use Rattle.survey.specs.Claims.{Surveyed, IsProvedSo, IsTrueLine, is_asked, IsProvedMethod, IsProvedClass};
 ghost use Rattle.survey.specs.inner.Wording.{surveyed, IsYesJudged, IsJudged, is_yes, all_proved, AreLines};
 ghost use Rattle.survey.specs.inner.Putting.{Went, Cut};
 ghost use Rattle.survey.specs.declared.failure.Stop.TheVariants.{Memory};
 
+use crate::assuming::Assumed;
 use crate::failure::Stop;
 use crate::judging::{Judged, Scope, behind_method, judge};
 use crate::lacking::Lacks;
@@ -40,6 +41,8 @@ pub(crate) struct Tally {
     pub(crate) maybe: usize,
     /// Lines that begin with REFUSED.
     pub(crate) refused: usize,
+    /// Lines that begin with YES and show that something is taken to be so of classes.
+    pub(crate) assumed: usize,
     /// Whether all lines begin with YES.
     pub(crate) all: bool,
 }
@@ -52,18 +55,25 @@ pub(crate) fn no_tally() -> Tally
         yes: 0,
         maybe: 0,
         refused: 0,
+        assumed: 0,
         all: true,
     }
 }
 
+/// A count with one more, where there is one.
+fn one_more(count: usize, more: bool) -> usize {
+    if more { count.saturating_add(1) } else { count }
+}
+
 impl Tally {
-    /// One line more.
-    fn with(self, sort: Sort) -> Tally
+    /// One line more, and whether it shows that something is taken to be so of classes.
+    fn with(self, sort: Sort, assumed: bool) -> Tally
         ensures { result.all ≡ (self.all && is_yes sort) }
     {
         match sort {
             Sort::Yes => Tally {
                 yes: self.yes.saturating_add(1),
+                assumed: one_more(self.assumed, assumed),
                 ..self
             },
             Sort::Maybe => Tally {
@@ -84,6 +94,8 @@ impl Tally {
 #[derive(Drop)]
 struct MethodLines {
     sort: Sort,
+    /// Whether the line shows that something is taken to be so of classes.
+    assumed: bool,
     text: Seq<u8>,
 }
 
@@ -93,17 +105,19 @@ fn yes_lines(
     alloc: Global,
     method: &MethodWords<'_>,
     given: bool,
+    assumed: &Assumed,
     lacks: &Lacks,
     touched: Touched,
 ) -> Result<MethodLines, AllocError>
     ensures { IfOk result (λ lines. (s : Surveyed) → IsYesJudged s method.now.class.now method.now.name.now method.now.desc.now given
-        lacks.now → AreLines s (is_yes lines.sort) lines.text) }
+        assumed.now lacks.now → AreLines s (is_yes lines.sort) lines.text) }
 {
-    let line = yes_line(alloc, method, given, lacks, touched)?;
+    let line = yes_line(alloc, method, given, assumed, lacks, touched)?;
     let mut text = Seq::new(alloc);
     add_line(&mut text, line.as_slice())?;
     Ok(MethodLines {
         sort: Sort::Yes,
+        assumed: assumed.is_shown(),
         text,
     })
 }
@@ -172,6 +186,7 @@ fn other_lines(
     let text = no_lines(alloc, refused, line, advice)?;
     Ok(MethodLines {
         sort: sort_of(refused),
+        assumed: false,
         text,
     })
 }
@@ -210,14 +225,15 @@ fn judged_lines(
         judged.now → AreLines s (is_yes lines.sort) lines.text) }
     ensures proved { IfOk result (λ lines. is_yes lines.sort ≡ true → (s : Surveyed) → IsJudged s method.now.class.now
         method.now.name.now method.now.desc.now judged.now
-        → (given : Bool) × IsProved s given method.now.class.now method.now.name.now method.now.desc.now) }
+        → IsProvedSo s method.now.class.now method.now.name.now method.now.desc.now) }
 {
     match judged {
         Judged::Yes {
             given,
+            assumed,
             lacks,
             touched,
-        } => yes_lines(alloc, method, *given, lacks, *touched),
+        } => yes_lines(alloc, method, *given, assumed, lacks, *touched),
         Judged::No {
             refused,
             line,
@@ -233,9 +249,9 @@ fn method_lines(
     method: &MethodWords<'_>,
 ) -> Result<MethodLines, AllocError>
     requires { length scope.now.files.now ≤ most_classes }
-    ensures text { IfOk result (λ lines. AreLines (surveyed scope.now.files.now scope.now.descs.now) (is_yes lines.sort) lines.text) }
+    ensures text { IfOk result (λ lines. AreLines (surveyed scope.now.strict scope.now.files.now scope.now.descs.now) (is_yes lines.sort) lines.text) }
     ensures proved { IfOk result (λ lines. is_yes lines.sort ≡ true
-        → (given : Bool) × IsProved (surveyed scope.now.files.now scope.now.descs.now) given method.now.class.now method.now.name.now
+        → IsProvedSo (surveyed scope.now.strict scope.now.files.now scope.now.descs.now) method.now.class.now method.now.name.now
         method.now.desc.now) }
 {
     match judge(alloc, scope, method) {
@@ -244,32 +260,39 @@ fn method_lines(
     }
 }
 
-/// Puts the lines of a method with code.
+/// Puts the lines of a method with code. Their sort, and whether they show that something is taken to be so of classes.
 #[tactic(auto, using(crate::proofs::Went::went_lines, crate::proofs::Went::cut_lines, crate::proofs::Went::no_memory))]
 fn survey_words<O: Sink>(
     alloc: Global,
     scope: &Scope<'_, '_>,
     method: &MethodWords<'_>,
     out: &mut O,
-) -> Result<Sort, Stop>
+) -> Result<(Sort, bool), Stop>
     requires { length scope.now.files.now ≤ most_classes }
-    ensures told { IfOk result (λ sort. Went O.taken O.faults (IsTrueLine (surveyed scope.now.files.now scope.now.descs.now))
-        (λ lines. all_proved lines ≡ is_yes sort) out.old out.new) }
-    ensures begun { IfErr result (Cut O.taken O.faults (IsTrueLine (surveyed scope.now.files.now scope.now.descs.now)) out.old out.new) }
-    ensures proved { IfOk result (λ sort. is_yes sort ≡ true
-        → (given : Bool) × IsProved (surveyed scope.now.files.now scope.now.descs.now) given method.now.class.now method.now.name.now
+    ensures told { IfOk result (λ sort. Went O.taken O.faults (IsTrueLine (surveyed scope.now.strict scope.now.files.now scope.now.descs.now))
+        (λ lines. all_proved lines ≡ is_yes sort.0) out.old out.new) }
+    ensures begun { IfErr result (Cut O.taken O.faults (IsTrueLine (surveyed scope.now.strict scope.now.files.now scope.now.descs.now)) out.old out.new) }
+    ensures proved { IfOk result (λ sort. is_yes sort.0 ≡ true
+        → IsProvedSo (surveyed scope.now.strict scope.now.files.now scope.now.descs.now) method.now.class.now method.now.name.now
         method.now.desc.now) }
 {
     match method_lines(alloc, scope, method) {
         Ok(lines) => match put_text(out, lines.text.as_slice()) {
-            Ok(()) => Ok(lines.sort),
+            Ok(()) => Ok((lines.sort, lines.assumed)),
             Err(stop) => Err(stop),
         },
         Err(AllocError) => Err(Stop::Memory),
     }
 }
 
-/// Puts the lines of a method, where it has code.
+/// Whether a method is asked: it has code, and is no static initialiser, unless nothing is to be taken to be so.
+fn is_asked(strict: bool, method: &MethodView<'_>) -> bool
+    ensures { result ≡ is_asked strict (method_content method.now) }
+{
+    method.code.is_some() && (strict || method.name != b"<clinit>".as_slice())
+}
+
+/// Puts the lines of a method, where it is asked.
 #[tactic(auto, using(crate::proofs::Went::nothing_went, crate::proofs::Went::counted, crate::proofs::Went::uncounted))]
 fn survey_method<O: Sink>(
     alloc: Global,
@@ -280,13 +303,13 @@ fn survey_method<O: Sink>(
     tally: Tally,
 ) -> Result<Tally, Stop>
     requires { length scope.now.files.now ≤ most_classes }
-    ensures told { IfOk result (λ t. Went O.taken O.faults (IsTrueLine (surveyed scope.now.files.now scope.now.descs.now))
+    ensures told { IfOk result (λ t. Went O.taken O.faults (IsTrueLine (surveyed scope.now.strict scope.now.files.now scope.now.descs.now))
         (λ lines. t.all ≡ (tally.all && all_proved lines)) out.old out.new) }
-    ensures begun { IfErr result (Cut O.taken O.faults (IsTrueLine (surveyed scope.now.files.now scope.now.descs.now)) out.old out.new) }
+    ensures begun { IfErr result (Cut O.taken O.faults (IsTrueLine (surveyed scope.now.strict scope.now.files.now scope.now.descs.now)) out.old out.new) }
     ensures proved { IfOk result (λ t. IsTrue t.all
-        → IsProvedMethod (surveyed scope.now.files.now scope.now.descs.now) class.now (method_content method.now)) }
+        → IsProvedMethod (surveyed scope.now.strict scope.now.files.now scope.now.descs.now) class.now (method_content method.now)) }
 {
-    if method.code.is_none() {
+    if !is_asked(scope.strict, method) {
         return Ok(tally);
     }
     let words = MethodWords {
@@ -295,7 +318,7 @@ fn survey_method<O: Sink>(
         desc: method.desc,
     };
     match survey_words(alloc, scope, &words, out) {
-        Ok(sort) => Ok(tally.with(sort)),
+        Ok((sort, assumed)) => Ok(tally.with(sort, assumed)),
         Err(stop) => Err(stop),
     }
 }
@@ -311,11 +334,11 @@ fn survey_methods<O: Sink>(
     tally: Tally,
 ) -> Result<Tally, Stop>
     requires { length scope.now.files.now ≤ most_classes }
-    ensures told { IfOk result (λ t. Went O.taken O.faults (IsTrueLine (surveyed scope.now.files.now scope.now.descs.now))
+    ensures told { IfOk result (λ t. Went O.taken O.faults (IsTrueLine (surveyed scope.now.strict scope.now.files.now scope.now.descs.now))
         (λ lines. t.all ≡ (tally.all && all_proved lines)) out.old out.new) }
-    ensures begun { IfErr result (Cut O.taken O.faults (IsTrueLine (surveyed scope.now.files.now scope.now.descs.now)) out.old out.new) }
+    ensures begun { IfErr result (Cut O.taken O.faults (IsTrueLine (surveyed scope.now.strict scope.now.files.now scope.now.descs.now)) out.old out.new) }
     ensures proved { IfOk result (λ t. IsTrue t.all
-        → AllByRecursion (IsProvedMethod (surveyed scope.now.files.now scope.now.descs.now) class.now) (map method_content methods.now)) }
+        → AllByRecursion (IsProvedMethod (surveyed scope.now.strict scope.now.files.now scope.now.descs.now) class.now) (map method_content methods.now)) }
 {
     let mut so_far = tally;
     for method in methods {
@@ -336,11 +359,11 @@ fn survey_class<O: Sink>(
     tally: Tally,
 ) -> Result<Tally, Stop>
     requires { length scope.now.files.now ≤ most_classes }
-    ensures told { IfOk result (λ t. Went O.taken O.faults (IsTrueLine (surveyed scope.now.files.now scope.now.descs.now))
+    ensures told { IfOk result (λ t. Went O.taken O.faults (IsTrueLine (surveyed scope.now.strict scope.now.files.now scope.now.descs.now))
         (λ lines. t.all ≡ (tally.all && all_proved lines)) out.old out.new) }
-    ensures begun { IfErr result (Cut O.taken O.faults (IsTrueLine (surveyed scope.now.files.now scope.now.descs.now)) out.old out.new) }
+    ensures begun { IfErr result (Cut O.taken O.faults (IsTrueLine (surveyed scope.now.strict scope.now.files.now scope.now.descs.now)) out.old out.new) }
     ensures proved { IfOk result (λ t. IsTrue t.all
-        → IsProvedClass (surveyed scope.now.files.now scope.now.descs.now) class.now) }
+        → IsProvedClass (surveyed scope.now.strict scope.now.files.now scope.now.descs.now) class.now) }
 {
     match survey_methods(
         alloc,
@@ -363,11 +386,11 @@ pub(crate) fn survey_classes<O: Sink>(
     out: &mut O,
 ) -> Result<Tally, Stop>
     requires { length scope.now.files.now ≤ most_classes }
-    ensures told { IfOk result (λ t. Went O.taken O.faults (IsTrueLine (surveyed scope.now.files.now scope.now.descs.now))
+    ensures told { IfOk result (λ t. Went O.taken O.faults (IsTrueLine (surveyed scope.now.strict scope.now.files.now scope.now.descs.now))
         (λ lines. t.all ≡ all_proved lines) out.old out.new) }
-    ensures begun { IfErr result (Cut O.taken O.faults (IsTrueLine (surveyed scope.now.files.now scope.now.descs.now)) out.old out.new) }
+    ensures begun { IfErr result (Cut O.taken O.faults (IsTrueLine (surveyed scope.now.strict scope.now.files.now scope.now.descs.now)) out.old out.new) }
     ensures proved { IfOk result (λ t. IsTrue t.all
-        → AllByRecursion (IsProvedClass (surveyed scope.now.files.now scope.now.descs.now)) scope.now.classes.now) }
+        → AllByRecursion (IsProvedClass (surveyed scope.now.strict scope.now.files.now scope.now.descs.now)) scope.now.classes.now) }
 {
     let mut so_far = no_tally();
     for class in scope.classes {

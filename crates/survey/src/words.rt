@@ -2,6 +2,7 @@
 ghost use Rattle.std.specs.Prelude.{◌≡◌, ◌∷◌, ◌≤◌, ◌<◌, [], true, false, length, map, string_bytes, IfOk, IfSome, IfNone};
 ghost use Rattle.std.specs.Prelude.{MatchOption, IsTrue};
 ghost use Rattle.std.specs.List.{list_all};
+ghost use Rattle.survey.specs.Words.{is_strict, behind_strict};
 ghost use Rattle.survey.specs.Words.{behind_why, behind_descs, descs_in, desc_words, class_words, is_file_word, can_be_surveyed};
 ghost use Rattle.survey.specs.Words.{are_survey};
 ghost use Rattle.class_base.specs.Limits.{most_classes};
@@ -12,6 +13,8 @@ use std::alloc::{AllocError, Global};
 /// What the words of a command line ask for.
 #[derive(Drop)]
 pub(crate) struct Asked<'a> {
+    /// Whether nothing is to be assumed of classes and parameters.
+    pub(crate) strict: bool,
     /// Whether advice is asked for.
     pub(crate) why: bool,
     /// The words that name descriptions.
@@ -25,6 +28,32 @@ pub(crate) struct Asked<'a> {
 struct DescWords<'a> {
     descs: Vec<&'a str>,
     rest: &'a [String],
+}
+
+/// Whether the words begin with `--strict`.
+fn is_strict(words: &[String]) -> bool
+    ensures { result ≡ is_strict (map string_bytes words.now) }
+{
+    match words.split_first() {
+        Some((first, _)) => first.as_bytes() == b"--strict".as_slice(),
+        None => false,
+    }
+}
+
+/// The words behind `--strict`, which may stand first.
+fn behind_strict(words: &[String]) -> &[String]
+    ensures { map string_bytes result.now ≡ behind_strict (map string_bytes words.now) }
+{
+    match words.split_first() {
+        Some((first, rest)) => {
+            if first.as_bytes() == b"--strict".as_slice() {
+                rest
+            } else {
+                words
+            }
+        }
+        None => words,
+    }
 }
 
 /// The words behind `--why`, which may stand first.
@@ -132,13 +161,16 @@ impl<'a> Asked<'a> {
             (λ asked. map (λ name. name.now) asked.descs.items ≡ desc_words (map string_bytes words.now))) }
         ensures few { IfOk result (λ found. IfSome found (λ asked. length asked.classes.now ≤ most_classes)) }
         ensures few_descs { IfOk result (λ found. IfSome found (λ asked. length asked.descs.items ≤ most_classes)) }
+        ensures strict { IfOk result (λ found. IfSome found (λ asked. asked.strict ≡ is_strict (map string_bytes words.now))) }
         ensures survey { IfOk result (λ found. IfSome found (λ asked. are_survey (map string_bytes words.now) ≡ true)) }
         ensures none { IfOk result (λ found. IfNone found (are_survey (map string_bytes words.now) ≡ false)) }
     {
-        let behind = behind_why(words);
+        let unstrict = behind_strict(words);
+        let behind = behind_why(unstrict);
         let found = described(alloc, behind)?;
         let asked = Asked {
-            why: behind.len() < words.len(),
+            strict: is_strict(words),
+            why: behind.len() < unstrict.len(),
             descs: found.descs,
             classes: found.rest,
         };

@@ -15,10 +15,11 @@ use Rattle.survey.specs.Words.{are_survey, class_words, desc_words}
 use Rattle.survey.specs.inner.Keeping.{DescRead, DescsRead}
 use Rattle.survey.proofs.Descs.{none_read, desc_more, descs_all}
 use Rattle.tools_cli.specs.Reading.{behind_first, WereHanded, IsPut, IsWithout, HasNone}
-use Rattle.tools_cli.specs.Describing.{file_words, IsDescription, HasDescribed, EndsDescribing}
+use Rattle.class_calls.specs.declared.describe.calls.Asked.{Asked}
+use Rattle.tools_cli.specs.Describing.{file_words, asked_of, behind_flags, IsDescription, HasDescribed, EndsDescribing}
 use Rattle.tools_cli.specs.Certifying.{IsFilled, IsOutcomeOf, HasCertified, EndsCertifying}
 use Rattle.tools_cli.specs.Tools.{EndsTool}
-use Rattle.tools_cli.specs.inner.Outputs.{IsOutput, IsCertified}
+use Rattle.tools_cli.specs.inner.Outputs.{IsOutput, IsOutputAs, IsCertified}
 
 -- ---- files
 
@@ -67,30 +68,37 @@ few_names f names contents same few = omega (arith, same, few)
 -- ---- outputs
 
 -- the lines of the first class's methods
-pub lists : {W : Type 0} (text : W → List ℕ) (words : List W) (class : W) (behind : List W) (contents : List (List ℕ)) (out : List ℕ)
-    → words ≡ class ∷ behind → length behind ≡ 0 → ListsMethods contents out → IsDescription (map text words) contents out
-lists text words class [] contents out is none lists' =
-    subst (λ (w : List W). IsDescription (map text w) contents out) (sym is) lists'
-lists text words class (method ∷ behind) contents out is none lists' = absurd (omega (arith, none))
+pub lists : {W : Type 0} (text : W → List ℕ) (words : List W) (class : W) (behind : List W) (asked : Asked) (contents : List (List ℕ))
+    (out : List ℕ) → words ≡ class ∷ behind → length behind ≡ 0 → ListsMethods contents out → IsDescription asked (map text words) contents out
+lists text words class [] asked contents out is none lists' =
+    subst (λ (w : List W). IsDescription asked (map text w) contents out) (sym is) lists'
+lists text words class (method ∷ behind) asked contents out is none lists' = absurd (omega (arith, none))
 
 -- a template
 pub templates : {W : Type 0} (text : W → List ℕ) (words : List W) (class : W) (behind : List W) (method : W) (rest : List W)
-    (word : List ℕ) (contents : List (List ℕ)) (out : List ℕ) → words ≡ class ∷ behind → behind ≡ method ∷ rest → word ≡ text method
-    → Describes contents word out → IsDescription (map text words) contents out
-templates text words class behind method rest word contents out is then named describes' =
-    subst (λ (w : List W). IsDescription (map text w) contents out) (sym (is ∙ ap (λ (b : List W). class ∷ b) then))
-    (subst (λ (w : List ℕ). Describes contents w out) named describes')
+    (word : List ℕ) (asked : Asked) (contents : List (List ℕ)) (out : List ℕ) → words ≡ class ∷ behind → behind ≡ method ∷ rest
+    → word ≡ text method → Describes asked contents word out → IsDescription asked (map text words) contents out
+templates text words class behind method rest word asked contents out is then named describes' =
+    subst (λ (w : List W). IsDescription asked (map text w) contents out) (sym (is ∙ ap (λ (b : List W). class ∷ b) then))
+    (subst (λ (w : List ℕ). Describes asked contents w out) named describes')
 
-pub is_output : {F : Type 0} (files : FilesSeen F) (words names named contents given : List (List ℕ)) (old new : F) (text : List ℕ)
-    → names ≡ file_words words → named ≡ names → given ≡ contents → WereHanded files named contents old new
-    → IsDescription words given text → IsOutput files words old new text
-is_output files words names named contents given old new text same is_named is_given read is = (
+pub is_output : {F : Type 0} (files : FilesSeen F) (asked : Asked) (words names named contents given : List (List ℕ)) (old new : F)
+    (text : List ℕ) → names ≡ file_words words → named ≡ names → given ≡ contents → WereHanded files named contents old new
+    → IsDescription asked words given text → IsOutputAs files asked words old new text
+is_output files asked words names named contents given old new text same is_named is_given read is = (
   contents,
   (
     subst (λ (n : List (List ℕ)). WereHanded files n contents old new) (is_named ∙ same) read,
-    subst (λ (g : List (List ℕ)). IsDescription words g text) is_given is,
+    subst (λ (g : List (List ℕ)). IsDescription asked words g text) is_given is,
   ),
 )
+
+-- with the flags
+pub output_of : {F : Type 0} (files : FilesSeen F) (words behind : List (List ℕ)) (asked : Asked) (old new : F) (text : List ℕ)
+    → asked ≡ asked_of words → behind ≡ behind_flags words → IsOutputAs files asked behind old new text → IsOutput files words old new text
+output_of files words behind asked old new text flags rest is =
+    subst (λ (a : Asked). IsOutputAs files a (behind_flags words) old new text) flags
+    (subst (λ (w : List (List ℕ)). IsOutputAs files asked w old new text) rest is)
 
 pub is_certified : {A F : Type 0} (f : A → List ℕ) (files : FilesSeen F) (command : List ℕ) (start : List A)
     (words names named contents given : List (List ℕ)) (old new : F) (outcome : Outcome)

@@ -15,6 +15,7 @@ use Rattle.input_steps.specs.declared.refused.Fault.{Fault}
 use Rattle.input_steps.specs.Steps.{Step, ◌>>=◌}
 use Rattle.input_steps.specs.Texts.{OfInput}
 use Rattle.input_steps.specs.Classes.{reading_classes, linking}
+use Rattle.input_steps.specs.SetUp.{set_up}
 use Rattle.input_steps.specs.Programs.{closing, testing_calls, typing_methods}
 use Rattle.desc_steps.specs.Descriptions.{reading_description, finding_entry, describing}
 use Rattle.class_calls.specs.run_call.Answers.{reading_state, giving_input}
@@ -33,6 +34,20 @@ RefusesOther text given = OfInput places.State (λ fault. (fault ≡ descs.NoMet
 abbrev pub naming_entry : DescText → StateText → Step (Unit {0})
 naming_entry text given = record { gives = λ nothing. IsSameEntry text given; refuses = RefusesOther text given }
 
+-- ---- the state's lines
+
+-- a state says of the classes what the description says: it has the same lines in the same order
+abbrev pub HasSameLines : DescText → StateText → Type 0
+HasSameLines text given = given.world ≡ text.world
+
+-- a state is refused where its lines aren't those of the description
+abbrev pub RefusesLines : DescText → StateText → Place → Fault → Type 0
+RefusesLines text given = OfInput places.State (λ fault. (fault ≡ descs.WorldLines) × (HasSameLines text given → ⊥))
+
+-- the state's lines are tested to be the description's
+abbrev pub comparing_lines : DescText → StateText → Step (Unit {0})
+comparing_lines text given = record { gives = λ nothing. HasSameLines text given; refuses = RefusesLines text given }
+
 -- ---- the steps
 
 -- what a command says of a program with its typing, its described inputs, and those that a state gives
@@ -46,9 +61,10 @@ OfState Says state desc files = do
   classes ← reading_classes files
   text ← reading_description desc
   given ← reading_state state
-  world ← linking classes
+  world ← linking (set_up text.world classes)
   entry ← finding_entry world text
   same ← naming_entry text given
+  alike ← comparing_lines text given
   program ← closing world entry
   acyclic ← testing_calls program
   typing ← typing_methods program

@@ -2,18 +2,18 @@
 ghost use Rattle.std.specs.Prelude.{◌≤◌, length, map, IsTrue};
 ghost use Rattle.std.specs.List.{AllByRecursion};
 ghost use Rattle.class_base.specs.Limits.{most_classes};
-ghost use Rattle.class_world.specs.Linking.{CanBeRead};
+ghost use Rattle.class_world.specs.Linking.{IsLinkable};
 ghost use Rattle.class_world.specs.Resolve.{has_body};
 ghost use Rattle.class_world.specs.Worlds.{classes_of};
 ghost use Rattle.class_program.specs.Views.{program_of};
 ghost use Rattle.cert_calls.specs.loop_call.Answers.{Answers};
 ghost use Rattle.cert_calls.specs.loop_call.Headline.{AllGoOnIfDone};
-ghost use Rattle.cert_calls.specs.loop_call.inner.Rest.{OfProgram, OfName, OfWorld, OfClasses};
+ghost use Rattle.cert_calls.specs.loop_call.inner.Rest.{OfProgram, OfLines, OfName, OfWorld, OfClasses};
 ghost use Rattle.cert_calls.specs.loop_call.States.{OfState};
 ghost use Rattle.cert_calls.specs.loop_call.inner.Words.{Shows};
 
 use crate::loop_call::certs::loop_bytes;
-use crate::loop_call::naming::name_entry;
+use crate::loop_call::naming::{compare_lines, name_entry};
 use check_call::Outcome;
 use class_calls::run_call::{input_of, read_state};
 use class_program::Program;
@@ -62,10 +62,28 @@ fn of_entry(
     entry: MethodRef,
 ) -> Result<Outcome, Refused>
     requires { IsTrue (has_body (classes_of world) entry) }
-    ensures { OfName (Shows cert.now) text given (classes_of world.entry) entry result }
+    ensures { OfLines (Shows cert.now) text given (classes_of world.entry) entry result }
 {
     match close(alloc, world, entry) {
         Ok(program) => of_program(alloc, cert, text, given, &program),
+        Err(refused) => Err(refused),
+    }
+}
+
+/// What is said of the entry that a description and a state name, where these say the same of the classes.
+fn of_name(
+    alloc: Global,
+    cert: &[u8],
+    text: DescText,
+    given: StateText,
+    world: World<'_>,
+    entry: MethodRef,
+) -> Result<Outcome, Refused>
+    requires { IsTrue (has_body (classes_of world) entry) }
+    ensures { OfName (Shows cert.now) text given (classes_of world.entry) entry result }
+{
+    match compare_lines(&text, &given) {
+        Ok(()) => of_entry(alloc, cert, text, given, world, entry),
         Err(refused) => Err(refused),
     }
 }
@@ -85,7 +103,7 @@ fn of_world(
         Err(refused) => return Err(refused),
     };
     match name_entry(&text, &given) {
-        Ok(()) => of_entry(alloc, cert, text, given, world, entry),
+        Ok(()) => of_name(alloc, cert, text, given, world, entry),
         Err(refused) => Err(refused),
     }
 }
@@ -99,10 +117,10 @@ fn of_classes(
     classes: Vec<ClassView<'_>>,
 ) -> Result<Outcome, Refused>
     requires few { length classes.items ≤ most_classes }
-    requires read { AllByRecursion CanBeRead classes.items }
+    requires fit { AllByRecursion IsLinkable classes.items }
     ensures { OfClasses (Shows cert.now) text given classes.entry.items result }
 {
-    match link(alloc, classes) {
+    match link(alloc, text.world.as_slice(), classes) {
         Ok(world) => of_world(alloc, cert, text, given, world),
         Err(refused) => Err(refused),
     }
@@ -142,7 +160,8 @@ fn of_files(
 /// # Errors
 ///
 /// The first fault with its place: of a class file, in order; of the description's text; of the state's text; of the classes as a world; of
-/// the method's name; that the state names another one; of its program; a cycle of calls; a method without a typing; of the description
+/// the method's name; that the state names another one, or says other things of the classes; of its program; a cycle of calls; a method
+/// without a typing; of the description
 /// against the program; of what the state gives to it. Want of memory.
 pub fn loop_line(
     alloc: Global,

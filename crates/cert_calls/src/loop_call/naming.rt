@@ -1,10 +1,10 @@
-//! Whether a state names the method of a description.
+//! Whether a state names the method of a description, and says of the classes what it says.
 ghost use Rattle.std.specs.Prelude.{◌≡◌, ◌↔◌, IsTrue, IfOk, IfErr};
 ghost use Rattle.input_steps.specs.Steps.{IsCaused};
-ghost use Rattle.cert_calls.specs.loop_call.States.{IsSameEntry, RefusesOther};
+ghost use Rattle.cert_calls.specs.loop_call.States.{IsSameEntry, RefusesOther, HasSameLines, RefusesLines};
 
 use input_steps::{Place, Refused, refuse_desc};
-use input_text::{DescFault, DescText, StateText};
+use input_text::{DescFault, DescText, StateText, are_same_lines};
 
 /// Whether two names are the same.
 fn are_same(one: &[u8], other: &[u8]) -> bool
@@ -40,5 +40,21 @@ pub(crate) fn name_entry(text: &DescText, given: &StateText) -> Result<(), Refus
         Ok(())
     } else {
         Err(refuse_desc(Place::State, DescFault::NoMethod))
+    }
+}
+
+/// Tests that a state has the lines of a description.
+///
+/// # Errors
+///
+/// At `State` that it hasn't.
+pub(crate) fn compare_lines(text: &DescText, given: &StateText) -> Result<(), Refused>
+    ensures alike { IfOk result (λ _. HasSameLines text.now given.now) }
+    ensures refused { IfErr result (IsCaused (RefusesLines text.now given.now)) }
+{
+    if are_same_lines(given.world.as_slice(), text.world.as_slice()) {
+        Ok(())
+    } else {
+        Err(refuse_desc(Place::State, DescFault::WorldLines))
     }
 }

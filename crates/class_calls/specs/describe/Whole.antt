@@ -1,6 +1,7 @@
 -- Descriptions that leave no input out.
-use Rattle.std.specs.Prelude.{◌≡◌, ℕ, ◌<◌, ◌&&◌, ◌||◌, Bool, true, false, int_le, List, [], ◌∷◌, length, slice_get, Some, None, IsTrue}
+use Rattle.std.specs.Prelude.{◌≡◌, ℕ, ◌<◌, ◌&&◌, ◌||◌, Bool, true, false, List, [], ◌∷◌, length, slice_get, Some, None, IsTrue}
 use Rattle.std.specs.List.{list_all}
+use Rattle.std.specs.Ordering.{int_eq}
 use Rattle.jvm_values.specs.declared.types.Ty.{Ty}
 use Rattle.jvm_values.specs.declared.types.Slot.{Slot}
 use Rattle.jvm_values.specs.declared.types.Slot.TheVariants as slots
@@ -25,10 +26,10 @@ is_any shapes.Tree = false
 is_any shapes.Dag = false
 is_any shapes.Any = true
 
--- an input leaves nothing of a slot out, but null perhaps: every number of the kind, or every object of the type in
+-- an input leaves nothing of a slot out, but null perhaps: it is every number of the kind and no other, or every object of the type in
 -- any shape
 abbrev pub is_open : World → Slot → Input → Bool
-is_open world (slots.Num kind) (Int interval) = int_le interval.lo (least_of kind) && int_le (greatest_of kind) interval.hi
+is_open world (slots.Num kind) (Int interval) = int_eq interval.lo (least_of kind) && int_eq interval.hi (greatest_of kind)
 is_open world (slots.Num kind) (Ref s null shape) = false
 is_open world (slots.Ref t) (Int interval) = false
 is_open world (slots.Ref t) (Ref s null shape) = is_sub world (erase world t) s && is_any shape

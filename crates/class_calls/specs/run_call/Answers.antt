@@ -23,6 +23,7 @@ use Rattle.input_steps.specs.declared.refused.Fault.{Fault}
 use Rattle.input_steps.specs.Steps.{Step, ◌>>=◌}
 use Rattle.input_steps.specs.Texts.{OfInput, IsTextFault}
 use Rattle.input_steps.specs.Classes.{reading_classes, linking}
+use Rattle.input_steps.specs.SetUp.{set_up}
 use Rattle.input_steps.specs.Programs.{closing, testing_calls, testing_types}
 use Rattle.class_calls.specs.run_call.Lines.{ended_line}
 
@@ -93,7 +94,7 @@ abbrev pub Answers : ℕ → List ℕ → List (List ℕ) → Result (List ℕ) 
 Answers fuel state files = do
   classes ← reading_classes files
   text ← reading_state state
-  world ← linking classes
+  world ← linking (set_up text.world classes)
   entry ← finding_entry world text
   program ← closing world entry
   acyclic ← testing_calls program

@@ -1,64 +1,246 @@
 //! From class files to the list of a class's methods, or to a description of one of them.
-ghost use Rattle.std.specs.Prelude.{◌≡◌, ◌≤◌, length, map, Some, IfOk, IsTrue};
-ghost use Rattle.std.specs.List.{AllByRecursion};
-ghost use Rattle.class_world.specs.Linking.{CanBeRead};
+ghost use Rattle.std.specs.Prelude.{◌≡◌, ◌≤◌, ℕ, List, [], length, map, Some, None, IfOk, IfErr, IfSome, IsTrue};
+ghost use Rattle.class_read.specs.Content.{ClassContent};
 ghost use Rattle.class_world.specs.Members.{find_method};
 ghost use Rattle.class_world.specs.Resolve.{has_body};
 ghost use Rattle.class_world.specs.Worlds.{classes_of};
+ghost use Rattle.class_program.specs.Views.{program_of};
 ghost use Rattle.class_base.specs.Limits.{most_classes};
-ghost use Rattle.class_calls.specs.describe.Calls.{ListsMethods, DescribesIn, DescribesEntry, Describes};
+ghost use Rattle.input_steps.specs.Steps.{IsCaused};
+ghost use Rattle.input_steps.specs.Classes.{AllSpell, IsWorldOf, RefusesClasses};
+ghost use Rattle.input_steps.specs.SetUp.{set_up};
+ghost use Rattle.class_calls.specs.describe.Lines.{IsMethodProgram, HasNone, HasNoMethod, RefusesMethod, allows, AsksFor};
+ghost use Rattle.class_calls.specs.describe.Lines.{AreNeeded, Under};
+ghost use Rattle.class_calls.specs.describe.Calls.{ListsMethods, Describes};
 
 use crate::describe::checked::template;
 use crate::describe::fault::DescribeFault;
+use crate::describe::lines::{Leave, line_again, line_needed};
 use crate::describe::methods::{MethodNames, first_named, lines_of};
-use class_read::ClassView;
+use class_program::Program;
 use class_world::{MethodRef, World};
-use input_steps::{close, link, read_classes};
-use std::alloc::Global;
+use input_steps::{Fault, Refused, close, link, read_classes};
+use input_text::WorldLine;
+use list_views::Seq;
+use std::alloc::{AllocError, Global};
 
-/// The method of these names, which has a body.
-fn entry_in(world: &World<'_>, names: &MethodNames<'_>) -> Result<MethodRef, DescribeFault>
-    ensures found { IfOk result (λ entry. find_method (classes_of world.now) names.now.class.now names.now.name.now
+/// How a description is asked for.
+#[derive(Clone, Copy)]
+pub struct Asked {
+    /// Which lines about classes it may have, where the program needs them.
+    pub leave: Leave,
+    /// Whether a parameter of type boolean, byte, char or short has the numbers of its type alone.
+    pub narrow: bool,
+}
+
+/// A program, and lines about classes: those under which its world is made, as `program_under` says.
+#[derive(Drop)]
+pub struct UnderLines<'a> {
+    /// The lines.
+    pub lines: Seq<WorldLine>,
+    /// The program.
+    pub program: Program<'a>,
+}
+
+/// The method of these names, where it has a body.
+#[tactic(auto, using(crate::proofs::Answered::without_body, crate::proofs::Answered::without_method))]
+fn entry_in(world: &World<'_>, names: &MethodNames<'_>) -> Option<MethodRef>
+    ensures found { IfSome result (λ entry. find_method (classes_of world.now) names.now.class.now names.now.name.now
         names.now.desc.now ≡ Some entry) }
-    ensures body { IfOk result (λ entry. IsTrue (has_body (classes_of world.now) entry)) }
+    ensures body { IfSome result (λ entry. IsTrue (has_body (classes_of world.now) entry)) }
+    ensures none { result ≡ None → HasNone (classes_of world.now) names.now.class.now names.now.name.now names.now.desc.now }
 {
     match world.find(names.class, names.name, names.desc) {
         Some(entry) => {
             if world.has_body(entry) {
-                Ok(entry)
+                Some(entry)
             } else {
-                Err(DescribeFault::NoMethod)
+                None
             }
         }
-        None => Err(DescribeFault::NoMethod),
+        None => None,
     }
 }
 
-/// A description of an entry, which leaves no input out.
-#[tactic(auto, using(crate::proofs::Answered::entry_described))]
-fn template_at(alloc: Global, world: World<'_>, entry: MethodRef) -> Result<Vec<u8>, DescribeFault>
-    requires { IsTrue (has_body (classes_of world) entry) }
-    ensures { IfOk result (λ text. DescribesEntry (classes_of world.entry) entry text.items) }
+/// The program of an entry of a world that classes make as some lines say.
+#[tactic(auto, using(crate::proofs::Answered::is_method_program, crate::proofs::Answered::has_no_method, crate::proofs::Answered::at_entry))]
+fn program_in<'a>(
+    alloc: Global,
+    files: &'a [Vec<u8>],
+    lines: &[WorldLine],
+    names: &MethodNames<'_>,
+    world: World<'a>,
+) -> Result<Option<Program<'a>>, Refused>
+    requires { (classes : List ClassContent) × (AllSpell (map (λ file. file.items) files.now) classes
+        × IsWorldOf (set_up lines.now classes) (classes_of world)) }
+    ensures program { IfOk result (λ found. IfSome found (λ program. IsMethodProgram lines.now (map (λ file. file.items) files.now)
+        names.now.class.now names.now.name.now names.now.desc.now (program_of program))) }
+    ensures none { IfOk result (λ found. found ≡ None → HasNoMethod lines.now (map (λ file. file.items) files.now) names.now.class.now
+        names.now.name.now names.now.desc.now) }
+    ensures refused { IfErr result (IsCaused (RefusesMethod lines.now (map (λ file. file.items) files.now) names.now.class.now
+        names.now.name.now names.now.desc.now)) }
 {
-    let program = close(alloc, world, entry)?;
-    template(alloc, &program)
+    match entry_in(&world, names) {
+        Some(entry) => match close(alloc, world, entry) {
+            Ok(program) => Ok(Some(program)),
+            Err(refused) => Err(refused),
+        },
+        None => Ok(None),
+    }
 }
 
-/// A description of the method of the first class that a word names, which leaves no input out.
-#[tactic(auto, using(crate::proofs::Answered::in_described))]
-fn template_in(
+/// The program of a method, in the world that classes make as some lines say; None where no method with a body has these names.
+#[tactic(auto, using(crate::proofs::Answered::few_classes, crate::proofs::Answered::classes_link, crate::proofs::Answered::at_files, crate::proofs::Answered::at_world))]
+fn program_at<'a>(
     alloc: Global,
-    classes: Vec<ClassView<'_>>,
-    word: &[u8],
-) -> Result<Vec<u8>, DescribeFault>
-    requires few { length classes.items ≤ most_classes }
-    requires read { AllByRecursion CanBeRead classes.items }
-    ensures { IfOk result (λ text. DescribesIn classes.entry.items word.now text.items) }
+    files: &'a [Vec<u8>],
+    lines: &[WorldLine],
+    names: &MethodNames<'_>,
+) -> Result<Option<Program<'a>>, Refused>
+    requires { length files.now ≤ most_classes }
+    ensures program { IfOk result (λ found. IfSome found (λ program. IsMethodProgram lines.now (map (λ file. file.items) files.now)
+        names.now.class.now names.now.name.now names.now.desc.now (program_of program))) }
+    ensures none { IfOk result (λ found. found ≡ None → HasNoMethod lines.now (map (λ file. file.items) files.now) names.now.class.now
+        names.now.name.now names.now.desc.now) }
+    ensures refused { IfErr result (IsCaused (RefusesMethod lines.now (map (λ file. file.items) files.now) names.now.class.now
+        names.now.name.now names.now.desc.now)) }
 {
-    let names = first_named(classes.as_slice(), word)?;
-    let world = link(alloc, classes)?;
-    let entry = entry_in(&world, &names)?;
-    template_at(alloc, world, entry)
+    let classes = match read_classes(alloc, files) {
+        Ok(classes) => classes,
+        Err(refused) => return Err(refused),
+    };
+    let world = match link(alloc, lines, classes) {
+        Ok(world) => world,
+        Err(refused) => return Err(refused),
+    };
+    program_in(alloc, files, lines, names, world)
+}
+
+/// The line that a fault asks for, beside those that are there.
+fn next_line(
+    alloc: Global,
+    files: &[Vec<u8>],
+    leave: Leave,
+    lines: &[WorldLine],
+    fault: &Fault,
+) -> Result<Option<WorldLine>, Refused>
+    requires { length files.now ≤ most_classes }
+    ensures asked { IfOk result (λ found. IfSome found (λ line. IsTrue (allows leave line) × AsksFor fault.now line)) }
+    ensures refused { IfErr result (IsCaused (RefusesClasses (map (λ file. file.items) files.now))) }
+{
+    let classes = match read_classes(alloc, files) {
+        Ok(classes) => classes,
+        Err(refused) => return Err(refused),
+    };
+    match line_needed(alloc, leave, classes.as_slice(), lines, fault) {
+        Ok(found) => Ok(found),
+        Err(AllocError) => Err(Refused::Memory),
+    }
+}
+
+/// The same lines once more.
+fn lines_again(alloc: Global, lines: &[WorldLine]) -> Result<Seq<WorldLine>, AllocError>
+    ensures { IfOk result (λ again. again ≡ lines.now) }
+{
+    let mut again = Seq::new(alloc);
+    for line in lines {
+        again.push(line_again(alloc, line)?)?;
+    }
+    Ok(again)
+}
+
+/// The lines with one more, which a fault asks for that is there under them; else the fault.
+#[tactic(auto, using(crate::proofs::Answered::needed_more, crate::proofs::Answered::at_files))]
+fn lines_with_next(
+    alloc: Global,
+    files: &[Vec<u8>],
+    leave: Leave,
+    mut lines: Seq<WorldLine>,
+    refused: Refused,
+) -> Result<Seq<WorldLine>, Refused>
+    requires { length files.now ≤ most_classes }
+    ensures needed { (class name desc : List ℕ) (first : List WorldLine)
+        → IsCaused (RefusesMethod lines.entry (map (λ file. file.items) files.now) class name desc) refused.entry
+        → AreNeeded leave (map (λ file. file.items) files.now) class name desc first lines.entry
+        → IfOk result (AreNeeded leave (map (λ file. file.items) files.now) class name desc first) }
+    ensures refused { (class name desc : List ℕ)
+        → IsCaused (RefusesMethod lines.entry (map (λ file. file.items) files.now) class name desc) refused.entry
+        → IfErr result (IsCaused (RefusesMethod lines.entry (map (λ file. file.items) files.now) class name desc)) }
+{
+    let (place, fault) = match refused {
+        Refused::At { place, fault } => (place, fault),
+        Refused::Memory => return Err(Refused::Memory),
+    };
+    match next_line(alloc, files, leave, lines.as_slice(), &fault) {
+        Ok(Some(line)) => {
+            lines.push(line)?;
+            Ok(lines)
+        }
+        Ok(None) => Err(Refused::At { place, fault }),
+        Err(refused) => Err(refused),
+    }
+}
+
+/// The program of a method, with the lines about classes under which it is made: those that are given, and behind them each further one
+/// that is allowed and that a fault of the program asks for under those before it. A class that would be initialised is then taken to
+/// be initialised before the run, and an interface that is missing in a list of interfaces is passed over. None where no method with a
+/// body has these names. There are at most 256 class files.
+///
+/// # Errors
+///
+/// The fault of the files, of linking or of closing that no line helps against; want of memory.
+#[tactic(auto, using(crate::proofs::Answered::needed_first, crate::proofs::Answered::none_under, crate::proofs::Answered::refused_under))]
+pub fn program_under<'a>(
+    alloc: Global,
+    files: &'a [Vec<u8>],
+    first: &[WorldLine],
+    names: &MethodNames<'_>,
+    leave: Leave,
+) -> Result<Option<UnderLines<'a>>, Refused>
+    requires { length files.now ≤ most_classes }
+    ensures program { IfOk result (λ found. IfSome found (λ under. IsMethodProgram under.lines (map (λ file. file.items) files.now)
+        names.now.class.now names.now.name.now names.now.desc.now (program_of under.program))) }
+    ensures needed { IfOk result (λ found. IfSome found (λ under. AreNeeded leave (map (λ file. file.items) files.now)
+        names.now.class.now names.now.name.now names.now.desc.now first.now under.lines)) }
+    ensures none { IfOk result (λ found. found ≡ None → Under leave (map (λ file. file.items) files.now) names.now.class.now
+        names.now.name.now names.now.desc.now first.now
+        (λ lines. HasNoMethod lines (map (λ file. file.items) files.now) names.now.class.now names.now.name.now names.now.desc.now)) }
+    ensures refused { IfErr result (IsCaused (λ place fault. Under leave (map (λ file. file.items) files.now) names.now.class.now
+        names.now.name.now names.now.desc.now first.now
+        (λ lines. RefusesMethod lines (map (λ file. file.items) files.now) names.now.class.now names.now.name.now names.now.desc.now
+        place fault))) }
+{
+    let mut lines = lines_again(alloc, first)?;
+    for _round in 0..u64::MAX {
+        match program_at(alloc, files, lines.as_slice(), names) {
+            Ok(Some(program)) => return Ok(Some(UnderLines { lines, program })),
+            Ok(None) => return Ok(None),
+            Err(refused) => match lines_with_next(alloc, files, leave, lines, refused) {
+                Ok(more) => lines = more,
+                Err(refused) => return Err(refused),
+            },
+        }
+    }
+    Err(Refused::Memory)
+}
+
+/// The program of the method that a word names, under the lines that it needs.
+fn described_program<'a>(
+    alloc: Global,
+    files: &'a [Vec<u8>],
+    names: &MethodNames<'_>,
+    leave: Leave,
+) -> Result<UnderLines<'a>, DescribeFault>
+    requires { length files.now ≤ most_classes }
+    ensures program { IfOk result (λ under. IsMethodProgram under.lines (map (λ file. file.items) files.now)
+        names.now.class.now names.now.name.now names.now.desc.now (program_of under.program)) }
+    ensures needed { IfOk result (λ under. AreNeeded leave (map (λ file. file.items) files.now) names.now.class.now names.now.name.now
+        names.now.desc.now [] under.lines) }
+{
+    match program_under(alloc, files, &[], names, leave)? {
+        Some(under) => Ok(under),
+        None => Err(DescribeFault::NoMethod),
+    }
 }
 
 /// The methods of the first class file that can be described, a line for each: its name and behind it its descriptor, in which blanks,
@@ -80,16 +262,25 @@ pub fn methods_of(alloc: Global, files: &[Vec<u8>]) -> Result<Vec<u8>, DescribeF
 }
 
 /// A description of the method of the first class file that a word names, which leaves no input out. The word is the method's name,
-/// or its name and behind it its descriptor. The further class files belong to the program; there are at most 256.
+/// or its name and behind it its descriptor. The further class files belong to the program; there are at most 256. Where there is
+/// leave for them, the description has the lines about classes that the program needs; and where it is asked so, a parameter of type
+/// boolean, byte, char or short has the numbers of its type alone.
 ///
 /// # Errors
 ///
 /// `Classes`, `NoMethod`, `SeveralMethods`, `Unwritable`. Want of memory.
 #[tactic(auto, using(crate::proofs::Answered::files_described))]
-pub fn template_of(alloc: Global, files: &[Vec<u8>], word: &[u8]) -> Result<Vec<u8>, DescribeFault>
+pub fn template_of(
+    alloc: Global,
+    files: &[Vec<u8>],
+    word: &[u8],
+    asked: Asked,
+) -> Result<Vec<u8>, DescribeFault>
     requires { length files.now ≤ most_classes }
-    ensures { IfOk result (λ text. Describes (map (λ file. file.items) files.now) word.now text.items) }
+    ensures { IfOk result (λ text. Describes asked (map (λ file. file.items) files.now) word.now text.items) }
 {
     let classes = read_classes(alloc, files)?;
-    template_in(alloc, classes, word)
+    let names = first_named(classes.as_slice(), word)?;
+    let under = described_program(alloc, files, &names, asked.leave)?;
+    template(alloc, &under.program, under.lines.as_slice(), asked.narrow)
 }

@@ -11,13 +11,13 @@ use std::alloc::{AllocError, Global};
 
 /// The names of a method, and of the class that declares it.
 #[derive(Clone, Copy)]
-pub(crate) struct MethodNames<'a> {
+pub struct MethodNames<'a> {
     /// The class's name.
-    pub(crate) class: &'a [u8],
+    pub class: &'a [u8],
     /// The method's name.
-    pub(crate) name: &'a [u8],
+    pub name: &'a [u8],
     /// Its descriptor.
-    pub(crate) desc: &'a [u8],
+    pub desc: &'a [u8],
 }
 
 /// Whether a method can be described: it isn't abstract, and no class initializer.

@@ -22,14 +22,14 @@ fn is_any(shape: Shape) -> bool
     }
 }
 
-/// Whether an input is every number of the kind, or every object of the type in any shape.
+/// Whether an input is every number of the kind and no other, or every object of the type in any shape.
 fn is_open(world: &World<'_>, slot: Slot, input: &Input) -> bool
     ensures { result ≡ is_open (classes_of world.now) slot input.now }
 {
     match slot {
         Slot::Num(kind) => match input {
-            Input::Int(interval) => interval.lo() <= kind.least()
-                && kind.greatest() <= interval.hi(),
+            Input::Int(interval) => interval.lo() == kind.least()
+                && interval.hi() == kind.greatest(),
             Input::Ref(_, _, _) => false,
         },
         Slot::Ref(t) => match input {

@@ -1,7 +1,7 @@
 //! The command `run`.
 ghost use Rattle.std.specs.Prelude.{◌≤◌, length, map, IsTrue};
 ghost use Rattle.std.specs.List.{AllByRecursion};
-ghost use Rattle.class_world.specs.Linking.{CanBeRead};
+ghost use Rattle.class_world.specs.Linking.{IsLinkable};
 ghost use Rattle.class_world.specs.Resolve.{has_body};
 ghost use Rattle.class_world.specs.Worlds.{classes_of};
 ghost use Rattle.class_program.specs.Views.{program_of};
@@ -67,10 +67,10 @@ fn run_named(
     classes: Vec<ClassView<'_>>,
 ) -> Result<Seq<u8>, Refused>
     requires few { length classes.items ≤ most_classes }
-    requires read { AllByRecursion CanBeRead classes.items }
+    requires fit { AllByRecursion IsLinkable classes.items }
     ensures { AnswersNamed fuel text classes.entry.items result }
 {
-    let world = match link(alloc, classes) {
+    let world = match link(alloc, text.world.as_slice(), classes) {
         Ok(world) => world,
         Err(refused) => return Err(refused),
     };

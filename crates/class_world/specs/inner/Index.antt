@@ -1,12 +1,13 @@
 -- Tables by which a world finds members: for each class the names and descriptors of its members, whether it has a static
 -- initialiser, and how many of its first fields are part of objects.
 use Rattle.std.specs.Prelude.{◌≡◌, ℕ, ◌+◌, List, [], map, take, length, slice_get}
-use Rattle.std.specs.List.{filter_map, IsDistinct}
+use Rattle.std.specs.List.{filter_map}
 use Rattle.std.specs.Option.{option_map_or}
 use Rattle.class_read.specs.declared.view.FieldView.{FieldView}
 use Rattle.class_read.specs.declared.view.MethodView.{MethodView}
-use Rattle.class_read.specs.Content.{ClassContent, FieldContent, MethodContent}
+use Rattle.class_read.specs.Content.{FieldContent}
 pub use Rattle.code_forms.specs.class_base.Members.{Key, same_key}
+pub use Rattle.class_world.specs.Linking.{field_content_key, method_content_key, HasDistinctMembers}
 use Rattle.class_world.specs.declared.index.MemberIndex.{MemberIndex}
 use Rattle.class_world.specs.World.{World}
 use Rattle.class_world.specs.Fields.{field_slot}
@@ -20,19 +21,6 @@ field_key f = (f.name.now, f.desc.now)
 -- the name and descriptor of a method, as the code holds it
 abbrev pub method_key : MethodView → Key
 method_key m = (m.name.now, m.desc.now)
-
--- the name and descriptor of a field of a class file's content
-abbrev pub field_content_key : FieldContent → Key
-field_content_key f = (f.name, f.desc)
-
--- the name and descriptor of a method of a class file's content
-abbrev pub method_content_key : MethodContent → Key
-method_content_key m = (m.name, m.desc)
-
--- no two methods of a class, and no two of its fields, have the same name and descriptor
-pub record HasDistinctMembers (class : ClassContent) : Type 0 where
-  pub methods : IsDistinct same_key (map method_content_key class.methods)
-  pub fields : IsDistinct same_key (map field_content_key class.fields)
 
 -- the names and descriptors of the methods that a class declares
 unfoldable pub method_keys : World → ℕ → List Key

@@ -9,6 +9,7 @@ use Rattle.input_text.specs.declared.texts.DescText.{DescText}
 use Rattle.input_steps.specs.declared.refused.Refused.{Refused}
 use Rattle.input_steps.specs.Steps.{◌>>=◌}
 use Rattle.input_steps.specs.Classes.{linking}
+use Rattle.input_steps.specs.SetUp.{set_up}
 use Rattle.input_steps.specs.Programs.{closing, testing_calls, typing_methods}
 use Rattle.desc_steps.specs.Answers.{Saying}
 use Rattle.desc_steps.specs.Descriptions.{finding_entry, describing}
@@ -34,6 +35,6 @@ OfEntry Says text world entry = closing world entry >>= OfProgram Says text
 abbrev pub OfWorld : {X : Type 0} → Saying X → DescText → World → Result X Refused → Type 0
 OfWorld Says text world = finding_entry world text >>= OfEntry Says text world
 
--- what is left to answer once the classes and the description's text are read
+-- what is left to answer once the classes and the description's text are read: the classes enter the world as its lines say
 abbrev pub OfClasses : {X : Type 0} → Saying X → DescText → List ClassContent → Result X Refused → Type 0
-OfClasses Says text classes = linking classes >>= OfWorld Says text
+OfClasses Says text classes = linking (set_up text.world classes) >>= OfWorld Says text

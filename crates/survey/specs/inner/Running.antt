@@ -1,5 +1,5 @@
 -- Words for inner calls: a survey behind the reading of descriptions.
-use Rattle.std.specs.Prelude.{◌≡◌, ◌⊎◌, ◌++◌, ℕ, List, Option}
+use Rattle.std.specs.Prelude.{◌≡◌, ◌⊎◌, ◌++◌, ℕ, Bool, List, Option}
 use Rattle.io_ports.specs.Count.{Rose}
 use Rattle.survey.specs.Claims.{Surveyed, nothing, IsTrueLine}
 use Rattle.survey.specs.Fates.{Fate, kept_of, reads_among, AreFates}
@@ -17,19 +17,21 @@ pub record ClassesRead {F : Type 0} (files : FilesSeen F) (names contents : List
   pub described : s.descs ≡ contents
 
 -- it came to its end
-pub record HasRun {F S : Type 0} (files : FilesSeen F) (taken : S → Option (List ℕ)) (faults : S → ℕ)
+pub record HasRun {F S : Type 0} (files : FilesSeen F) (taken : S → Option (List ℕ)) (faults : S → ℕ) (strict : Bool)
     (names descs contents : List (List ℕ))
     (files_old files_new : F) (old new : S) (status : ℕ) : Type 0 where
   pub s : Surveyed
   pub fates : List Fate
+  pub asked : s.strict ≡ strict
   pub read : ClassesRead files names contents fates s files_old files_new
   pub whole : IsWhole taken names descs fates s old new status
 
 -- it stopped
-pub record HasBroken {F S : Type 0} (files : FilesSeen F) (taken : S → Option (List ℕ)) (faults : S → ℕ)
+pub record HasBroken {F S : Type 0} (files : FilesSeen F) (taken : S → Option (List ℕ)) (faults : S → ℕ) (strict : Bool)
     (names contents : List (List ℕ))
     (files_old files_new : F) (old new : S) (stop : Stop) : Type 0 where
   pub s : Surveyed
   pub fates : List Fate
-  pub read : (s ≡ nothing) ⊎ ClassesRead files names contents fates s files_old files_new
+  pub asked : s.strict ≡ strict
+  pub read : (s ≡ nothing strict) ⊎ ClassesRead files names contents fates s files_old files_new
   pub cut : Cut taken faults (IsTrueLine s) old new stop

@@ -56,7 +56,7 @@ pub record IsTail (s : Surveyed) (descs : List (List ℕ)) (files : FileCounts) 
   pub desc_lines : List (List ℕ)
   pub method_lines : List (List ℕ)
   pub counts : Counts
-  pub are : lines ≡ desc_lines ++ (method_lines ++ count_line counts ∷ [])
+  pub are : lines ≡ desc_lines ++ (method_lines ++ count_line s.strict counts ∷ [])
   pub useful : (place : ℕ) (name text : List ℕ) → slice_get descs place ≡ Some name → slice_get s.descs place ≡ Some text
       → IsUsed s place text ⊎ Among (SaysUseless name) desc_lines
   pub methods : AllByRecursion (IsTrueLine s) method_lines

@@ -1,18 +1,16 @@
 -- Words for inner calls: what is said of a method.
-use Rattle.std.specs.Prelude.{◌≡◌, ◌∷◌, [], ℕ, Bool, true, false, not, List, ◌++◌, map, Some, codes}
+use Rattle.std.specs.Prelude.{◌≡◌, ◌∷◌, [], ℕ, Bool, true, false, not, List, ◌++◌, map, Ok, codes}
 use Rattle.std.specs.List.{list_all, AllByRecursion}
 use Rattle.std.specs.Global.{Vec}
-use Rattle.class_read.specs.Content.{ClassContent}
-use Rattle.class_world.specs.declared.world.MethodRef.{MethodRef}
-use Rattle.class_world.specs.World.{World}
-use Rattle.class_world.specs.Members.{find_method}
-use Rattle.class_program.specs.Programs.{Program}
-use Rattle.input_steps.specs.Classes.{AllSpell, IsWorldOf}
-use Rattle.input_steps.specs.Programs.{IsProgramOf}
+use Rattle.input_text.specs.Answers.{SaysOf}
+use Rattle.input_text.specs.Descriptions.{description_of}
+use Rattle.input_text.specs.declared.texts.DescText.{DescText}
+use Rattle.input_text.specs.declared.texts.WorldLine.{WorldLine}
 use Rattle.desc_steps.specs.Headline.{AllEnd}
 use Rattle.survey.specs.Claims.{Surveyed, IsTextOf, IsTrueLine}
 use Rattle.survey.specs.Lacking.{IsWarned}
 use Rattle.survey.specs.Lines.{printed, is_unproved, text_of}
+use Rattle.survey.specs.declared.assuming.Assumed.{Assumed}
 use Rattle.survey.specs.declared.lacking.Lacks.{Lacks}
 use Rattle.survey.specs.declared.lines.Head.{Head}
 use Rattle.survey.specs.declared.lines.Head.TheVariants.{Maybe, Refused, LeftOut, Count, Why}
@@ -22,8 +20,12 @@ use Rattle.survey.specs.declared.walking.Sort.{Sort}
 use Rattle.survey.specs.declared.walking.Sort.TheVariants as sorts
 
 -- what is surveyed, as code holds it
-abbrev pub surveyed : List (Vec ℕ) → List (Vec ℕ) → Surveyed
-surveyed files descs = record { files = map (λ (file : Vec ℕ). file.items) files; descs = map (λ (desc : Vec ℕ). desc.items) descs }
+abbrev pub surveyed : Bool → List (Vec ℕ) → List (Vec ℕ) → Surveyed
+surveyed strict files descs = record {
+  strict = strict;
+  files = map (λ (file : Vec ℕ). file.items) files;
+  descs = map (λ (desc : Vec ℕ). desc.items) descs;
+}
 
 -- what a line begins with that claims nothing
 abbrev pub head_text : Head → List ℕ
@@ -42,26 +44,21 @@ abbrev pub head_of : Bool → Head
 head_of true = Refused
 head_of false = Maybe
 
--- the program of a method that is declared by the class of a name
-pub record IsMethodProgram (files : List (List ℕ)) (class name desc : List ℕ) (p : Program) : Type 0 where
-  pub classes : List ClassContent
-  pub spelled : AllSpell files classes
-  pub world : World
-  pub makes : IsWorldOf classes world
-  pub entry : MethodRef
-  pub found : find_method world class name desc ≡ Some entry
-  pub program : IsProgramOf world entry p
+-- a description says these lines about classes
+abbrev pub SaysLines : List ℕ → List WorldLine → Type 0
+SaysLines text lines = (said : DescText) × (SaysOf description_of text (Ok said) × (said.world ≡ lines))
 
 -- a method is proved under a text
-abbrev pub IsUnder : Surveyed → Bool → List ℕ → List ℕ → List ℕ → List ℕ → Type 0
-IsUnder s given class name desc text = IsTextOf given s class name desc text × AllEnd s.files text
+abbrev pub IsUnder : Surveyed → Bool → Assumed → List ℕ → List ℕ → List ℕ → List ℕ → Type 0
+IsUnder s given assumed class name desc text = IsTextOf given s assumed class name desc text × AllEnd s.files text
 
 -- where a method's runs are said to end, it is proved under some text, and what is missing is said
-abbrev pub IsYesJudged : Surveyed → List ℕ → List ℕ → List ℕ → Bool → Lacks → Type 0
-IsYesJudged s class name desc given lacks = (text : List ℕ) × (IsUnder s given class name desc text × IsWarned s.files text lacks)
+abbrev pub IsYesJudged : Surveyed → List ℕ → List ℕ → List ℕ → Bool → Assumed → Lacks → Type 0
+IsYesJudged s class name desc given assumed lacks =
+    (text : List ℕ) × (IsUnder s given assumed class name desc text × IsWarned s.files text lacks)
 
 abbrev pub IsJudged : Surveyed → List ℕ → List ℕ → List ℕ → Judged → Type 0
-IsJudged s class name desc (Yes given lacks touched) = IsYesJudged s class name desc given lacks
+IsJudged s class name desc (Yes given assumed lacks touched) = IsYesJudged s class name desc given assumed lacks
 IsJudged s class name desc (No refused line advice) = Unit {0}
 
 -- a line begins with YES

@@ -110,7 +110,8 @@ fn put_without(text: &mut Seq<u8>, words: &[u8], part: &[u8]) -> Result<(), Allo
     text.extend_from_slice(words)
 }
 
-/// Puts the step that has a fault, and the fault, behind a text: ` PLACE: FAULT`. The method that it names is left out where it is this one.
+/// Puts the step that has a fault, and the fault, behind a text: ` PLACE: FAULT`. The method that it names is left out where it is this
+/// one.
 ///
 /// # Errors
 ///
@@ -149,7 +150,8 @@ fn link_advice(fault: &LinkFault) -> &'static [u8] {
             b"hand in this class's file too, or a class of the same name that does the same"
         }
         LinkFault::StaticInit { .. } => {
-            b"an assert, a table or a first value of a static field makes a static initialiser: move the values into the method"
+            b"an assert, a table or a first value of a static field makes a static initialiser: ask without --strict, or move the
+                values into the method"
         }
         LinkFault::UnsupportedType { .. } => {
             b"a long, a float, a double, a string or a class constant stands here: use ints, or move it out of what the method calls"

@@ -1,6 +1,6 @@
 //! The class files of a case, and the world that they give.
 ghost use Rattle.std.specs.Prelude.{◌<◌, IfOk};
-ghost use Rattle.class_world.specs.Linking.{CanBeRead};
+ghost use Rattle.class_world.specs.Linking.{IsLinkable};
 ghost use Rattle.table_cases.specs.entry_cases.ReadClasses.{AreRead};
 
 use crate::Case;
@@ -18,8 +18,9 @@ pub fn class_files(alloc: Global, case: &Case<'_>, first: usize) -> Result<Vec<V
     Ok(files)
 }
 
+#[tactic(auto, using(crate::proofs::MoreClasses::spelled_links))]
 fn read(alloc: Global, bytes: &[u8]) -> Result<ClassView<'_>>
-    ensures { IfOk result (λ class. CanBeRead class) }
+    ensures { IfOk result (λ class. IsLinkable class) }
 {
     match ClassView::read(alloc, bytes) {
         Ok(class) => Ok(class),

@@ -11,10 +11,11 @@ use Rattle.input_desc.specs.declared.desc.Desc.{Desc}
 use Rattle.input_steps.specs.declared.refused.Refused.{Refused}
 use Rattle.input_steps.specs.Steps.{◌>>=◌}
 use Rattle.input_steps.specs.Classes.{linking}
+use Rattle.input_steps.specs.SetUp.{set_up}
 use Rattle.input_steps.specs.Programs.{closing, testing_calls, typing_methods}
 use Rattle.desc_steps.specs.Descriptions.{reading_description, finding_entry, describing}
 use Rattle.class_calls.specs.run_call.Answers.{reading_state, giving_input}
-use Rattle.cert_calls.specs.loop_call.States.{Saying, naming_entry}
+use Rattle.cert_calls.specs.loop_call.States.{Saying, naming_entry, comparing_lines}
 
 module _ {X : Type 0} (Says : Saying X) where
   -- what is left to answer behind the description: the state is read as what it gives, and then a command says its own
@@ -33,9 +34,13 @@ module _ {X : Type 0} (Says : Saying X) where
   abbrev pub OfProgram : DescText → StateText → Program → Result X Refused → Type 0
   OfProgram text given p = testing_calls p >>= (λ nothing. OfCalls text given p)
 
+  -- what is left to answer once the state says of the method and of the classes what the description says
+  abbrev pub OfLines : DescText → StateText → World → MethodRef → Result X Refused → Type 0
+  OfLines text given world entry = closing world entry >>= OfProgram text given
+
   -- what is left to answer once the state names the method of the description
   abbrev pub OfName : DescText → StateText → World → MethodRef → Result X Refused → Type 0
-  OfName text given world entry = closing world entry >>= OfProgram text given
+  OfName text given world entry = comparing_lines text given >>= (λ nothing. OfLines text given world entry)
 
   -- what is left to answer once the description's method is found in the world
   abbrev pub OfEntry : DescText → StateText → World → MethodRef → Result X Refused → Type 0
@@ -47,7 +52,7 @@ module _ {X : Type 0} (Says : Saying X) where
 
   -- what is left to answer once both texts are read
   abbrev pub OfClasses : DescText → StateText → List ClassContent → Result X Refused → Type 0
-  OfClasses text given classes = linking classes >>= OfWorld text given
+  OfClasses text given classes = linking (set_up text.world classes) >>= OfWorld text given
 
   -- what is left to answer once the classes and the description's text are read
   abbrev pub OfText : List ℕ → DescText → List ClassContent → Result X Refused → Type 0

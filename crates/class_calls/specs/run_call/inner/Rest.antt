@@ -8,6 +8,7 @@ use Rattle.input_text.specs.declared.texts.StateText.{StateText}
 use Rattle.input_steps.specs.declared.refused.Refused.{Refused}
 use Rattle.input_steps.specs.Steps.{◌>>=◌}
 use Rattle.input_steps.specs.Classes.{linking}
+use Rattle.input_steps.specs.SetUp.{set_up}
 use Rattle.input_steps.specs.Programs.{closing, testing_calls, testing_types}
 use Rattle.class_calls.specs.run_call.Answers.{finding_entry, giving_input, AnswersRun}
 
@@ -31,6 +32,6 @@ AnswersEntry fuel text world entry = closing world entry >>= AnswersProgram fuel
 abbrev pub OfWorld : ℕ → StateText → World → Result (List ℕ) Refused → Type 0
 OfWorld fuel text world = finding_entry world text >>= AnswersEntry fuel text world
 
--- what is left to answer once the classes and the state's text are read
+-- what is left to answer once the classes and the state's text are read: the classes enter the world as its lines say
 abbrev pub AnswersNamed : ℕ → StateText → List ClassContent → Result (List ℕ) Refused → Type 0
-AnswersNamed fuel text classes = linking classes >>= OfWorld fuel text
+AnswersNamed fuel text classes = linking (set_up text.world classes) >>= OfWorld fuel text

@@ -1,6 +1,6 @@
 use Rattle.std.proofs.Common.{map, arith}
 use Rattle.std.proofs.lemmas.List.{length-map}
-use Rattle.input_steps.proofs.Files.{spell_length, spell_read}
+use Rattle.input_steps.proofs.Files.{spell_length, spell_linkable}
 use Rattle.desc_steps.proofs.Answering.{classes_refused, files_go, named_if_given, names_if_given}
 use Rattle.desc_steps.proofs.given.described_program.Goals as goal
 
@@ -14,8 +14,8 @@ of_classes-requires-clause-few c =
     let files = length-map c.args.files.now (λ file. file.items) in
     omega (arith, read, files, c.requires)
 
-pub of_classes-requires-clause-read : goal.of_classes-requires-clause-read
-of_classes-requires-clause-read c = spell_read _ _ c.in-Ok.ensures.classes
+pub of_classes-requires-clause-fit : goal.of_classes-requires-clause-fit
+of_classes-requires-clause-fit c = spell_linkable _ _ c.in-Ok.ensures.classes
 
 pub returns-in-Ok-read_desc-clause-answers : goal.returns-in-Ok-read_desc-clause-answers
 returns-in-Ok-read_desc-clause-answers c =

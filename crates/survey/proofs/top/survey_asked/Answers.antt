@@ -5,7 +5,7 @@ use Rattle.survey.proofs.top.survey_asked.Goals as goal
 pub returns-in-Ok-survey_described-clause-told : goal.returns-in-Ok-survey_described-clause-told
 returns-in-Ok-survey_described-clause-told g c =
     ends_so (record { held = g.F.Files.held; handed = g.F.Files.handed; faults = g.F.Files.faults }) g.O.Sink.taken g.O.Sink.faults
-    (map string_bytes c.args.asked.now.classes.now)
+    c.args.asked.now.strict (map string_bytes c.args.asked.now.classes.now)
     (map (λ name. name.now) c.args.asked.now.descs.items) (map (λ desc. desc.items) c.in-Ok.descs.items)
     c.in-Ok-survey_described.status c.args.files.now c.read_descs.new.files c.survey_described.new.files
     c.args.out.now c.survey_described.new.out (map (λ name. name.now) c.as_slice.result.now)
@@ -16,7 +16,7 @@ returns-in-Ok-survey_described-clause-told g c =
 pub returns-in-Ok-clause-begun : goal.returns-in-Ok-clause-begun
 returns-in-Ok-clause-begun g c =
     stops_so (record { held = g.F.Files.held; handed = g.F.Files.handed; faults = g.F.Files.faults }) g.O.Sink.taken g.O.Sink.faults
-    (map string_bytes c.args.asked.now.classes.now)
+    c.args.asked.now.strict (map string_bytes c.args.asked.now.classes.now)
     (map (λ name. name.now) c.args.asked.now.descs.items) (map (λ desc. desc.items) c.in-Ok.descs.items)
     c.in-Err-survey_described.stop c.args.files.now c.read_descs.new.files c.survey_described.new.files
     c.args.out.now c.survey_described.new.out (map (λ name. name.now) c.as_slice.result.now)
@@ -26,7 +26,7 @@ returns-in-Ok-clause-begun g c =
 
 pub returns-clause-begun : goal.returns-clause-begun
 returns-clause-begun g c =
-    unread_so (record { held = g.F.Files.held; handed = g.F.Files.handed; faults = g.F.Files.faults }) g.O.Sink.taken
-    g.O.Sink.faults (map string_bytes c.args.asked.now.classes.now)
+    unread_so (record { held = g.F.Files.held; handed = g.F.Files.handed; faults = g.F.Files.faults }) g.O.Sink.taken g.O.Sink.faults
+    c.args.asked.now.strict (map string_bytes c.args.asked.now.classes.now)
     (map (λ name. name.now) c.args.asked.now.descs.items) [] c.in-Err.stop c.args.files.now c.read_descs.new.files c.args.out.now
     (map (λ name. name.now) c.as_slice.result.now) (ap (map (λ name. name.now)) c.as_slice.ensures.value) c.in-Err.ensures.stopped

@@ -7,7 +7,7 @@ use Rattle.survey.proofs.top.survey_described.Goals as goal
 pub returns-in-Ok-survey_kept-clause-told : goal.returns-in-Ok-survey_kept-clause-told
 returns-in-Ok-survey_kept-clause-told g c =
     runs_so (record { held = g.F.Files.held; handed = g.F.Files.handed; faults = g.F.Files.faults }) g.O.Sink.taken g.O.Sink.faults
-    (map string_bytes c.args.asked.now.classes.now)
+    c.args.asked.now.strict (map string_bytes c.args.asked.now.classes.now)
     (map (λ name. name.now) c.args.asked.now.descs.items) c.args.descs.now c.in-Ok.kept c.leave_out.new.kept c.args.files.now
     c.read_files.new.files (length c.args.asked.now.classes.now) c.refused_of-refused.result c.in-Ok-survey_kept.status
     c.counts_of.result c.args.out.now c.read_files.new.out c.leave_out.new.out c.survey_kept.new.out c.as_slice-2.result.now
@@ -18,8 +18,8 @@ returns-in-Ok-survey_kept-clause-told g c =
 
 pub returns-in-Ok-leave_out-clause-begun : goal.returns-in-Ok-leave_out-clause-begun
 returns-in-Ok-leave_out-clause-begun g c =
-    breaks_so (record { held = g.F.Files.held; handed = g.F.Files.handed; faults = g.F.Files.faults }) g.O.Sink.taken
-    g.O.Sink.faults (map string_bytes c.args.asked.now.classes.now)
+    breaks_so (record { held = g.F.Files.held; handed = g.F.Files.handed; faults = g.F.Files.faults }) g.O.Sink.taken g.O.Sink.faults
+    c.args.asked.now.strict (map string_bytes c.args.asked.now.classes.now)
     (map (λ name. name.now) c.args.asked.now.descs.items) c.args.descs.now c.in-Ok.kept c.leave_out.new.kept c.args.files.now
     c.read_files.new.files c.args.out.now c.read_files.new.out c.leave_out.new.out c.survey_kept.new.out c.in-Err-survey_kept.stop
     c.as_slice-2.result.now c.as_slice-2.ensures.value c.in-Ok.ensures.told c.in-Ok-leave_out.ensures.told
@@ -27,15 +27,15 @@ returns-in-Ok-leave_out-clause-begun g c =
 
 pub returns-clause-begun : goal.returns-clause-begun
 returns-clause-begun g c =
-    breaks_later (record { held = g.F.Files.held; handed = g.F.Files.handed; faults = g.F.Files.faults }) g.O.Sink.taken
-    g.O.Sink.faults (map string_bytes c.args.asked.now.classes.now) (map (λ desc. desc.items) c.args.descs.now) _ c.args.files.now
+    breaks_later (record { held = g.F.Files.held; handed = g.F.Files.handed; faults = g.F.Files.faults }) g.O.Sink.taken g.O.Sink.faults
+    c.args.asked.now.strict (map string_bytes c.args.asked.now.classes.now) (map (λ desc. desc.items) c.args.descs.now) _ c.args.files.now
     c.read_files.new.files c.args.out.now c.read_files.new.out c.leave_out.new.out c.in-Err-leave_out.stop c.in-Ok.ensures.told
     c.in-Err-leave_out.ensures.begun
 
 pub returns-in-Err-clause-begun : goal.returns-in-Err-clause-begun
 returns-in-Err-clause-begun g c =
-    breaks_early (record { held = g.F.Files.held; handed = g.F.Files.handed; faults = g.F.Files.faults }) g.O.Sink.taken
-    g.O.Sink.faults (map string_bytes c.args.asked.now.classes.now) (map (λ desc. desc.items) c.args.descs.now) c.args.files.now
+    breaks_early (record { held = g.F.Files.held; handed = g.F.Files.handed; faults = g.F.Files.faults }) g.O.Sink.taken g.O.Sink.faults
+    c.args.asked.now.strict (map string_bytes c.args.asked.now.classes.now) (map (λ desc. desc.items) c.args.descs.now) c.args.files.now
     c.read_files.new.files c.args.out.now c.read_files.new.out c.in-Err.stop c.in-Err.ensures.begun
 
 pub leave_out-requires-clause-names : goal.leave_out-requires-clause-names

@@ -9,7 +9,7 @@ use Rattle.survey.proofs.walking.survey_classes.Given as goal
 -- what was put, and that the classes so far are proved where all lines begin with YES
 abbrev pub invariant-loop-class : goal.invariant-loop-class
 invariant-loop-class g l =
-    let s = surveyed l.scope.files.now l.scope.descs.now in
+    let s = surveyed l.scope.strict l.scope.files.now l.scope.descs.now in
     let each = AllByRecursion (IsProvedClass s) in
     record {
       told : Went g.O.Sink.taken g.O.Sink.faults (IsTrueLine s) (λ lines. l.so_far.all ≡ (true && all_proved lines)) l.initial.out l.out;

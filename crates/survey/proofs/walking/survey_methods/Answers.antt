@@ -8,12 +8,12 @@ use Rattle.survey.proofs.walking.survey_methods.Goals as goal
 
 pub returns-in-Err-clause-begun : goal.returns-in-Err-clause-begun
 returns-in-Err-clause-begun g c =
-    cut_on g.O.Sink.taken g.O.Sink.faults (IsTrueLine (surveyed c.args.scope.now.files.now c.args.scope.now.descs.now)) _ c.args.out.now
+    cut_on g.O.Sink.taken g.O.Sink.faults (IsTrueLine (surveyed c.args.scope.now.strict c.args.scope.now.files.now c.args.scope.now.descs.now)) _ c.args.out.now
     c.loop-method.out c.survey_method.new.out _ c.loop-method.invariant.told c.in-Err.ensures.begun
 
 pub loop-method-preserved : goal.loop-method-preserved
 loop-method-preserved g c =
-    let s = surveyed c.args.scope.now.files.now c.args.scope.now.descs.now in
+    let s = surveyed c.args.scope.now.strict c.args.scope.now.files.now c.args.scope.now.descs.now in
     record {
       told = counted_on g.O.Sink.taken g.O.Sink.faults s c.args.tally.all c.loop-method.so_far.all c.in-Ok.next.all c.args.out.now
           c.loop-method.out c.survey_method.new.out c.loop-method.invariant.told c.in-Ok.ensures.told;

@@ -10,7 +10,7 @@ use Rattle.survey.proofs.walking.survey_methods.Given as goal
 -- what was put, and that the methods so far are proved where all lines begin with YES
 abbrev pub invariant-loop-method : goal.invariant-loop-method
 invariant-loop-method g l =
-    let s = surveyed l.scope.files.now l.scope.descs.now in
+    let s = surveyed l.scope.strict l.scope.files.now l.scope.descs.now in
     let each = AllByRecursion (IsProvedMethod s l.class) in
     record {
       told : Went g.O.Sink.taken g.O.Sink.faults (IsTrueLine s) (λ lines. l.so_far.all ≡ (l.fn.tally.all && all_proved lines))

@@ -1,6 +1,6 @@
 use Rattle.std.proofs.Common.{map, arith}
 use Rattle.std.proofs.lemmas.List.{length-map}
-use Rattle.input_steps.proofs.Files.{spell_length, spell_read}
+use Rattle.input_steps.proofs.Files.{spell_length, spell_linkable}
 use Rattle.cert_calls.specs.loop_call.inner.Words.{Shows}
 use Rattle.cert_calls.proofs.Stepping.{classes_refused, text_refused, state_refused, files_go}
 use Rattle.cert_calls.proofs.loop_call.call.of_files.Goals as goal
@@ -25,8 +25,8 @@ of_classes-requires-clause-few c =
     let files = length-map c.args.files.now (λ file. file.items) in
     omega (arith, read, files, c.requires)
 
-pub of_classes-requires-clause-read : goal.of_classes-requires-clause-read
-of_classes-requires-clause-read c = spell_read _ _ c.in-Ok.ensures.classes
+pub of_classes-requires-clause-fit : goal.of_classes-requires-clause-fit
+of_classes-requires-clause-fit c = spell_linkable _ _ c.in-Ok.ensures.classes
 
 pub returns-in-Ok-read_state : goal.returns-in-Ok-read_state
 returns-in-Ok-read_state c = files_go (Shows c.args.cert.now) c.args.state.now c.args.desc.now

@@ -13,4 +13,4 @@ returns-in-Err-name_entry c = other_refused (Shows c.args.cert.now) c.args.text 
 
 pub returns-in-Ok-name_entry : goal.returns-in-Ok-name_entry
 returns-in-Ok-name_entry c = world_goes (Shows c.args.cert.now) c.args.text c.args.given (classes_of c.args.world) c.in-Ok.entry _
-    c.in-Ok.ensures.entry c.in-Ok-name_entry.ensures.same c.of_entry.ensures
+    c.in-Ok.ensures.entry c.in-Ok-name_entry.ensures.same c.of_name.ensures

@@ -1,6 +1,6 @@
 use Rattle.std.proofs.Common.{map, arith}
 use Rattle.std.proofs.lemmas.List.{length-map}
-use Rattle.input_steps.proofs.Files.{spell_length, spell_read}
+use Rattle.input_steps.proofs.Files.{spell_length, spell_linkable}
 use Rattle.class_calls.proofs.Answering.{classes_refused, text_is_refused, files_run}
 use Rattle.class_calls.proofs.run_call.call.run_line.Goals as goal
 
@@ -18,8 +18,8 @@ run_named-requires-clause-few c =
     let files = length-map c.args.files.now (λ file. file.items) in
     omega (arith, read, files, c.requires)
 
-pub run_named-requires-clause-read : goal.run_named-requires-clause-read
-run_named-requires-clause-read c = spell_read _ _ c.in-Ok.ensures.classes
+pub run_named-requires-clause-fit : goal.run_named-requires-clause-fit
+run_named-requires-clause-fit c = spell_linkable _ _ c.in-Ok.ensures.classes
 
 pub returns-in-Ok-read_state : goal.returns-in-Ok-read_state
 returns-in-Ok-read_state c = files_run c.args.fuel c.args.state.now (map (λ file. file.items) c.args.files.now)

@@ -26,11 +26,11 @@ invariant_of-result-clause-known c = world_is c.args.classes.items c.in_ok-with_
 
 pub invariant_of-result-clause-few : goal.invariant_of-result-clause-few
 invariant_of-result-clause-few c = few_world c.args.classes.items c.in_ok-roster.roster.classes (c.in_ok-roster.ensures.classes
-    ∙ c.in_ok-with_built_ins.ensures) c.requires.read
+    ∙ c.in_ok-with_built_ins.ensures) c.requires.fit
 
 pub invariant_of-result-clause-descriptors : goal.invariant_of-result-clause-descriptors
 invariant_of-result-clause-descriptors c = world_has c.args.classes.items c.in_ok-roster.roster.classes
-    (c.in_ok-roster.ensures.classes ∙ c.in_ok-with_built_ins.ensures) c.requires.read
+    (c.in_ok-roster.ensures.classes ∙ c.in_ok-with_built_ins.ensures) c.requires.fit
 
 pub invariant_of-result-clause-count : goal.invariant_of-result-clause-count
 invariant_of-result-clause-count c = world_counted c.args.classes.items c.in_ok-roster.roster.classes
@@ -38,15 +38,15 @@ invariant_of-result-clause-count c = world_counted c.args.classes.items c.in_ok-
 
 pub members_of-requires-clause-differ : goal.members_of-requires-clause-differ
 members_of-requires-clause-differ c = distinct_world c.args.classes.items c.in_ok-roster.roster.classes
-    (c.in_ok-roster.ensures.classes ∙ c.in_ok-with_built_ins.ensures) c.requires.read
+    (c.in_ok-roster.ensures.classes ∙ c.in_ok-with_built_ins.ensures) c.requires.fit
 
 pub members_of-requires-clause-few : goal.members_of-requires-clause-few
 members_of-requires-clause-few c = few_world c.args.classes.items c.in_ok-roster.roster.classes (c.in_ok-roster.ensures.classes
-    ∙ c.in_ok-with_built_ins.ensures) c.requires.read
+    ∙ c.in_ok-with_built_ins.ensures) c.requires.fit
 
 pub invariant_of-result-clause-short : goal.invariant_of-result-clause-short
 invariant_of-result-clause-short c = short_world c.args.classes.items c.in_ok-roster.roster.classes (c.in_ok-roster.ensures.classes
-    ∙ c.in_ok-with_built_ins.ensures) c.requires.read
+    ∙ c.in_ok-with_built_ins.ensures) c.requires.fit
 
 pub returns-clause-fault : goal.returns-clause-fault
 returns-clause-fault c = link_none c.args.classes.items c.in_ok-with_built_ins.field-0 c.in_ok-roster.roster.classes

@@ -1,0 +1,30 @@
+-- The last steps of reading a line about classes.
+use Rattle.std.specs.Prelude.{ℕ, ◌==◌, nat_lt, List, Ok}
+use Rattle.list_views.specs.Results.{wanted, required}
+use Rattle.json_view.specs.Place.{item_pointer}
+use Rattle.json_view.specs.Reading.{text_of}
+use Rattle.json_view.specs.declared.fault.JsonFault.TheVariants.{WrongKind}
+use Rattle.input_text.specs.Answers.{Reader}
+use Rattle.input_text.specs.Fields.{◌>>=◌, nth}
+use Rattle.input_text.specs.WorldLines.{line_named}
+use Rattle.input_text.specs.declared.texts.WorldLine.{WorldLine}
+
+-- a line of so many items, whose word says this of a name
+abbrev pub saying : (List ℕ → WorldLine) → ℕ → Reader WorldLine
+saying says count here = do
+  two ← required (WrongKind here.place) (count == 2)
+  name ← nth 1 text_of here
+  Ok (says name)
+
+-- a line of so many items, with this word
+abbrev pub behind_word : List ℕ → ℕ → Reader WorldLine
+behind_word word count here = do
+  says ← wanted (WrongKind (item_pointer here.place 0)) (line_named word)
+  saying says count here
+
+-- a line of so many items
+abbrev pub behind_count : ℕ → Reader WorldLine
+behind_count count here = do
+  some ← required (WrongKind here.place) (nat_lt 0 count)
+  word ← nth 0 text_of here
+  behind_word word count here
