@@ -28,3 +28,4 @@ pub mod GoodOps
 pub mod GoodPrograms
 pub mod GoodInstructions
 pub mod InWidth
+pub mod NamedConstants

@@ -130,8 +130,9 @@ has_short_code m = option_map_or (λ code. nat_lt (length code.code) 65536) m.co
 abbrev pub has_short_codes : ClassContent → Bool
 has_short_codes class = list_all has_short_code class.methods
 
--- A class can be linked, whatever is above it: its members differ, it has few of them, and their codes are short. Each class that is
--- read is such a class (`ReadIsLinkable`), and stays one without some of its methods and superinterfaces.
+-- A class can be handed to linking, whatever is above it: its members differ, it has few of them, and their codes are short. Each class
+-- that is read is such a class (`ReadIsLinkable`), and stays one without some of its methods and superinterfaces, and with fields for
+-- string constants.
 pub record IsLinkable (class : ClassContent) : Type 0 where
   pub distinct : HasDistinctMembers class
   pub few : IsTrue (has_few_members class)

@@ -1,6 +1,7 @@
 pub mod Descs
 pub mod Fitting
 pub mod Given
+pub mod Constants
 pub mod States
 pub mod Initial
 pub mod Entries

@@ -1,7 +1,8 @@
 //! What a program asks for.
 ghost use Rattle.std.specs.Prelude.{◌≡◌, IfOk, map};
 ghost use Rattle.class_program.specs.Views.{program_of};
-ghost use Rattle.input_desc.specs.Given.{argument_slot, arguments_of, field_slot, slots_in, slots_of, statics_of, static_values};
+ghost use Rattle.input_desc.specs.Given.{argument_slot, arguments_of, is_constant, field_slot, slots_in, slots_of, statics_of};
+ghost use Rattle.input_desc.specs.Given.{static_values};
 
 use class_program::{Program, StaticField};
 use jvm_values::{Kind, Slot, Value, initial_values};
@@ -27,6 +28,13 @@ fn argument_slots(alloc: Global, params: &[Slot]) -> Result<Seq<Slot>, AllocErro
         slots.push(argument_slot(*slot))?;
     }
     Ok(slots)
+}
+
+/// Whether a static field is a string constant.
+pub(crate) fn is_constant(field: &StaticField<'_>) -> bool
+    ensures { result ≡ is_constant field.now }
+{
+    field.desc.as_slice() == b"Ljava/lang/String;\"".as_slice()
 }
 
 /// What static fields hold.

@@ -7,16 +7,17 @@ use Rattle.std.proofs.lemmas.Bool.{and_from, and_parts, lt-ltb, ltb-true}
 use Rattle.std.proofs.lemmas.List.Folds.{list_any-append}
 use Rattle.std.proofs.lemmas.Map.Keys.{IsDistinct-head, IsDistinct-tail, IsDistinct-cons}
 use Rattle.list_views.proofs.Items.{length_mapped}
-use Rattle.class_read.specs.Content.{ClassContent, MethodContent}
+use Rattle.class_read.specs.Content.{ClassContent, FieldContent, MethodContent}
 use Rattle.class_read.specs.View.{method_content}
 use Rattle.class_read.specs.declared.view.MethodView.{MethodView}
-use Rattle.class_world.specs.World.{built_in_names}
+use Rattle.class_world.specs.World.{built_in_rows, no_features}
 use Rattle.class_world.specs.Linking.{IsLinkable, HasDistinctMembers, has_few_members, has_short_code, has_short_codes}
 use Rattle.class_world.specs.Linking.{method_content_key, same_key}
 use Rattle.class_world.specs.Resolve.{is_initialiser}
 use Rattle.input_text.specs.declared.texts.WorldLine.{WorldLine}
 use Rattle.input_steps.specs.SetUp.{initialises, without_initialiser, initialised, is_there, is_passed, without_passed, entering}
-use Rattle.input_steps.specs.SetUp.{names_of, set_up}
+use Rattle.input_steps.specs.SetUp.{with_fields, with_constants, says_strings, with_constants_if, names_of, entered}
+use Rattle.input_steps.proofs.StringFields.{constants_length, constants_names}
 use Rattle.input_steps.specs.SetUpLaws.{SetUpLinks, SetUpNothing, SetUpNames}
 
 -- ---- lists of which some items are kept
@@ -125,14 +126,28 @@ all_link lines names (c ∷ cs) h = (
   all_link lines names cs h.1,
 )
 
+pub entering_links : (lines : List WorldLine) (classes : List ClassContent) → AllByRecursion IsLinkable classes
+    → AllByRecursion IsLinkable (map (entering lines (names_of classes)) classes)
+entering_links lines classes h = all_link lines (names_of classes) classes h
+
 pub set_up_links : SetUpLinks
-unfolding set_up
-set_up_links lines classes h = all_link lines (names_of classes) classes h
+unfolding entered
+set_up_links lines classes h none =
+    subst (λ (b : Bool). AllByRecursion IsLinkable (with_constants_if b (map (entering lines (names_of classes)) classes))) (sym none)
+    (entering_links lines classes h)
 
 -- as many classes
-pub set_up_length : (lines : List WorldLine) (classes : List ClassContent) → length (set_up lines classes) ≡ length classes
-unfolding set_up
-set_up_length lines classes = length_mapped (entering lines (names_of classes)) classes
+pub set_up_length : (lines : List WorldLine) (classes : List ClassContent) → length (entered lines classes) ≡ length classes
+unfolding entered
+set_up_length lines classes = go (list_any says_strings lines)
+    ∙ length_mapped (entering lines (names_of classes)) classes
+  where
+    all : List ClassContent
+    all = map (entering lines (names_of classes)) classes
+
+    go : (b : Bool) → length (with_constants_if b all) ≡ length all
+    go true = constants_length all
+    go false = refl
 
 -- ---- names
 
@@ -150,8 +165,15 @@ names_stay lines names (c ∷ cs) =
     ap (λ n. n ∷ names_of (map (entering lines names) cs)) (name_stays lines c) ∙ ap (λ ns. c.name ∷ ns) (names_stay lines names cs)
 
 pub set_up_names : SetUpNames
-unfolding set_up
-set_up_names lines classes = names_stay lines (names_of classes) classes
+unfolding entered
+set_up_names lines classes = go (list_any says_strings lines) ∙ names_stay lines (names_of classes) classes
+  where
+    all : List ClassContent
+    all = map (entering lines (names_of classes)) classes
+
+    go : (b : Bool) → names_of (with_constants_if b all) ≡ names_of all
+    go true = constants_names all
+    go false = refl
 
 -- ---- no lines
 
@@ -165,16 +187,17 @@ all_as_they_are names (c ∷ cs) =
     ap (λ d. d ∷ map (entering [] names) cs) (nothing_passed names c) ∙ ap (λ ds. c ∷ ds) (all_as_they_are names cs)
 
 pub set_up_nothing : SetUpNothing
-unfolding set_up
-set_up_nothing classes = all_as_they_are (names_of classes) classes
+unfolding entered
+set_up_nothing classes = ap (λ (cs : List ClassContent). (no_features, cs)) (all_as_they_are (names_of classes) classes)
 
--- ---- classes of which something holds that initialisers and interfaces don't matter to
+-- ---- classes of which something holds that initialisers, interfaces and fields don't matter to
 
 pub set_up_keeps : (P : ClassContent → Type 0) → ((c : ClassContent) → P c → P (without_initialiser c))
     → ((c : ClassContent) (interfaces : List (List ℕ)) → P c → P (record c { interfaces = interfaces }))
-    → (lines : List WorldLine) (classes : List ClassContent) → AllByRecursion P classes → AllByRecursion P (set_up lines classes)
-unfolding set_up
-set_up_keeps P without with_other lines classes h = go classes h
+    → ((c : ClassContent) (fields : List FieldContent) → P c → P (record c { fields = fields }))
+    → (lines : List WorldLine) (classes : List ClassContent) → AllByRecursion P classes → AllByRecursion P (entered lines classes)
+unfolding entered with_constants
+set_up_keeps P without with_other with_more lines classes h = behind (list_any says_strings lines)
   where
     by : (c : ClassContent) → P c → (b : Bool) → P (cond b (without_initialiser c) c)
     by c k true = without c k
@@ -186,6 +209,15 @@ set_up_keeps P without with_other lines classes h = go classes h
       with_other (initialised lines c) _ (by c k.0 (list_any (initialises c.name) lines)),
       go cs k.1,
     )
+
+    last : (fields : List FieldContent) (cs : List ClassContent) → AllByRecursion P cs → AllByRecursion P (with_fields fields cs)
+    last fields [] k = tt
+    last fields (c ∷ []) k = (with_more c (c.fields ++ fields) k.0, tt)
+    last fields (c ∷ (next ∷ more)) k = (k.0, last fields (next ∷ more) k.1)
+
+    behind : (b : Bool) → AllByRecursion P (with_constants_if b (map (entering lines names) classes))
+    behind true = last _ (map (entering lines names) classes) (go classes h)
+    behind false = go classes h
 
 -- ---- the code's steps
 
@@ -204,9 +236,9 @@ kept_names {A = A} now p names old kept e f =
     ap (map now) (f ∙ ap (filter (λ (i : A). p (now i))) e) ∙ filter_of_map p now names
 
 -- a name that is that of a built-in class, or of one of these
-pub there : (names : List (List ℕ)) (name : List ℕ) (built among : Bool) → built ≡ list_any (bytes_eq name) (map (λ n. n.0) built_in_names)
+pub there : (names : List (List ℕ)) (name : List ℕ) (built among : Bool) → built ≡ list_any (bytes_eq name) (map (λ n. n.0) built_in_rows)
     → among ≡ list_any (bytes_eq name) names → (built || among) ≡ is_there names name
 unfolding is_there
 there names name built among e f =
-    ap (λ b. b || among) e ∙ ap (λ b. list_any (bytes_eq name) (map (λ n. n.0) built_in_names) || b) f
-    ∙ sym (list_any-append (bytes_eq name) (map (λ n. n.0) built_in_names) names)
+    ap (λ b. b || among) e ∙ ap (λ b. list_any (bytes_eq name) (map (λ n. n.0) built_in_rows) || b) f
+    ∙ sym (list_any-append (bytes_eq name) (map (λ n. n.0) built_in_rows) names)

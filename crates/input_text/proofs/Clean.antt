@@ -19,13 +19,15 @@ use Rattle.input_text.specs.Fields.{◌>>=◌, field, items_from, list_of, an_in
 use Rattle.input_text.specs.Values.{int_value, ref_value, value_by, value_of}
 use Rattle.input_text.specs.Objects.{instance_of, a_byte, kind_of, nums_of, refs_of, object_of}
 use Rattle.input_text.specs.Inputs.{int_input, shape_of, ref_fields, ref_input, input_of, number_in, nth_number, both_numbers, pair_of}
-use Rattle.input_text.specs.WorldLines.{text_in, nth_text, name_behind, line_with, line_of_items, world_line, is_third_form, world_lines}
+use Rattle.input_text.specs.WorldLines.{text_in, nth_text, name_behind, word_alone, line_with, line_of_items, world_line}
+use Rattle.input_text.specs.WorldLines.{is_third_form, world_lines}
 use Rattle.input_text.specs.Descriptions.{is_first_form, static_inputs, desc_end, desc_fields, description_of}
 use Rattle.input_text.specs.States.{static_values, state_end, state_fields, state_of}
 use Rattle.input_text.specs.declared.fault.DescFault.{DescFault}
 use Rattle.input_text.specs.declared.texts.EntryName.{EntryName}
 use Rattle.input_text.specs.declared.texts.InputText.{InputText}
 use Rattle.input_text.specs.declared.texts.WorldLine.{WorldLine}
+use Rattle.input_text.specs.declared.texts.WorldLine.TheVariants.{Strings, Monitors}
 
 abbrev IsOther : JsonFault → Type 0
 IsOther NotJson = ⊥
@@ -235,11 +237,16 @@ of_name : (count : ℕ) → AreClean (name_behind count)
 unfolding name_behind
 of_name count here = choice (count == 2) _ _ (of_nth 1 here) tt
 
+of_word : (count : ℕ) (line : WorldLine) → AreClean (word_alone count line)
+of_word count line here = choice (count == 1) (Ok line) (Err (WrongKind here.place)) tt tt
+
 of_line_with : (word : List ℕ) (count : ℕ) → AreClean (line_with word count)
 unfolding line_with
 of_line_with word count here =
     choice (bytes_eq word (codes "initialised")) _ _ (bind _ _ (of_name count here) (λ _. tt))
-    (choice (bytes_eq word (codes "passed")) _ _ (bind _ _ (of_name count here) (λ _. tt)) tt)
+    (choice (bytes_eq word (codes "passed")) _ _ (bind _ _ (of_name count here) (λ _. tt))
+    (choice (bytes_eq word (codes "strings")) _ _ (of_word count Strings here)
+    (choice (bytes_eq word (codes "monitors")) _ _ (of_word count Monitors here) tt)))
 
 of_line_items : (count : ℕ) → AreClean (line_of_items count)
 unfolding line_of_items

@@ -2,6 +2,7 @@ pub mod Answers
 pub mod Fields
 pub mod Inputs
 pub mod WorldLines
+pub mod inner
 pub mod Descriptions
 pub mod Values
 pub mod Objects

@@ -1,7 +1,7 @@
 -- What descriptions and states of form 3 say of how the classes enter the world: lines, each a list that begins with a word.
 --
 -- Of a line it is tested in this order that it is a list, that it isn't empty, that its first item is a text, that this is a word
--- that lines have, that the line has as many items as the word asks for, and that the name behind the word is a text.
+-- that lines have, that the line has as many items as the word asks for, and that the name behind the word, where it has one, is a text.
 use Rattle.std.specs.Prelude.{ℕ, ℤ, pos, Bool, ◌==◌, nat_lt, List, [], Option, Some, None, Result, Ok, Err, codes, if◌then◌else◌}
 use Rattle.std.specs.Ordering.{int_eq}
 use Rattle.std.specs.Str.{bytes_eq}
@@ -13,7 +13,7 @@ use Rattle.json_view.specs.declared.fault.JsonFault.TheVariants.{WrongKind}
 use Rattle.input_text.specs.Answers.{Reader}
 use Rattle.input_text.specs.Fields.{◌>>=◌, field, list_of}
 use Rattle.input_text.specs.declared.texts.WorldLine.{WorldLine}
-use Rattle.input_text.specs.declared.texts.WorldLine.TheVariants.{Initialised, Passed}
+use Rattle.input_text.specs.declared.texts.WorldLine.TheVariants.{Initialised, Passed, Strings, Monitors}
 
 -- the text that is an item of a list; where there is no such item, the list is of the wrong kind
 abbrev pub text_in : List ℕ → Option Located → Result (List ℕ) JsonFault
@@ -28,12 +28,19 @@ nth_text n here = text_in here.place (item_of n here)
 unfoldable pub name_behind : ℕ → Reader (List ℕ)
 name_behind count here = if count == 2 then nth_text 1 here else Err (WrongKind here.place)
 
+-- a line of its word alone, of which so many items are there
+abbrev pub word_alone : ℕ → WorldLine → Reader WorldLine
+word_alone count line here = if count == 1 then Ok line else Err (WrongKind here.place)
+
 -- a line with this word and so many items: a class that is initialised before the run (JVM specification, SE 8, section 5.5), or an
--- interface that is passed over where no class of its name is handed in. Another word is of the wrong kind at its place.
+-- interface that is passed over where no class of its name is handed in; that string constants are there (section 5.1), or monitors
+-- (section 2.11.10). Another word is of the wrong kind at its place.
 unfoldable pub line_with : List ℕ → ℕ → Reader WorldLine
 line_with word count here =
     if bytes_eq word (codes "initialised") then (name_behind count here >>= λ name. Ok (Initialised name))
     else if bytes_eq word (codes "passed") then (name_behind count here >>= λ name. Ok (Passed name))
+    else if bytes_eq word (codes "strings") then word_alone count Strings here
+    else if bytes_eq word (codes "monitors") then word_alone count Monitors here
     else Err (WrongKind (item_pointer here.place 0))
 
 -- a line of so many items, by its word, which is the first of them; an empty list is of the wrong kind

@@ -5,7 +5,7 @@ ghost use Rattle.json_view.specs.Located.{located};
 ghost use Rattle.json_view.specs.Place.{item_pointer};
 ghost use Rattle.json_view.specs.Reading.{item_count};
 ghost use Rattle.input_text.specs.Answers.{Says};
-ghost use Rattle.input_text.specs.WorldLines.{nth_text, name_behind, line_with, line_of_items, world_lines};
+ghost use Rattle.input_text.specs.WorldLines.{nth_text, name_behind, word_alone, line_with, line_of_items, world_lines};
 
 use crate::fields::text;
 use crate::lists::{Said, list_field};
@@ -47,6 +47,22 @@ fn unknown_word(alloc: Global, view: &View<'_, '_>) -> JsonFault
     item.wrong_kind(alloc)
 }
 
+/// A line of its word alone, of which so many items are there.
+fn word_alone(
+    alloc: Global,
+    view: &View<'_, '_>,
+    count: usize,
+    line: WorldLine,
+) -> Result<WorldLine, JsonFault>
+    ensures { Says result (word_alone count line.entry (located view.now)) }
+{
+    if count == 1 {
+        Ok(line)
+    } else {
+        Err(view.wrong_kind(alloc))
+    }
+}
+
 /// The line of a word and so many items.
 #[tactic(auto, unfolding(crate::specs::WorldLines::line_with))]
 fn line_with(
@@ -66,6 +82,12 @@ fn line_with(
     if word == b"passed".as_slice() {
         let name = name_behind(alloc, view, count)?;
         return Ok(WorldLine::Passed(name));
+    }
+    if word == b"strings".as_slice() {
+        return word_alone(alloc, view, count, WorldLine::Strings);
+    }
+    if word == b"monitors".as_slice() {
+        return word_alone(alloc, view, count, WorldLine::Monitors);
     }
     Err(unknown_word(alloc, view))
 }

@@ -1,5 +1,6 @@
 -- True lines, and texts of them.
-use Rattle.std.proofs.Common.{◌≡◌, ◌∙◌, ℕ, ◌==◌, ◌||◌, ◌&&◌, not, nat_lt, Bool, true, false, List, [], ◌∷◌, ◌++◌, map, refl, sym, ap, subst, arith}
+use Rattle.std.proofs.Common.{◌≡◌, ◌∙◌, ℕ, ◌==◌, ◌||◌, ◌&&◌, not, nat_lt, Bool, true, false, List, [], ◌∷◌, ◌++◌, map, refl, sym, ap}
+use Rattle.std.proofs.Common.{subst, arith}
 use Rattle.std.proofs.Common.{append_assoc, append-nil, codes, cond}
 use Rattle.std.specs.List.{AllByRecursion, list_all}
 use Rattle.std.proofs.lemmas.Grind.{flat_map-append}
@@ -8,8 +9,9 @@ use Rattle.survey.specs.declared.assuming.Assumed.{Assumed}
 use Rattle.survey.specs.declared.survey_notes.touching.Touched.{Touched}
 use Rattle.survey.specs.Claims.{Surveyed, IsProved, IsTrueLine, AreTrue}
 use Rattle.list_views.specs.FaultWords.{joined}
-use Rattle.survey.specs.Lines.{narrow_text, others_text, passed_text, assumed_text}
-use Rattle.survey.specs.Lines.{yes_line, words_text, given_text, errors_text, exceptions_text, constants_text, is_name_byte, is_plain, printed, ended, text_of}
+use Rattle.survey.specs.Lines.{narrow_text, others_text, passed_text, monitors_text, assumed_text}
+use Rattle.survey.specs.Lines.{yes_line, words_text, given_text, errors_text, exceptions_text, constants_text, is_name_byte}
+use Rattle.survey.specs.Lines.{is_plain, printed, ended, text_of}
 use Rattle.survey.specs.inner.Wording.{head_text, other_line, GrowsTrue}
 use Rattle.survey.specs.declared.lines.Head.{Head}
 use Rattle.survey.specs.declared.lines.Head.TheVariants.{Maybe, Refused, LeftOut, Count, Why}
@@ -140,6 +142,13 @@ passed_stays assumed = go assumed.passed
     go true = refl
     go false = refl
 
+monitors_stay : (assumed : Assumed) → list_all stays (monitors_text assumed) ≡ true
+monitors_stay assumed = go assumed.monitors
+  where
+    go : (b : Bool) → list_all stays (cond b (codes " monitors") []) ≡ true
+    go true = refl
+    go false = refl
+
 others_stay : (others : List (List ℕ)) → list_all is_plain others ≡ true → list_all stays (others_text others) ≡ true
 others_stay [] e = refl
 others_stay (name ∷ others) e =
@@ -149,9 +158,11 @@ others_stay (name ∷ others) e =
 
 assumed_stay : (assumed : Assumed) → list_all is_plain assumed.others ≡ true → list_all stays (assumed_text assumed) ≡ true
 assumed_stay assumed e =
-    both_stay (narrow_text assumed ++ others_text assumed.others) (passed_text assumed)
+    both_stay ((narrow_text assumed ++ others_text assumed.others) ++ passed_text assumed) (monitors_text assumed)
+    (both_stay (narrow_text assumed ++ others_text assumed.others) (passed_text assumed)
     (both_stay (narrow_text assumed) (others_text assumed.others) (narrow_stays assumed) (others_stay assumed.others e))
-    (passed_stays assumed)
+    (passed_stays assumed))
+    (monitors_stay assumed)
 
 errors_stay : (touched : Touched) → list_all stays (errors_text touched) ≡ true
 errors_stay touched = go touched.errors

@@ -38,13 +38,18 @@ others_text others = flat_map (λ name. codes " initialised=" ++ name) others
 abbrev pub passed_text : Assumed → List ℕ
 passed_text assumed = if assumed.passed then codes " passed" else []
 
+-- the word behind a method in whose world monitors are run
+abbrev pub monitors_text : Assumed → List ℕ
+monitors_text assumed = if assumed.monitors then codes " monitors" else []
+
 -- the words for all that is assumed
 abbrev pub assumed_text : Assumed → List ℕ
-assumed_text assumed = (narrow_text assumed ++ others_text assumed.others) ++ passed_text assumed
+assumed_text assumed = ((narrow_text assumed ++ others_text assumed.others) ++ passed_text assumed) ++ monitors_text assumed
 
 -- the words behind a proved method: whether its description was handed in, what is assumed, and the premises that its program touches
 abbrev pub words_text : Bool → Assumed → Touched → List ℕ
-words_text given assumed touched = (((given_text given ++ assumed_text assumed) ++ errors_text touched) ++ exceptions_text touched) ++ constants_text touched
+words_text given assumed touched = (((given_text given ++ assumed_text assumed) ++ errors_text touched) ++ exceptions_text touched)
+    ++ constants_text touched
 
 -- the line of a proved method: `YES CLASS.NAMEDESC`, and its words
 abbrev pub yes_line : List ℕ → List ℕ → List ℕ → Bool → Assumed → Touched → List ℕ

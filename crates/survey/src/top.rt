@@ -150,9 +150,10 @@ fn without<E: Sink>(line: &[u8], status: u8, err: &mut E) -> u8
 /// A method is proved under the first description that names it, then `described` stands behind it, else under its
 /// template. Behind a YES stands what was assumed: `narrow`, where parameters of type boolean, byte, char and short have the numbers
 /// of their types alone; `initialised=CLASS` for each class that is taken to be initialised before, but the method's own and those above
-/// it; `passed`, where an interface that is missing is passed over. With `--strict` none of this is assumed. Then stands a word for each
-/// premise that its program touches: `handles-errors`, `compares-exceptions`, `constant-value`. With `--why` lines of advice follow, which begin with blanks. To `err` it
-/// puts a line where it ends before the counts. The exit status is
+/// it; `passed`, where an interface that is missing is passed over; `monitors`, where instructions of monitors or synchronized methods are
+/// run. With `--strict` none of this is assumed, and string constants aren't there either. Then stands a word for each premise that its
+/// program touches: `handles-errors`, `compares-exceptions`, `constant-value`. With `--why` lines of advice follow, which begin with
+/// blanks. To `err` it puts a line where it ends before the counts. The exit status is
 ///
 /// - 0: each method with code of each named class file is proved, with what its line says is assumed;
 /// - 1: some aren't, or a class file is left out;

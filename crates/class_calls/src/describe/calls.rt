@@ -21,7 +21,8 @@ use std::alloc::{AllocError, Global};
 /// How a description is asked for.
 #[derive(Clone, Copy)]
 pub struct Asked {
-    /// Whether classes may be taken to be initialised before the run, and interfaces be passed over, where the program needs it.
+    /// Whether classes may be taken to be initialised before the run, interfaces be passed over, and string constants and monitors be
+    /// there, where the program needs it.
     pub assuming: bool,
     /// Whether a parameter of type boolean, byte, char or short has the numbers of its type alone.
     pub narrow: bool,
@@ -150,8 +151,8 @@ fn program_as_said<'a>(
 
 /// The program of a method, with the lines about classes under which it is made: those that are given, and, where leave to assume is
 /// given, each further one that the program's faults ask for. A class that would be initialised is then taken to be initialised before
-/// the run, and an interface that is missing in a list of interfaces is passed over. None where no method with a body has these names.
-/// There are at most 256 class files.
+/// the run, an interface that is missing in a list of interfaces is passed over, and string constants and monitors are there where the
+/// program has them. None where no method with a body has these names. There are at most 256 class files.
 ///
 /// # Errors
 ///

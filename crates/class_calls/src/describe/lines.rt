@@ -3,6 +3,7 @@ ghost use Rattle.std.specs.Prelude.{◌≡◌, IfOk};
 
 use class_read::ClassView;
 use class_world::LinkFault;
+use class_world::code_forms::CodeFault;
 use input_steps::Fault;
 use input_text::WorldLine;
 use list_views::Seq;
@@ -25,6 +26,8 @@ pub fn line_again(alloc: Global, line: &WorldLine) -> Result<WorldLine, AllocErr
             alloc,
             interface.as_slice(),
         )?)),
+        WorldLine::Strings => Ok(WorldLine::Strings),
+        WorldLine::Monitors => Ok(WorldLine::Monitors),
     }
 }
 
@@ -32,15 +35,15 @@ pub fn line_again(alloc: Global, line: &WorldLine) -> Result<WorldLine, AllocErr
 fn initialises(line: &WorldLine, name: &[u8]) -> bool {
     match line {
         WorldLine::Initialised(class) => class.as_slice() == name,
-        WorldLine::Passed(_) => false,
+        _ => false,
     }
 }
 
 /// Whether a line says that the interface of a name is passed over.
 fn passes(line: &WorldLine, name: &[u8]) -> bool {
     match line {
-        WorldLine::Initialised(_) => false,
         WorldLine::Passed(interface) => interface.as_slice() == name,
+        _ => false,
     }
 }
 
@@ -84,8 +87,68 @@ fn may_pass(classes: &[ClassView<'_>], lines: &[WorldLine], name: &[u8]) -> bool
     false
 }
 
-/// The line that a fault of linking or closing asks for: that the class which would be initialised is initialised before the run, or
-/// that the interface which is missing in a list of interfaces is passed over. None where no line helps, or the line is there already.
+/// Whether a line says that string constants are there.
+fn has_strings(lines: &[WorldLine]) -> bool {
+    for line in lines {
+        if matches!(line, WorldLine::Strings) {
+            return true;
+        }
+    }
+    false
+}
+
+/// Whether a line says that monitors are there.
+fn has_monitors(lines: &[WorldLine]) -> bool {
+    for line in lines {
+        if matches!(line, WorldLine::Monitors) {
+            return true;
+        }
+    }
+    false
+}
+
+/// Whether an instruction isn't supported that is one of monitors.
+fn is_of_monitors(fault: &CodeFault) -> bool {
+    match fault {
+        CodeFault::UnsupportedOpcode { op, .. } => *op == 194 || *op == 195,
+        _ => false,
+    }
+}
+
+/// Whether a fault may be gone where string constants are there: the type of a constant isn't supported without them, and a constructor
+/// with a message, of a built-in class, isn't found.
+fn may_want_strings(fault: &LinkFault) -> bool {
+    match fault {
+        LinkFault::UnsupportedType { .. } => true,
+        LinkFault::Unresolved { .. } => true,
+        _ => false,
+    }
+}
+
+/// Whether a fault is gone where monitors are there: a method is synchronized, or has one of their instructions.
+fn wants_monitors(fault: &LinkFault) -> bool {
+    match fault {
+        LinkFault::Synchronized { .. } => true,
+        LinkFault::Code { fault, .. } => is_of_monitors(fault),
+        _ => false,
+    }
+}
+
+/// The line on string constants or on monitors that a fault asks for. None where neither helps, or the line is there already.
+fn feature_needed(lines: &[WorldLine], fault: &LinkFault) -> Option<WorldLine> {
+    if may_want_strings(fault) && !has_strings(lines) {
+        return Some(WorldLine::Strings);
+    }
+    if wants_monitors(fault) && !has_monitors(lines) {
+        return Some(WorldLine::Monitors);
+    }
+    None
+}
+
+/// The line that a fault of linking or closing asks for: that the class which would be initialised is initialised before the run; that
+/// the interface which is missing in a list of interfaces is passed over; that string constants are there; or that monitors are. None
+/// where no line helps, or the line is there already. Where the line on string constants doesn't help, the fault stays as it is, or is
+/// that the class of strings is missing.
 ///
 /// # Errors
 ///
@@ -111,6 +174,7 @@ pub fn line_needed(
             }
             Ok(None)
         }
+        Fault::Link(fault) => Ok(feature_needed(lines, fault)),
         _ => Ok(None),
     }
 }
