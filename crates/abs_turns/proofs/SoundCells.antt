@@ -11,7 +11,8 @@ use Rattle.abs_cells.specs.AbstractStates.{AbstractState}
 use Rattle.abs_cells.specs.Cells.{cell_in}
 use Rattle.abs_cells.specs.Sound.{IsSoundCell, IsSound}
 use Rattle.jvm_step.specs.class_world.BuiltIns.{built_in_count}
-use Rattle.jvm_step.specs.class_world.World.{World, built_ins, built_in_names}
+use Rattle.jvm_step.specs.class_world.declared.features.Features.{Features}
+use Rattle.jvm_step.specs.class_world.World.{World, built_ins_with, built_in_rows}
 
 module _ (types : WorldTypes) (state : AbstractState) where
   listed_sound : (list : List (ℕ × Cell)) (id : ℕ) (c : Cell) → AllByRecursion (λ (x : ℕ × Cell). IsSoundCell types state x.1) list
@@ -36,9 +37,9 @@ module _ (types : WorldTypes) (state : AbstractState) where
   found_sound f id (Some x) s e = cell_sound s id (f x) e
 
 -- a world begins with the built-in classes
-pub some_class : (world : World) → take built_in_count world ≡ built_ins → 0 < length world
-unfolding built_in_names
-some_class [] e =
+pub some_class : (features : Features) (world : World) → take built_in_count world ≡ built_ins_with features → 0 < length world
+unfolding built_in_rows
+some_class features [] e =
     let none : 0 ≡ built_in_count = ap length e in
     absurd (omega (arith, none))
-some_class (class ∷ world) e = omega arith
+some_class features (class ∷ world) e = omega arith

@@ -56,8 +56,7 @@ claims cert state desc files outcome a done =
         linked = subst (IsWorldOf (set_up text.0.world a.0)) (sym made.world_is) world.1.0;
         entry = subst (λ (e : MethodRef). entry_of program.0.world text.0.entry ≡ Ok e) (sym made.entry_is) here;
         closed = made.closed;
-        faultless = described.1.0.0;
-        is_described = described.1.0.1;
+        is_described = described.1.0;
       };
       for_ever = shows.1 done;
       text = given.0;

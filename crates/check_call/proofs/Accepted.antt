@@ -1,6 +1,6 @@
 -- An answer that a certificate is accepted is enough for the headline, where the class files are lists of bytes.
 use Rattle.std.proofs.Common.{◌≡◌, ◌∙◌, ◌≤◌, ◌+◌, ◌++◌, List, [], ◌∷◌, length, length-append, map, None, slice_get, Ok, Err}
-use Rattle.std.proofs.Common.{refl, ap, arith}
+use Rattle.std.proofs.Common.{refl, sym, ap, subst, arith}
 use Rattle.std.specs.List.{AllByRecursion}
 use Rattle.std.specs.Option.{option_map_or}
 use Rattle.std.proofs.lemmas.List.{length-map}
@@ -14,7 +14,9 @@ use Rattle.class_program.specs.Widths.{AreInWidth, HasWidths}
 use Rattle.input_text.specs.declared.fault.DescFault.TheVariants.{ParamCount, StaticCount}
 use Rattle.input_text.specs.declared.texts.DescText.{DescText}
 use Rattle.input_desc.specs.declared.desc.Desc.{Desc}
+use Rattle.input_desc.specs.Constants.{filled}
 use Rattle.input_desc.specs.Descs.{inputs_from, desc_fault, IsDescribed, IsOwnDesc}
+use Rattle.input_desc.proofs.Completed.{completed_own}
 use Rattle.input_desc.specs.Given.{params_of, statics_of, field_slot, argument_slot, slots_of}
 use Rattle.input_desc.proofs.Faultless.{counted}
 use Rattle.input_desc.proofs.GoodDescs.{found_count, texts_count, few_made, made_is_good}
@@ -78,9 +80,11 @@ accepted_ends ended cert desc files (Ok outcome) bytes a accepts =
     let p = r.program in
     let closed = r.named.closed in
     let world = world_good files r.named.text.world r.named.classes p.world (recursion_from_All IsBytes files bytes) r.named.spelled
-    r.named.linked in
+        r.named.linked in
     let small = methods_small p.world p.entry p.methods world closed.made in
-    let own = own_desc p r.named.text r.described closed (few_params p.methods small) r.named.faultless r.named.is_described in
+    let is = r.named.is_described in
+    let written = own_desc p (filled p r.named.text) is.0 closed (few_params p.methods small) is.1.0 is.1.1 in
+    let own = subst (IsOwnDesc p) (sym is.2) (completed_own p is.0 written) in
     all_end desc files p r.described r.named
     (cert_ends ended p r.typing r.described closed (in_width p small) r.typed own cert outcome r.says accepts)
 accepted_ends ended cert desc files (Err refused) bytes a accepts = absurd accepts

@@ -61,8 +61,7 @@ reached Says desc files said a =
         linked = subst (IsWorldOf (set_up text.0.world a.0)) (sym made.world_is) world.1.0;
         entry = subst (λ (e : MethodRef). entry_of program.0.world text.0.entry ≡ Ok e) (sym made.entry_is) here;
         closed = made.closed;
-        faultless = described.1.0.0;
-        is_described = described.1.0.1;
+        is_described = described.1.0;
       };
       typed = typing.1.0;
       says = described.1.1;

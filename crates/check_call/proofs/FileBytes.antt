@@ -1,6 +1,7 @@
 -- What classes keep of files that are lists of bytes.
-use Rattle.std.proofs.Common.{not, ◌≡◌, ◌∙◌, ◌≤◌, ◌<◌, ◌^◌, ◌++◌, ℕ, zero, suc, List, [], ◌∷◌, length, Some, sym, subst, arith}
-use Rattle.std.specs.Prelude.{IfSome, codes}
+use Rattle.std.proofs.Common.{not, ◌≡◌, ◌∙◌, ◌≤◌, ◌<◌, ◌^◌, ◌++◌, ◌&&◌, ℕ, zero, suc, Bool, true, false, List, [], ◌∷◌, length, Some}
+use Rattle.std.proofs.Common.{sym, subst, arith}
+use Rattle.std.specs.Prelude.{IfSome, codes, ◌==◌}
 use Rattle.std.specs.List.{AllByRecursion, flat_map}
 use Rattle.list_views.specs.ByteLists.{IsBytes}
 use Rattle.list_views.proofs.ByteLists.{IsBytes-rest}
@@ -18,15 +19,19 @@ use Rattle.class_read.specs.declared.text.ClassText.{ClassText}
 use Rattle.class_read.specs.declared.text.MemberText.{MemberText}
 use Rattle.class_read.specs.declared.text.AttrText.{AttrText}
 use Rattle.class_read.specs.declared.text.AttrText.TheVariants.{Skipped, Code}
-use Rattle.class_read.specs.Content.{ClassContent, MethodContent, CodeContent, Handler}
+use Rattle.class_read.specs.Content.{ClassContent, FieldContent, MethodContent, CodeContent, Handler}
 use Rattle.class_read.specs.Rules.{IsMethodAttribute, IsMethod, WellFormed, Spells, text_of, codes_in, first_of, method_of, content_of}
 use Rattle.class_read.specs.Text.{u2, u4, counted, attribute_text, handler_text, code_text, attr_text, member_text, magic_number}
 use Rattle.class_read.specs.Text.{class_bytes}
-use Rattle.class_world.specs.World.{World, built_in, built_in_init, built_in_names}
+use Rattle.class_world.specs.declared.features.Features.{Features}
+use Rattle.class_world.specs.declared.features.Constructors.{Constructors}
+use Rattle.class_world.specs.declared.features.Constructors.TheVariants.{Nothing, Message, MessageAndCause, Cause, Index}
+use Rattle.class_world.specs.World.{World, built_in_method, built_in_init, constructor, with_message, with_message_and_cause, with_cause}
+use Rattle.class_world.specs.World.{with_index, built_in_constructors, monitor_name, monitor_method, with_monitor, built_in, built_in_rows}
 use Rattle.class_world.specs.Resolve.{is_initialiser}
 use Rattle.input_text.specs.declared.texts.WorldLine.{WorldLine}
 use Rattle.input_steps.specs.Classes.{AllSpell, IsWorldOf}
-use Rattle.input_steps.specs.SetUp.{without_initialiser, set_up}
+use Rattle.input_steps.specs.SetUp.{without_initialiser, features_said, entered, set_up}
 use Rattle.input_steps.proofs.SetUp.{every_kept, set_up_keeps}
 
 -- ---- what is kept
@@ -62,11 +67,64 @@ init_words : (t : MethodType) → method_type (codes "()V") ≡ Some t → words
 unfolding method_type types_at returned_at
 init_words t e = subst (λ (m : MethodType). words_of m.params ≤ 255) (some_is e) (omega arith)
 
-init_good : HasByteCode built_in_init
-init_good = record { code = (one_byte, omega arith); desc = init_words }
+message_words : (t : MethodType) → method_type with_message.0 ≡ Some t → words_of t.params ≤ 255
+unfolding method_type types_at returned_at
+message_words t e = subst (λ (m : MethodType). words_of m.params ≤ 255) (some_is e) (omega arith)
 
-built_in_good : (name super : List ℕ) → IsOfBytes (built_in name super)
-built_in_good name super = record { pool = tt; methods = (init_good, tt) }
+both_words : (t : MethodType) → method_type with_message_and_cause.0 ≡ Some t → words_of t.params ≤ 255
+unfolding method_type types_at returned_at
+both_words t e = subst (λ (m : MethodType). words_of m.params ≤ 255) (some_is e) (omega arith)
+
+cause_words : (t : MethodType) → method_type with_cause.0 ≡ Some t → words_of t.params ≤ 255
+unfolding method_type types_at returned_at
+cause_words t e = subst (λ (m : MethodType). words_of m.params ≤ 255) (some_is e) (omega arith)
+
+index_words : (t : MethodType) → method_type with_index.0 ≡ Some t → words_of t.params ≤ 255
+unfolding method_type types_at returned_at
+index_words t e = subst (λ (m : MethodType). words_of m.params ≤ 255) (some_is e) (omega arith)
+
+method_good : (name desc : List ℕ) (max_locals : ℕ) → ((t : MethodType) → method_type desc ≡ Some t → words_of t.params ≤ 255)
+    → HasByteCode (built_in_method name desc max_locals)
+method_good name desc max_locals words = record { code = (one_byte, omega arith); desc = words }
+
+init_good : HasByteCode built_in_init
+init_good = method_good (codes "<init>") (codes "()V") 1 init_words
+
+message_good : HasByteCode (constructor with_message)
+message_good = method_good (codes "<init>") with_message.0 2 message_words
+
+both_good : HasByteCode (constructor with_message_and_cause)
+both_good = method_good (codes "<init>") with_message_and_cause.0 3 both_words
+
+cause_good : HasByteCode (constructor with_cause)
+cause_good = method_good (codes "<init>") with_cause.0 2 cause_words
+
+index_good : HasByteCode (constructor with_index)
+index_good = method_good (codes "<init>") with_index.0 2 index_words
+
+constructors_good : (strings : Bool) (kind : Constructors) → AllByRecursion HasByteCode (built_in_constructors strings kind)
+constructors_good false kind = (init_good, tt)
+constructors_good true Nothing = (init_good, tt)
+constructors_good true Message = (init_good, (message_good, tt))
+constructors_good true MessageAndCause = (init_good, (message_good, (both_good, tt)))
+constructors_good true Cause = (init_good, (message_good, (both_good, (cause_good, tt))))
+constructors_good true Index = (init_good, (message_good, (index_good, tt)))
+
+joined : {A : Type 0} (P : A → Type 0) (xs ys : List A) → AllByRecursion P xs → AllByRecursion P ys → AllByRecursion P (xs ++ ys)
+joined P [] ys h k = k
+joined P (x ∷ xs) ys h k = (h.0, joined P xs ys h.1 k)
+
+monitor_good : (wanted : Bool) (methods : List MethodContent) → AllByRecursion HasByteCode methods
+    → AllByRecursion HasByteCode (with_monitor wanted methods)
+monitor_good false methods h = h
+monitor_good true methods h = joined HasByteCode methods (monitor_method ∷ []) h (method_good monitor_name (codes "()V") 1 init_words, tt)
+
+built_in_good : (features : Features) (row : List ℕ × List ℕ × Constructors) → IsOfBytes (built_in features row)
+built_in_good features row = record {
+  pool = tt;
+  methods = monitor_good (features.monitors && (length row.1 == 0)) (built_in_constructors features.strings row.2)
+      (constructors_good features.strings row.2);
+}
 
 all_of : {A : Type 0} (P : A → Type 0) → ((x : A) → P x) → (xs : List A) → AllByRecursion P xs
 all_of P h [] = tt
@@ -168,10 +226,6 @@ all_spelled [] (c ∷ classes) h s = absurd s
 all_spelled (f ∷ files) [] h s = absurd s
 all_spelled (f ∷ files) (c ∷ classes) h s = (spelled_good f c h.0 s.0, all_spelled files classes h.1 s.1)
 
-joined : {A : Type 0} (P : A → Type 0) (xs ys : List A) → AllByRecursion P xs → AllByRecursion P ys → AllByRecursion P (xs ++ ys)
-joined P [] ys h k = k
-joined P (x ∷ xs) ys h k = (h.0, joined P xs ys h.1 k)
-
 -- ---- classes as they enter a world
 
 without_good : (c : ClassContent) → IsOfBytes c → IsOfBytes (without_initialiser c)
@@ -183,16 +237,20 @@ without_good c h = record {
 with_other_good : (c : ClassContent) (interfaces : List (List ℕ)) → IsOfBytes c → IsOfBytes (record c { interfaces = interfaces })
 with_other_good c interfaces h = record { pool = h.pool; methods = h.methods }
 
+with_more_good : (c : ClassContent) (fields : List FieldContent) → IsOfBytes c → IsOfBytes (record c { fields = fields })
+with_more_good c fields h = record { pool = h.pool; methods = h.methods }
+
 set_up_of_bytes : (lines : List WorldLine) (classes : List ClassContent) → AllByRecursion IsOfBytes classes
-    → AllByRecursion IsOfBytes (set_up lines classes)
-set_up_of_bytes = set_up_keeps IsOfBytes without_good with_other_good
+    → AllByRecursion IsOfBytes (entered lines classes)
+set_up_of_bytes = set_up_keeps IsOfBytes without_good with_other_good with_more_good
 
 -- the classes of the world that files make, however they enter it
 pub world_good : (files : List (List ℕ)) (lines : List WorldLine) (classes : List ClassContent) (world : World)
     → AllByRecursion IsBytes files → AllSpell files classes → IsWorldOf (set_up lines classes) world → AllByRecursion IsOfBytes world
 world_good files lines classes world h s is =
     subst (AllByRecursion IsOfBytes) (sym is.world_is)
-    (joined IsOfBytes _ (set_up lines classes)
-    (all_mapped IsOfBytes (λ (n : List ℕ × List ℕ). built_in n.0 n.1) built_in_names
-    (all_of (λ (n : List ℕ × List ℕ). IsOfBytes (built_in n.0 n.1)) (λ n. built_in_good n.0 n.1) built_in_names))
+    (joined IsOfBytes _ (entered lines classes)
+    (all_mapped IsOfBytes (built_in (features_said lines)) built_in_rows
+    (all_of (λ (row : List ℕ × List ℕ × Constructors). IsOfBytes (built_in (features_said lines) row))
+    (built_in_good (features_said lines)) built_in_rows))
     (set_up_of_bytes lines classes (all_spelled files classes h s)))

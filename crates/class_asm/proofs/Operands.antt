@@ -211,7 +211,8 @@ high_rows = (
                                   refl,
                                   (
                                     refl,
-                                    (refl, (refl, (refl, (refl, (refl, (refl, (refl, (refl, (refl, (refl, (refl, tt))))))))))),
+                                    (refl, (refl, (refl, (refl,
+                                                (refl, (refl, (refl, (refl, (refl, (refl, (refl, (refl, (refl, tt))))))))))))),
                                   ),
                                 ),
                               ),

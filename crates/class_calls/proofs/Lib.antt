@@ -12,3 +12,4 @@ pub mod Answered
 pub mod Lines
 pub mod Pairs
 pub mod Wholes
+pub mod WrittenWholes

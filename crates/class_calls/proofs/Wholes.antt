@@ -1,16 +1,13 @@
--- Descriptions that leave no input out: each state with which the method can begin fits them.
-use Rattle.std.proofs.Common.{◌≡◌, ◌≢◌, ℕ, ◌<◌, ℤ, ◌≤ℤ◌, Bool, true, false, List, [], ◌∷◌, ◌++◌, length, Some, None, Ok, ◌⊎◌, inl, inr}
-use Rattle.std.proofs.Common.{sym, refl, ap, subst, ◌∙◌, arith}
+-- Inputs and pairs of descriptions that leave no input out.
+use Rattle.std.proofs.Common.{◌≡◌, ◌≢◌, ℕ, zero, suc, ◌<◌, ◌≤◌, ℤ, ◌≤ℤ◌, Bool, true, false, List, [], ◌∷◌, ◌++◌, length, take, Some}
+use Rattle.std.proofs.Common.{None, ◌⊎◌, inl, inr, sym, refl, ap, subst, ◌∙◌, arith}
 use Rattle.std.specs.Prelude.{slice_get, ◌||◌}
 use Rattle.std.specs.List.{AllZip, list_all}
-use Rattle.std.specs.Option.{option_map_or}
 use Rattle.std.specs.Ordering.{int_eq}
 use Rattle.std.proofs.lemmas.Bool.{false≢true, and_parts, cases_order}
 use Rattle.std.proofs.lemmas.Bool.Decides.{Decides-int_eq}
 use Rattle.std.proofs.lemmas.List.{length-map}
-use Rattle.std.proofs.lemmas.Slice.Zip.{AllZip-long}
 use Rattle.list_views.proofs.Truths.{or_either}
-use Rattle.list_views.proofs.Zipped.{zip_joined}
 use Rattle.jvm_values.specs.declared.types.Ty.{Ty}
 use Rattle.jvm_values.specs.declared.types.Slot.{Slot}
 use Rattle.jvm_values.specs.declared.types.Slot.TheVariants as slots
@@ -21,41 +18,30 @@ use Rattle.jvm_values.specs.declared.heap.Heap.{Heap}
 use Rattle.jvm_values.specs.declared.shape.Shape.{Shape}
 use Rattle.jvm_values.specs.declared.shape.Shape.TheVariants as shapes
 use Rattle.jvm_values.specs.Kinds.{least_of, greatest_of}
-use Rattle.jvm_values.specs.States.{MachineState}
 use Rattle.jvm_values.specs.Heaps.{target, HasShape}
 use Rattle.jvm_values.specs.TypedHeaps.{WorldTypes, type_of, Holds}
 use Rattle.class_world.specs.World.{World}
 use Rattle.class_world.specs.WorldTypes.{types_of}
-use Rattle.class_world.specs.lemmas.WorldLaws.{world_laws}
 use Rattle.class_world.specs.Types.{is_sub, erase}
-use Rattle.class_program.specs.Programs.{Program, IsClosed}
-use Rattle.input_text.specs.Answers.{SaysOf}
-use Rattle.input_text.specs.Descriptions.{description_of}
-use Rattle.input_text.specs.declared.texts.DescText.{DescText}
-use Rattle.input_text.specs.declared.texts.WorldLine.{WorldLine}
 use Rattle.input_desc.specs.declared.desc.Input.{Input}
 use Rattle.input_desc.specs.declared.desc.Input.TheVariants.{Int, Ref}
-use Rattle.input_desc.specs.declared.desc.Desc.{Desc}
-use Rattle.input_desc.specs.Entries.{entry_of}
-use Rattle.input_desc.specs.Given.{params_of, statics_of, argument_slot}
-use Rattle.input_desc.specs.Narrow.{arguments_of, slots_in}
-use Rattle.input_desc.specs.Descs.{has_receiver, desc_fault, IsDescribed}
-use Rattle.input_desc.specs.Fitting.{FitsInput, IsListed, FitsDescription}
-use Rattle.input_desc.proofs.Unfit.{all_fitting}
+use Rattle.input_desc.specs.Given.{argument_slot}
+use Rattle.input_desc.specs.Narrow.{arguments_of}
+use Rattle.input_desc.specs.Fitting.{FitsInput, IsListed}
 use Rattle.input_desc.proofs.Wider.{Laws, has_wider, erased_twice}
 use Rattle.input_desc.proofs.Zipped.{zip_before}
 use Rattle.class_calls.specs.declared.describe.inputs.Listed.TheVariants.{Same, Share}
-use Rattle.class_calls.specs.describe.Starts.{HasReceiver, IsStartState}
-use Rattle.class_calls.specs.describe.Whole.{is_any, is_open, is_nullable, behind, are_comparable, ListsAll, IsWhole}
-use Rattle.class_calls.specs.describe.Templates.{HasNumbers, IsTemplate}
-use Rattle.class_calls.proofs.Pairs.{swapped, listed_behind}
+use Rattle.class_calls.specs.describe.Starts.{HasReceiver}
+use Rattle.class_calls.specs.describe.Whole.{is_any, is_open, is_nullable, behind, are_comparable, ListsAll}
+use Rattle.class_calls.specs.describe.Templates.{HasNumbers}
+use Rattle.class_calls.proofs.Pairs.{swapped}
 
 -- ---- one input
 
 within : (least greatest lo hi n : ℤ) → lo ≡ least → hi ≡ greatest → least ≤ℤ n → n ≤ℤ greatest → (lo ≤ℤ n) × (n ≤ℤ hi)
 within least greatest lo hi n low high l h = (subst (λ (m : ℤ). m ≤ℤ n) (sym low) l, subst (λ (m : ℤ). n ≤ℤ m) (sym high) h)
 
-has_numbers : (world : World) (slot : Slot) (input : Input) → is_open world slot input ≡ true → HasNumbers slot input
+pub has_numbers : (world : World) (slot : Slot) (input : Input) → is_open world slot input ≡ true → HasNumbers slot input
 has_numbers world (slots.Num kind) (Int interval) o =
     let both = and_parts (int_eq interval.lo (least_of kind)) (int_eq interval.hi (greatest_of kind)) o in
     ((Decides-int_eq interval.lo (least_of kind)).0 both.0, (Decides-int_eq interval.hi (greatest_of kind)).0 both.1)
@@ -83,39 +69,59 @@ fits_open world heap (slots.Ref t) (Ref s has shape) value laws o null h =
 
 -- ---- all inputs
 
-abbrev IsOpenAt : World → Slot → Input → Type 0
+abbrev pub IsOpenAt : World → Slot → Input → Type 0
 IsOpenAt world slot input = is_open world slot input ≡ true
 
-fit_nullable : (world : World) (heap : Heap) (wanted : List Slot) (inputs : List Input) (given : List Value) → Laws world
-    → AllZip (IsOpenAt world) wanted inputs → list_all is_nullable inputs ≡ true → AllZip (Holds (types_of world) heap) wanted given
-    → AllZip (FitsInput (types_of world) heap) inputs given
-fit_nullable world heap [] [] [] laws o n h = tt
-fit_nullable world heap [] [] (value ∷ given) laws o n h = absurd h
-fit_nullable world heap [] (input ∷ inputs) given laws o n h = absurd o
-fit_nullable world heap (slot ∷ wanted) [] given laws o n h = absurd o
-fit_nullable world heap (slot ∷ wanted) (input ∷ inputs) [] laws o n h = absurd h
-fit_nullable world heap (slot ∷ wanted) (input ∷ inputs) (value ∷ given) laws o n h =
-    let both = and_parts (is_nullable input) (list_all is_nullable inputs) n in
-    (fits_open world heap slot input value laws o.0 (λ e. both.0) h.0, fit_nullable world heap wanted inputs given laws o.1 both.1 h.1)
+-- a value is null only where an input may be
+abbrev pub IsNullWhere : Input → Value → Type 0
+IsNullWhere input value = value ≡ values.Null → is_nullable input ≡ true
 
-fit_all : (world : World) (heap : Heap) (receiver : Bool) (wanted : List Slot) (inputs : List Input) (given : List Value)
-    → Laws world → AllZip (IsOpenAt world) wanted inputs → list_all is_nullable (behind receiver inputs) ≡ true
-    → (receiver ≡ true → HasReceiver given) → AllZip (Holds (types_of world) heap) wanted given
+pub fit_each : (world : World) (heap : Heap) (wanted : List Slot) (inputs : List Input) (given : List Value) → Laws world
+    → AllZip (IsOpenAt world) wanted inputs → AllZip IsNullWhere inputs given → AllZip (Holds (types_of world) heap) wanted given
     → AllZip (FitsInput (types_of world) heap) inputs given
-fit_all world heap receiver [] [] [] laws o n r h = tt
-fit_all world heap receiver [] [] (value ∷ given) laws o n r h = absurd h
-fit_all world heap receiver [] (input ∷ inputs) given laws o n r h = absurd o
-fit_all world heap receiver (slot ∷ wanted) [] given laws o n r h = absurd o
-fit_all world heap receiver (slot ∷ wanted) (input ∷ inputs) [] laws o n r h = absurd h
-fit_all world heap true (slot ∷ wanted) (input ∷ inputs) (value ∷ given) laws o n r h = (
-  fits_open world heap slot input value laws o.0 (λ e. absurd (r refl e)) h.0,
-  fit_nullable world heap wanted inputs given laws
-      o.1 n h.1,
+fit_each world heap [] [] [] laws o n h = tt
+fit_each world heap [] [] (value ∷ given) laws o n h = absurd h
+fit_each world heap [] (input ∷ inputs) given laws o n h = absurd o
+fit_each world heap (slot ∷ wanted) [] given laws o n h = absurd o
+fit_each world heap (slot ∷ wanted) (input ∷ inputs) [] laws o n h = absurd h
+fit_each world heap (slot ∷ wanted) (input ∷ inputs) (value ∷ given) laws o n h =
+    (fits_open world heap slot input value laws o.0 n.0 h.0, fit_each world heap wanted inputs given laws o.1 n.1 h.1)
+
+-- values from the number `own` on are no null
+abbrev pub AreObjectsFrom : ℕ → List Value → Type 0
+AreObjectsFrom own given = (n : ℕ) (value : Value) → own ≤ n → slice_get given n ≡ Some value → value ≢ values.Null
+
+null_where : (own : ℕ) (inputs : List Input) (given : List Value) → length inputs ≡ length given
+    → list_all is_nullable (take own inputs) ≡ true → AreObjectsFrom own given → AllZip IsNullWhere inputs given
+null_where own [] [] l n objects = tt
+null_where own [] (value ∷ given) l n objects = absurd (omega (arith, l))
+null_where own (input ∷ inputs) [] l n objects = absurd (omega (arith, l))
+null_where zero (input ∷ inputs) (value ∷ given) l n objects = (
+  λ e. absurd (objects 0 value (omega arith) refl e),
+  null_where zero inputs given (omega (arith, l)) refl (λ k v m at. objects (suc k) v (omega arith) at),
 )
-fit_all world heap false (slot ∷ wanted) (input ∷ inputs) (value ∷ given) laws o n r h = fit_nullable world heap (slot ∷ wanted)
-    (input ∷ inputs) (value ∷ given) laws o n h
+null_where (suc own) (input ∷ inputs) (value ∷ given) l n objects =
+    let both = and_parts (is_nullable input) (list_all is_nullable (take own inputs)) n in (
+      λ e. both.0,
+      null_where own inputs given (omega (arith, l)) both.1 (λ k v m at. objects (suc k) v (omega (arith, m)) at),
+    )
 
-received_more : (args more : List Value) → HasReceiver args → HasReceiver (args ++ more)
+pub nulls_fit : (receiver : Bool) (own : ℕ) (inputs : List Input) (given : List Value) → length inputs ≡ length given
+    → list_all is_nullable (behind receiver (take own inputs)) ≡ true → (receiver ≡ true → HasReceiver given) → AreObjectsFrom own given
+    → AllZip IsNullWhere inputs given
+nulls_fit receiver own [] [] l n r objects = tt
+nulls_fit receiver own [] (value ∷ given) l n r objects = absurd (omega (arith, l))
+nulls_fit receiver own (input ∷ inputs) [] l n r objects = absurd (omega (arith, l))
+nulls_fit receiver zero (input ∷ inputs) (value ∷ given) l n r objects =
+    null_where zero (input ∷ inputs) (value ∷ given) l refl objects
+nulls_fit false (suc own) (input ∷ inputs) (value ∷ given) l n r objects =
+    null_where (suc own) (input ∷ inputs) (value ∷ given) l n objects
+nulls_fit true (suc own) (input ∷ inputs) (value ∷ given) l n r objects = (
+  λ e. absurd (r refl e),
+  null_where own inputs given (omega (arith, l)) n (λ k v m at. objects (suc k) v (omega (arith, m)) at),
+)
+
+pub received_more : (args more : List Value) → HasReceiver args → HasReceiver (args ++ more)
 received_more [] more h = absurd h
 received_more (value ∷ args) more h = h
 
@@ -176,7 +182,7 @@ share_up world heap wanted given pairs i j o q v w held lists l at_v at_w e f =
     let other = is_of types heap b.0 w q b.1.1 f in
     lists i j (slots.Ref one.own) (slots.Ref other.own) l (a.1.0 ∙ ap Some one.is) (b.1.0 ∙ ap Some other.is) refl
 
-same_listed : (world : World) (heap : Heap) (wanted : List Slot) (given : List Value) (pairs : List (ℕ × ℕ)) (i j o : ℕ)
+pub same_listed : (world : World) (heap : Heap) (wanted : List Slot) (given : List Value) (pairs : List (ℕ × ℕ)) (i j o : ℕ)
     (v w : Value) → Laws world → AllZip (Holds (types_of world) heap) wanted given → ListsAll world Same wanted pairs → i ≢ j
     → slice_get given i ≡ Some v → slice_get given j ≡ Some w → target v ≡ Some o → target w ≡ Some o → IsListed i j pairs
 same_listed world heap wanted given pairs i j o v w laws held lists apart at_v at_w e f = go (cases_order i j)
@@ -186,7 +192,7 @@ same_listed world heap wanted given pairs i j o v w laws held lists apart at_v a
     go (inr (inl l)) = same_up world heap wanted given pairs i j o v w laws held lists l at_v at_w e f
     go (inr (inr l)) = swapped j i pairs (same_up world heap wanted given pairs j i o w v laws held lists l at_w at_v f e)
 
-share_listed : (world : World) (heap : Heap) (wanted : List Slot) (given : List Value) (pairs : List (ℕ × ℕ)) (i j o q : ℕ)
+pub share_listed : (world : World) (heap : Heap) (wanted : List Slot) (given : List Value) (pairs : List (ℕ × ℕ)) (i j o q : ℕ)
     (v w : Value) → AllZip (Holds (types_of world) heap) wanted given → ListsAll world Share wanted pairs → i ≢ j
     → slice_get given i ≡ Some v → slice_get given j ≡ Some w → target v ≡ Some o → target w ≡ Some q → IsListed i j pairs
 share_listed world heap wanted given pairs i j o q v w held lists apart at_v at_w e f = go (cases_order i j)
@@ -199,56 +205,6 @@ share_listed world heap wanted given pairs i j o q v w held lists apart at_v at_
 -- ---- the whole
 
 -- as many arguments as parameters
-as_many : (narrow : Bool) (params : List Slot) → length (arguments_of narrow params) ≡ length params
+pub as_many : (narrow : Bool) (params : List Slot) → length (arguments_of narrow params) ≡ length params
 as_many true params = refl
 as_many false params = length-map params argument_slot
-
-whole_fits : (narrow : Bool) (p : Program) (desc : Desc) (state : MachineState) → Laws p.world
-    → IsWhole p.world (has_receiver p) (slots_in narrow p) desc → IsStartState narrow p state → FitsDescription p desc state
-whole_fits narrow p desc state laws whole start =
-    let types = types_of p.world in
-    let heap = state.heap in
-    let given = start.args ++ state.statics in
-    let params : params_of p ≡ start.method.params = ap (λ o. option_map_or (λ m. m.params) o []) start.entry in
-    let arguments : AllZip (Holds types heap) (arguments_of narrow (params_of p)) start.args = subst
-    (λ ps. AllZip (Holds types heap) (arguments_of narrow ps) start.args) (sym params) start.arguments in
-    let held : AllZip (Holds types heap) (slots_in narrow p) given = zip_joined (Holds types heap) (arguments_of narrow (params_of p))
-    (statics_of p) start.args state.statics arguments start.statics in
-    let opened = all_fitting (is_open p.world) (IsOpenAt p.world) (λ slot input e. e) 0 (slots_in narrow p) desc.inputs whole.count
-    whole.opened in
-    record {
-      method = start.method;
-      entry = start.entry;
-      args = start.args;
-      frame = start.frame;
-      one = start.one;
-      start = start.start;
-      normal = start.normal;
-      count = AllZip-long (Holds types heap) (arguments_of narrow start.method.params) start.args start.arguments
-          ∙ as_many narrow start.method.params;
-      statics = start.statics;
-      typed = start.typed;
-      inputs = fit_all p.world heap (has_receiver p) (slots_in narrow p) desc.inputs given laws opened whole.nullable
-          (λ e. received_more start.args state.statics (start.receiver e)) held;
-      same = λ i j o v w apart at_v at_w e f. same_listed p.world heap (slots_in narrow p) given desc.same i j o v w laws held whole.same
-          apart at_v at_w e f;
-      share = λ i j o v w apart at_v at_w r s. listed_behind i j desc.same desc.share
-          (share_listed p.world heap (slots_in narrow p) given desc.share i j r.start s.start v w held whole.share apart at_v at_w r.names
-          s.names);
-    }
-
-pub is_template : (narrow : Bool) (lines : List WorldLine) (p : Program) (bytes : List ℕ) (said : DescText) (desc : Desc) → IsClosed p
-    → SaysOf description_of bytes (Ok said) → said.world ≡ lines → entry_of p.world said.entry ≡ Ok p.entry
-    → (desc_fault p said ≡ None) × IsDescribed p said desc → IsWhole p.world (has_receiver p) (slots_in narrow p) desc
-    → IsTemplate narrow lines p bytes
-is_template narrow lines p bytes said desc closed says lines_are entry described whole = record {
-  text = said;
-  says = says;
-  lines_are = lines_are;
-  entry = entry;
-  fits = described.0;
-  desc = desc;
-  described = described.1;
-  numbers = all_fitting (is_open p.world) HasNumbers (has_numbers p.world) 0 (slots_in narrow p) desc.inputs whole.count whole.opened;
-  whole = λ state start. whole_fits narrow p desc state (world_laws p.world closed.known.linked) whole start;
-}

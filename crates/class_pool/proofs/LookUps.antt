@@ -3,10 +3,10 @@ use Rattle.std.proofs.Common.{◌≡◌, ℕ, Bool, true, false, ◌&&◌, List,
 use Rattle.std.specs.Prelude.{is_some}
 use Rattle.std.specs.Option.{option_map, option_map_or, option_and_then}
 use Rattle.class_pool.specs.declared.entry.PoolEntry.{PoolEntry}
-use Rattle.class_pool.specs.declared.entry.PoolEntry.TheVariants.{Utf8, Class, Member, NameAndType}
-use Rattle.class_pool.specs.Entry.{is_utf8, is_class, is_name_and_type, is_member}
+use Rattle.class_pool.specs.declared.entry.PoolEntry.TheVariants.{Utf8, Class, Str, Member, NameAndType}
+use Rattle.class_pool.specs.Entry.{is_utf8, is_class, is_string, is_name_and_type, is_member}
 use Rattle.class_pool.specs.Text.{entry_at, stands, first_bad_index, text_of, utf8_at, class_of, class_name_at, pair_of}
-use Rattle.class_pool.specs.Text.{name_and_type_at, member_of, member_at}
+use Rattle.class_pool.specs.Text.{name_and_type_at, member_of, member_at, string_of, string_at}
 use Rattle.class_pool.proofs.Names.{all_stand}
 
 pub is_some-option_map : {A B : Type 0} (f : A → B) (o : Option A) → is_some (option_map f o) ≡ is_some o
@@ -42,6 +42,17 @@ class_some_of entries i (Some _) none here = refl
 pub class_some : (entries : List PoolEntry) (i : ℕ) → first_bad_index entries ≡ None
     → is_some (class_name_at entries i) ≡ option_map_or is_class (entry_at entries i) false
 class_some entries i none = class_some_of entries i (entry_at entries i) none refl
+
+string_some_of : (entries : List PoolEntry) (i : ℕ) (o : Option PoolEntry) → first_bad_index entries ≡ None → entry_at entries i ≡ o
+    → is_some (option_and_then (string_of entries) o) ≡ option_map_or is_string o false
+string_some_of entries i None none here = refl
+string_some_of entries i (Some (Str text)) none here =
+    text_some (entry_at entries text) (and_left (stands entries (text, is_utf8)) true (all_stand entries i (Str text) none here))
+string_some_of entries i (Some _) none here = refl
+
+pub string_some : (entries : List PoolEntry) (i : ℕ) → first_bad_index entries ≡ None
+    → is_some (string_at entries i) ≡ option_map_or is_string (entry_at entries i) false
+string_some entries i none = string_some_of entries i (entry_at entries i) none refl
 
 pair_some_of : (entries : List PoolEntry) (i : ℕ) (o : Option PoolEntry) → first_bad_index entries ≡ None → entry_at entries i ≡ o
     → is_some (option_and_then (pair_of entries) o) ≡ option_map_or is_name_and_type o false

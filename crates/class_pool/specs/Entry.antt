@@ -73,6 +73,11 @@ abbrev pub is_class : PoolEntry → Bool
 is_class (Class name) = true
 is_class _ = false
 
+-- an entry is a String (JVM specification, section 4.4.3)
+abbrev pub is_string : PoolEntry → Bool
+is_string (Str text) = true
+is_string _ = false
+
 -- an entry is a Fieldref, a Methodref or an InterfaceMethodref (JVM specification, section 4.4.2)
 abbrev pub is_member : PoolEntry → Bool
 is_member (Member tag class name_and_type) = true

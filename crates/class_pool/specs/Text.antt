@@ -6,7 +6,7 @@ use Rattle.std.specs.Option.{option_map, option_map_or, option_and_then}
 use Rattle.std.specs.Prelude.{ℤ}
 use Rattle.byteorder.specs.Endian.{big_bytes}
 use Rattle.class_pool.specs.declared.entry.PoolEntry.{PoolEntry}
-use Rattle.class_pool.specs.declared.entry.PoolEntry.TheVariants.{Utf8, Integer, Class, Member, NameAndType}
+use Rattle.class_pool.specs.declared.entry.PoolEntry.TheVariants.{Utf8, Integer, Class, Str, Member, NameAndType}
 use Rattle.class_pool.specs.Entry.{tag_of, is_wide, names_of, entry_bytes, HasText, Fits}
 
 -- ---- numbers of entries
@@ -118,6 +118,15 @@ class_of entries _ = None
 -- the class's name by the Class entry of that number
 abbrev pub class_name_at : List PoolEntry → ℕ → Option (List ℕ)
 class_name_at entries i = option_and_then (class_of entries) (entry_at entries i)
+
+-- the text of a constant, where an entry of a pool is a String (JVM specification, section 4.4.3)
+abbrev pub string_of : List PoolEntry → PoolEntry → Option (List ℕ)
+string_of entries (Str text) = utf8_at entries text
+string_of entries _ = None
+
+-- the text of the String entry of that number
+abbrev pub string_at : List PoolEntry → ℕ → Option (List ℕ)
+string_at entries i = option_and_then (string_of entries) (entry_at entries i)
 
 -- the name and the descriptor, where an entry of a pool is a NameAndType
 abbrev pub pair_of : List PoolEntry → PoolEntry → Option (List ℕ × List ℕ)

@@ -6,7 +6,7 @@ ghost use Rattle.std.specs.List.{list_all};
 ghost use Rattle.class_pool.specs.Entry.{is_utf8, is_class, is_member, is_name_and_type, names_of};
 ghost use Rattle.class_pool.specs.inner.View.{entry_of};
 ghost use Rattle.class_pool.specs.Text.{places_of, entry_at, tag_at, stands, names_badly, first_bad_index, utf8_at, integer_at};
-ghost use Rattle.class_pool.specs.Text.{name_index_at, class_name_at, name_and_type_at, member_at};
+ghost use Rattle.class_pool.specs.Text.{name_index_at, class_name_at, string_at, name_and_type_at, member_at};
 
 use crate::entry::EntryView;
 use crate::reading::entry_at;
@@ -160,6 +160,15 @@ impl<'a> Entries<'a> {
     {
         match self.entry(i) {
             Some(EntryView::Class(name)) => self.utf8(name),
+            _ => None,
+        }
+    }
+
+    pub(crate) fn string(&self, i: u16) -> Option<&'a [u8]>
+        ensures { option_copied result ≡ string_at self.now i }
+    {
+        match self.entry(i) {
+            Some(EntryView::Str(text)) => self.utf8(text),
             _ => None,
         }
     }

@@ -2,10 +2,10 @@
 
 ghost use Rattle.std.specs.Prelude.{◌≡◌, List, length, false, IfOk, is_some, Ok};
 ghost use Rattle.std.specs.Option.{option_copied, option_map, option_map_or};
-ghost use Rattle.class_pool.specs.Entry.{is_class, is_member};
+ghost use Rattle.class_pool.specs.Entry.{is_class, is_string, is_member};
 ghost use Rattle.class_pool.specs.declared.entry.PoolEntry.{PoolEntry};
-ghost use Rattle.class_pool.specs.Text.{places_of, entry_at, tag_at, utf8_at, integer_at, name_index_at, class_name_at, member_at};
-ghost use Rattle.class_pool.specs.Text.{Unread, unread, Spells};
+ghost use Rattle.class_pool.specs.Text.{places_of, entry_at, tag_at, utf8_at, integer_at, name_index_at, class_name_at, string_at};
+ghost use Rattle.class_pool.specs.Text.{member_at, Unread, unread, Spells};
 ghost use Rattle.class_pool.specs.Reading.{Gives, pool_at};
 
 use crate::entries::Entries;
@@ -110,6 +110,15 @@ impl<'a> Pool<'a> {
         ensures kind { is_some result ≡ option_map_or is_class (entry_at self.now i) false }
     {
         self.entries.class_name(i)
+    }
+
+    /// The bytes of the text that the String entry `i` names: a constant's characters, in the class file's own form of UTF-8.
+    pub fn string(&self, i: u16) -> Option<&'a [u8]>
+        ensures bytes { option_copied result ≡ string_at self.now i }
+        // None exactly where no String entry has that number.
+        ensures kind { is_some result ≡ option_map_or is_string (entry_at self.now i) false }
+    {
+        self.entries.string(i)
     }
 
     /// The Fieldref, Methodref or InterfaceMethodref entry `i`: its tag, the bytes that name its class, its name and

@@ -9,14 +9,15 @@ use Rattle.class_world.specs.class_read.Content.{ClassContent, FieldContent}
 use Rattle.jvm_values.specs.declared.types.Slot.{Slot}
 use Rattle.class_world.specs.declared.fault.LinkFault.{LinkFault}
 use Rattle.class_world.specs.declared.fault.LinkFault.TheVariants.{BadSuper}
-use Rattle.class_world.specs.World.{World, built_ins, built_in_names, super_of, interfaces_of, is_interface, is_interface_class}
+use Rattle.class_world.specs.declared.features.Features.{Features}
+use Rattle.class_world.specs.World.{World, built_ins_with, built_in_rows, super_of, interfaces_of, is_interface, is_interface_class}
 use Rattle.class_world.specs.World.{line_from, line_of}
 use Rattle.class_world.specs.Fields.{field_slot}
 use Rattle.class_world.specs.Linking.{is_linked, is_bad_superclass, bad_super}
 use Rattle.class_world.specs.lemmas.Linked.{linked_from}
 use Rattle.class_world.specs.lemmas.Walks.{IsIn}
 use Rattle.class_world.specs.Resolve.{found_field, resolve_field, field_at, field_place}
-use Rattle.class_world.specs.BuiltIns.{IsWorld}
+use Rattle.class_world.specs.BuiltIns.{features_of, IsWorld}
 use Rattle.class_world.proofs.Found.{found_in}
 
 -- the superclass of a class is of the right kind
@@ -65,10 +66,10 @@ short_line world a h (suc n) c (inr there) = go (super_of world a) refl there
     go (Some s) q t = inr (root_line world n c (subst (λ (k : ℕ). IsIn c (line_from (super_of world) n k)) (h s q) t))
 
 -- Object has no fields
-root_fields : (w : World) → take 15 w ≡ built_ins → (i : ℕ) → field_at w 0 i ≡ None
-unfolding built_in_names
-root_fields [] e i = cc
-root_fields (c ∷ cs) e i =
+root_fields : (features : Features) (w : World) → take 15 w ≡ built_ins_with features → (i : ℕ) → field_at w 0 i ≡ None
+unfolding built_in_rows
+root_fields features [] e i = cc
+root_fields features (c ∷ cs) e i =
     let none : c.fields ≡ [] = ap (λ (xs : World). option_map_or (λ x. x.fields) (slice_get xs 0) []) e in
     ap (λ (fs : List FieldContent). slice_get fs i) none
 
@@ -76,7 +77,7 @@ root_place : (world : World) → IsWorld world → (i : ℕ) (x : ℕ × Slot) �
 unfolding field_place
 root_place world known i x e =
     let none : option_and_then (field_slot world) (field_at world 0 i) ≡ None = ap (option_and_then (field_slot world))
-    (root_fields world known.begins i) in
+    (root_fields (features_of world) world known.begins i) in
     go _ (option_and_then (field_slot world) (field_at world 0 i)) none e
   where
     go : (f : Slot → ℕ × Slot) (o : Option Slot) → o ≡ None → option_map f o ≡ Some x → ⊥

@@ -1,17 +1,19 @@
 -- What calls name: methods that are there, and the methods of the program that they run.
 use Rattle.std.proofs.Common.{◌≡◌, ◌++◌, ◌||◌, ◌&&◌, ℕ, suc, ◌+◌, ◌<◌, Bool, true, false, not, cond, eqb, ltb, List, [], ◌∷◌}
 use Rattle.std.proofs.Common.{length, Option, Some, None, Ok, refl, sym, ap, subst, inl, inr, ◌⊎◌, arith, ◌∙◌, one-add}
-use Rattle.std.specs.Prelude.{slice_get, position, option_and_then, IsTrue}
+use Rattle.std.specs.Prelude.{slice_get, position, option_and_then, IsTrue, codes}
 use Rattle.std.specs.List.{list_any, list_all, position_or_len, AllByRecursion}
 use Rattle.std.specs.Option.{option_map, option_map_or, option_to_list}
 use Rattle.std.specs.Str.{bytes_eq}
 use Rattle.std.proofs.lemmas.Bool.{false≢true, and_parts, ltb-true, not-true}
 use Rattle.std.proofs.lemmas.Slice.Eq.{bytes_eq-Decides}
-use Rattle.class_world.specs.class_read.Content.{MethodContent}
+use Rattle.class_world.specs.class_base.MethodTypes.{method_type, types_at, returned_at}
+use Rattle.class_world.specs.class_read.Content.{ClassContent, MethodContent}
 use Rattle.jvm_values.specs.declared.types.Slot.{Slot}
 use Rattle.class_world.specs.declared.world.MethodRef.{MethodRef}
-use Rattle.class_world.specs.World.{World, line_of, super_of, is_static, is_private, is_abstract, is_interface_class}
-use Rattle.class_world.specs.Linking.{is_linked}
+use Rattle.class_world.specs.World.{World, line_of, super_of, is_static, is_private, is_abstract, is_interface, is_interface_class}
+use Rattle.class_world.specs.World.{monitor_name}
+use Rattle.class_world.specs.Linking.{is_rooted, is_linked}
 use Rattle.class_world.specs.Types.{is_class_below}
 use Rattle.class_world.specs.Descriptors.{class_slot}
 use Rattle.class_world.specs.Members.{declared_method}
@@ -30,10 +32,10 @@ use Rattle.class_program.specs.declared.selected.Selected.{Selected}
 use Rattle.class_program.specs.declared.selected.Selected.TheVariants as answers
 use Rattle.class_program.specs.Operands.{Member}
 use Rattle.class_program.specs.Refusals.{wanted, required}
-use Rattle.class_program.specs.Signatures.{signature_of, declared_signature}
+use Rattle.class_program.specs.Signatures.{all_there, all_supported, signature_of, declared_signature}
 use Rattle.class_program.specs.Ops.{type_named, class_number, constructor_name, may_call, is_fit_class, constructor_of}
 use Rattle.class_program.specs.Ops.{special_start, special_sought, method_sought, is_fit_static, method_fit, found_fit}
-use Rattle.class_program.specs.Ops.{method_called, named_parts, call_of}
+use Rattle.class_program.specs.Ops.{method_called, named_parts, call_of, monitor_ref, object_call}
 use Rattle.class_program.specs.Methods.{with_receiver}
 use Rattle.class_program.specs.Runs.{with_body, runs}
 use Rattle.class_program.specs.Reached.{same_method, has_method, numbered}
@@ -44,6 +46,7 @@ use Rattle.class_program.proofs.Got.{got_wanted, got_required, got_both, all_at}
 use Rattle.class_program.proofs.GoodTypes.{named_type, numbered_class, named_signature, one_signature}
 use Rattle.class_program.proofs.Closed.{found_at, position_there, selectable_there, op_answered}
 use Rattle.class_program.proofs.Room.{same_is}
+use Rattle.class_program.proofs.GoingThrough.{at_within}
 use Rattle.class_world.proofs.Found.{further_below, method_below, selected_below, declared_named, itself, super_below}
 
 -- ---- what a call names
@@ -284,6 +287,68 @@ called world linked current form m call e =
     let same : ◌≡◌ {A = Call}
     (record { class = class.0; method = ref.0; params = named.0.1.params; result = named.0.1.result; target = None }) call = cc in
     subst (IsNamedCall world current form) same (call_named world linked current form m class.0 named.0.1 ref.0 numbered_is.1 both.1 ref.1)
+
+-- ---- the call of monitors' instructions
+
+root_no_interface : (world : World) → is_linked world ≡ true → is_interface_class world 0 ≡ false
+unfolding is_linked is_interface_class
+root_no_interface world linked = go (slice_get world 0) (and_parts _ (is_rooted world) linked).1
+  where
+    go : (o : Option ClassContent)
+        → option_map_or (λ c. not (is_interface c.flags) && eqb (length c.interfaces) 0) o false ≡ true
+        → option_map_or (λ c. is_interface c.flags) o false ≡ false
+    go None e = refl
+    go (Some c) e = not-true (is_interface c.flags) (and_parts (not (is_interface c.flags)) (eqb (length c.interfaces) 0) e).0
+
+takes_nothing : (world : World) → signature_of world (codes "()V") ≡ Ok (record { params = []; result = None })
+unfolding signature_of all_there all_supported method_type types_at returned_at
+takes_nothing world = refl
+
+-- a method of Object of that name, which takes nothing and gives nothing
+object_named : (world : World) → is_linked world ≡ true → (current i : ℕ) (method : MethodContent)
+    → method_at world (record { class = 0; index = i }) ≡ Some method → method_fit world calls.Special 0 method ≡ Ok tt
+    → method.desc ≡ codes "()V" → IsNamedCall world current calls.Special (object_call (record { class = 0; index = i }))
+unfolding is_fit_class
+object_named world linked current i method at fit desc = record {
+  good = record {
+    class = at_within world (record { class = 0; index = i }) method at;
+    method = method;
+    there = at;
+    params = tt;
+    result = tt;
+  };
+  none = refl;
+  means = ap (signature_of world) desc ∙ takes_nothing world;
+  fit = fit;
+  above = inl (itself world linked 0 0 refl);
+  class_fits = ap not (root_no_interface world linked);
+  own = λ _. refl;
+}
+
+pub monitor_named : (world : World) → is_linked world ≡ true → (current : ℕ) (ref : MethodRef)
+    → found_fit world calls.Special (monitor_ref world) ≡ Ok ref → IsNamedCall world current calls.Special (object_call ref)
+unfolding found_fit monitor_ref
+monitor_named world linked current ref e = go (declared_method world 0 monitor_name (codes "()V")) refl e
+  where
+    by : (i : ℕ) → declared_method world 0 monitor_name (codes "()V") ≡ Some i
+        → found_fit world calls.Special (Some (record { class = 0; index = i })) ≡ Ok ref
+        → IsNamedCall world current calls.Special (object_call ref)
+    by i q f =
+        let r : MethodRef = record { class = 0; index = i } in
+        let method = bind_ok (wanted (method_at world r)) _ ref f in
+        let fit = bind_ok (method_fit world calls.Special 0 method.0) _ ref method.2 in
+        let same : r ≡ ref = cc in
+        let at = got_wanted (method_at world r) method.0 method.1 in
+        let there = declared_named world 0 monitor_name (codes "()V") i q in
+        let content : there.0 ≡ method.0 = same_method_at there.0 method.0 (method_at world r) there.1 at in
+        subst (λ (x : MethodRef). IsNamedCall world current calls.Special (object_call x)) same
+        (object_named world linked current i method.0 at fit.1 (sym (ap (λ (m : MethodContent). m.desc) content) ∙ there.3))
+
+    go : (o : Option ℕ) → declared_method world 0 monitor_name (codes "()V") ≡ o
+        → found_fit world calls.Special (option_map (λ i. record { class = 0; index = i }) o) ≡ Ok ref
+        → IsNamedCall world current calls.Special (object_call ref)
+    go None q f = cc
+    go (Some i) q f = by i q f
 
 -- ---- the methods of a program by their numbers
 

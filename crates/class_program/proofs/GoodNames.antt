@@ -20,7 +20,8 @@ use Rattle.class_program.specs.declared.op.Op.TheVariants.{New, Anewarray}
 use Rattle.class_program.specs.declared.op.FieldUse.{FieldUse}
 use Rattle.class_program.specs.Operands.{Member}
 use Rattle.class_program.specs.Refusals.{◌>>=◌, wanted, required}
-use Rattle.class_program.specs.Ops.{type_named, class_number, new_of, anewarray_of, field_use, field_found, field_of, unhidden, new_made}
+use Rattle.class_program.specs.Ops.{type_named, class_number, new_of, anewarray_of, has_field_descriptor, field_use, field_found}
+use Rattle.class_program.specs.Ops.{field_of, unhidden, new_made}
 use Rattle.class_program.specs.JvmDiffers.{new_differs}
 use Rattle.class_program.specs.Good.{IsGoodField, IsGoodNew}
 use Rattle.class_program.proofs.Got.{got_wanted, got_required, got_asked}
@@ -75,7 +76,8 @@ unfolding field_of
 field_good world known m used slots e =
     let t = bind_ok (type_named world m.class) _ used e in
     let class = bind_ok (class_number t.0) _ used t.2 in
-    let found = bind_ok (wanted (resolve_field world class.0 m.name m.desc)) _ used class.2 in
+    let spelled = bind_ok (has_field_descriptor m) _ used class.2 in
+    let found = bind_ok (wanted (resolve_field world class.0 m.name m.desc)) _ used spelled.2 in
     let named = numbered_class (length world) t.0 class.0 (named_type world m.class t.0 t.1) class.1 in
     found_good world known class.0 m.name m.desc found.0 used named.1 slots
     (got_wanted (resolve_field world class.0 m.name m.desc) found.0 found.1)

@@ -1,5 +1,6 @@
 -- Every instruction of a method of a closed program is good.
-use Rattle.std.proofs.Common.{◌≡◌, ℕ, zero, suc, ◌<◌, true, false, List, [], ◌∷◌, length, get_or, Option, Some, None, Ok, refl, sym, subst}
+use Rattle.std.proofs.Common.{◌≡◌, ℕ, zero, suc, ◌<◌, true, false, List, [], ◌∷◌, length, get_or, Option, Some, None, Ok, refl, sym}
+use Rattle.std.proofs.Common.{subst, inl, inr}
 use Rattle.std.specs.Prelude.{slice_get, is_none, IfSome}
 use Rattle.std.specs.List.{list_all, AllByRecursion}
 use Rattle.std.specs.Option.{is_some}
@@ -33,17 +34,18 @@ use Rattle.class_program.specs.declared.op.FieldUse.{FieldUse}
 use Rattle.class_program.specs.declared.op.StaticUse.{StaticUse}
 use Rattle.class_program.specs.declared.program.Method.{Method}
 use Rattle.class_program.specs.Operands.{operand_of}
-use Rattle.class_program.specs.Ops.{class_op, class_number, new_of, field_op, static_op, call_op}
+use Rattle.class_program.specs.Ops.{class_op, class_number, new_of, field_op, static_op, call_op, object_call}
 use Rattle.class_program.specs.Runs.{runs}
 use Rattle.class_program.specs.Statics.{has_field, field_named, fields_named, statics_of}
-use Rattle.class_program.proofs.GoodStatics.{IsDeclaredField, field_declared, static_found}
+use Rattle.class_program.proofs.GoodStatics.{IsDeclaredField, field_declared, loaded_declared, static_found}
 use Rattle.class_program.specs.Reached.{has_method, op_numbered}
 use Rattle.class_program.specs.Programs.{Program, refs_of}
 use Rattle.jvm_values.specs.Kinds.{kind_of_code}
 use Rattle.class_program.specs.Good.{is_place, IsGoodPlain, IsGoodName, IsGoodOp}
 use Rattle.class_program.proofs.GoodShapes.{Shape}
 use Rattle.class_program.proofs.GoodNames.{field_good, new_good, anewarray_good}
-use Rattle.class_program.proofs.GoodCalls.{IsTyped, IsNamedCall, called, static_good, special_good, virtual_good, interface_good}
+use Rattle.class_program.proofs.GoodCalls.{IsTyped, IsNamedCall, called, monitor_named, static_good, special_good, virtual_good}
+use Rattle.class_program.proofs.GoodCalls.{interface_good}
 
 -- ---- instructions that name nothing
 
@@ -119,7 +121,10 @@ module _ (p : Program) (known : IsWorld p.world) (bodies : list_all (has_body p.
   op_good insn operands.Nothing op e s h t = subst Good (sym s) (record { named = plain_good insn operands.Nothing e tt; leads = t })
   op_good insn (operands.Numbers code) op e s h t = subst Good (sym s.0)
       (record { named = plain_good insn (operands.Numbers code) e (array_kind code s.1); leads = t })
-  op_good insn (operands.Constant entry) op e s h t = subst Good (sym s.1) (record { named = tt; leads = tt })
+  op_good insn (operands.Constant entry) op e s h t = elim s [
+    | inl c ↦ subst Good (sym c.1) (record { named = tt; leads = tt })
+    | inr c ↦ subst Good (sym c.2) (static_ops statics.Getstatic c.0 (loaded_declared p.world c.0 c.1) (subst Inside c.2 h))
+  ]
   op_good insn (operands.Static form entry) op e s h t = subst Good (sym s.3)
       (static_ops form s.1 (field_declared p.world s.0 s.1 s.2) (subst Inside s.3 h))
   op_good insn (operands.Field form entry) op e s h t = subst Good (sym s.3)
@@ -127,3 +132,6 @@ module _ (p : Program) (known : IsWorld p.world) (bodies : list_all (has_body p.
   op_good insn (operands.Class form entry) op e s h t = class_ops form s.0 op s.1 s.2
   op_good insn (operands.Call form entry) op e s h t =
       subst Good (sym s.3) (call_ops form s.1 (called p.world known.linked m.class form s.0 s.1 s.2) (subst Inside s.3 h))
+  op_good insn operands.Monitor op e s h t =
+      subst Good (sym s.2) (call_ops calls.Special (object_call s.0) (monitor_named p.world known.linked m.class s.0 s.1)
+            (subst Inside s.2 h))

@@ -12,9 +12,10 @@ use Rattle.class_world.specs.class_read.Content.{CodeContent}
 use Rattle.class_world.specs.class_read.Rules.{name_of}
 use Rattle.class_world.specs.code_forms.declared.fault.CodeFault.{CodeFault}
 use Rattle.class_world.specs.code_forms.declared.insn.Insn.{Insn}
+use Rattle.class_world.specs.code_forms.declared.opcodes.Opcodes.{Opcodes}
 use Rattle.class_world.specs.code_forms.Marks.{starts, stands}
-use Rattle.code_decode.specs.Codes.{targets, first_stray, insns_from, decode_of}
-use Rattle.code_decode.specs.Reading.{◌>>=◌, insn_at}
+use Rattle.code_decode.specs.Codes.{targets, first_stray, read_at, insns_from, decode_of}
+use Rattle.code_decode.specs.Reading.{◌>>=◌}
 use Rattle.class_world.specs.code_forms.Tables.{may_end, bad_boundary, earlier, first_bad_boundary, boundary_fault}
 use Rattle.class_world.specs.declared.fault.MethodName.{MethodName}
 use Rattle.class_world.specs.declared.fault.LinkFault.TheVariants.{MissingClass}
@@ -88,27 +89,28 @@ none_strays p (x ∷ xs) e = go (none_strays p xs) (list_all p (targets x.1)) re
     go rest false q f = cc
 
 -- the targets of a code's instructions are places of it
-pub targets_stand : (code : List ℕ) (xs : List (ℕ × Insn)) → decode_of code ≡ Ok xs
+pub targets_stand : (opcodes : Opcodes) (code : List ℕ) (xs : List (ℕ × Insn)) → decode_of opcodes code ≡ Ok xs
     → AllByRecursion (λ x. AllByRecursion (λ t. stands (starts xs) t ≡ true) (targets x.1)) xs
-targets_stand code xs e = none_strays (stands (starts xs)) xs (decoded code xs e).1
+targets_stand opcodes code xs e = none_strays (stands (starts xs)) xs (decoded opcodes code xs e).1
 
 -- ---- exception tables
 
-below_end : (passed pc : ℕ) (bytes : List ℕ) (xs : List (ℕ × Insn)) → insns_from passed pc bytes ≡ Ok xs
+below_end : (opcodes : Opcodes) (passed pc : ℕ) (bytes : List ℕ) (xs : List (ℕ × Insn)) → insns_from opcodes passed pc bytes ≡ Ok xs
     → AllByRecursion (λ x. x.0 < pc + length bytes) xs
 unfolding insns_from
-below_end passed pc [] xs e = let same : [] ≡ xs = cc in subst (λ (ys : List (ℕ × Insn)). AllByRecursion (λ y. y.0 < pc + 0) ys) same tt
-below_end zero pc (op ∷ bytes) xs e = go (insn_at pc op bytes) e
-    (λ passed ys q. all_weaker _ _ (further pc (length bytes)) ys (below_end passed (pc + 1) bytes ys q))
+below_end opcodes passed pc [] xs e = let same : [] ≡ xs = cc in subst
+    (λ (ys : List (ℕ × Insn)). AllByRecursion (λ y. y.0 < pc + 0) ys) same tt
+below_end opcodes zero pc (op ∷ bytes) xs e = go (read_at opcodes pc op bytes) e
+    (λ passed ys q. all_weaker _ _ (further pc (length bytes)) ys (below_end opcodes passed (pc + 1) bytes ys q))
   where
     further : (a n : ℕ) (y : ℕ × Insn) → y.0 < (a + 1) + n → y.0 < a + suc n
     further a n y l = omega (arith, l)
 
     Rest : Type 0
-    Rest = (passed : ℕ) (ys : List (ℕ × Insn)) → insns_from passed (pc + 1) bytes ≡ Ok ys
+    Rest = (passed : ℕ) (ys : List (ℕ × Insn)) → insns_from opcodes passed (pc + 1) bytes ≡ Ok ys
         → AllByRecursion (λ y. y.0 < pc + suc (length bytes)) ys
 
-    behind : (insn : Insn) (passed : ℕ) (s : Result (List (ℕ × Insn)) CodeFault) → insns_from passed (pc + 1) bytes ≡ s
+    behind : (insn : Insn) (passed : ℕ) (s : Result (List (ℕ × Insn)) CodeFault) → insns_from opcodes passed (pc + 1) bytes ≡ s
         → (s >>= λ rest. Ok ((pc, insn) ∷ rest)) ≡ Ok xs → Rest → AllByRecursion (λ y. y.0 < pc + suc (length bytes)) xs
     behind insn passed (Err fault) q f rest = cc
     behind insn passed (Ok ys) q f rest =
@@ -116,17 +118,19 @@ below_end zero pc (op ∷ bytes) xs e = go (insn_at pc op bytes) e
         subst (λ (zs : List (ℕ × Insn)). AllByRecursion (λ y. y.0 < pc + suc (length bytes)) zs) same (omega arith, rest passed ys q)
 
     go : (r : Result (Insn × List ℕ) CodeFault)
-        → (r >>= λ x. insns_from (length bytes - length x.1) (pc + 1) bytes >>= λ rest. Ok ((pc, x.0) ∷ rest)) ≡ Ok xs → Rest
+        → (r >>= λ x. insns_from opcodes (length bytes - length x.1) (pc + 1) bytes >>= λ rest. Ok ((pc, x.0) ∷ rest)) ≡ Ok xs → Rest
         → AllByRecursion (λ y. y.0 < pc + suc (length bytes)) xs
     go (Err fault) f rest = cc
-    go (Ok x) f rest = behind x.0 (length bytes - length x.1) (insns_from (length bytes - length x.1) (pc + 1) bytes) refl f rest
-below_end (suc passed) pc (b ∷ bytes) xs e = all_weaker _ _ (further pc (length bytes)) xs (below_end passed (pc + 1) bytes xs e)
+    go (Ok x) f rest = behind x.0 (length bytes - length x.1) (insns_from opcodes (length bytes - length x.1) (pc + 1) bytes) refl f rest
+below_end opcodes (suc passed) pc (b ∷ bytes) xs e = all_weaker _ _ (further pc (length bytes)) xs
+    (below_end opcodes passed (pc + 1) bytes xs e)
   where
     further : (a n : ℕ) (y : ℕ × Insn) → y.0 < (a + 1) + n → y.0 < a + suc n
     further a n y l = omega (arith, l)
 
-pub code_below : (code : List ℕ) (xs : List (ℕ × Insn)) → decode_of code ≡ Ok xs → AllByRecursion (λ x. x.0 < length code) xs
-code_below code xs e = all_weaker _ _ (λ y l. omega (arith, l)) xs (below_end 0 0 code xs (decoded code xs e).0)
+pub code_below : (opcodes : Opcodes) (code : List ℕ) (xs : List (ℕ × Insn)) → decode_of opcodes code ≡ Ok xs
+    → AllByRecursion (λ x. x.0 < length code) xs
+code_below opcodes code xs e = all_weaker _ _ (λ y l. omega (arith, l)) xs (below_end opcodes 0 0 code xs (decoded opcodes code xs e).0)
 
 -- an entry whose boundaries are good
 pub record IsBounded (begins : ℕ → Bool) (len : ℕ) (h : Handler) : Type 0 where

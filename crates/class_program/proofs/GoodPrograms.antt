@@ -30,7 +30,8 @@ use Rattle.class_program.specs.Operands.{operand_of}
 use Rattle.class_program.specs.Said.{each}
 use Rattle.class_program.specs.Signatures.{declared_signature}
 use Rattle.class_program.specs.Ops.{op_of, pool_of}
-use Rattle.class_program.specs.Methods.{method_name, code_of, own_types, insns_of, op_said, ops_of, catch_of, range_of, table_of}
+use Rattle.class_program.specs.Methods.{opcodes_of, method_name, code_of, own_types, insns_of, op_said, ops_of, catch_of, range_of}
+use Rattle.class_program.specs.Methods.{table_of}
 use Rattle.class_program.specs.Methods.{with_receiver, method_of}
 use Rattle.class_program.specs.Runs.{runs}
 use Rattle.class_world.specs.declared.fault.LinkFault.TheVariants.{Native}
@@ -136,7 +137,8 @@ record IsSaid (world : World) (class : ℕ) (all : List (ℕ × Insn)) (op : Op)
   pub leads : AllByRecursion (λ t. stands (starts all) t ≡ true) (targets insn)
 
 ops_said : (world : World) (class : ℕ) (name : MethodName) (code : CodeContent) (xs : List (ℕ × Insn)) (ys : List (ℕ × Op))
-    → insns_of name code ≡ Ok xs → ops_of world class name xs ≡ Ok ys → AllByRecursion (λ y. IsSaid world class xs y.1) ys
+    → insns_of (opcodes_of world) name code ≡ Ok xs → ops_of world class name xs ≡ Ok ys
+        → AllByRecursion (λ y. IsSaid world class xs y.1) ys
 unfolding ops_of op_said
 ops_said world class name code xs ys i o =
     each_good (λ x. AllByRecursion (λ t. stands (starts xs) t ≡ true) (targets x.1)) (λ y. IsSaid world class xs y.1)
@@ -150,7 +152,7 @@ ops_said world class name code xs ys i o =
           (op_shape world class name x.0 x.1 op.0 op.1);
       leads = t;
     })
-    (targets_stand code.code xs (insns_read name code xs i).0) o
+    (targets_stand (opcodes_of world) code.code xs (insns_read (opcodes_of world) name code xs i).0) o
 
 -- an entry of a table whose boundaries are good
 good_range : (world : World) (pool : List PoolEntry) (m : Method) (code : CodeContent) (xs : List (ℕ × Insn))
@@ -293,7 +295,7 @@ good_method p known bodies typed kept ref content r at made body run =
     let within = at_within p.world ref content at in
     let class : ref.class ≡ m.class = ap (λ (x : Method). x.class) made.whole in
     let ops : made.ops ≡ r.insns = ap (λ (x : Method). x.insns) made.whole in
-    let read = insns_read name made.code made.insns made.insns_are in
+    let read = insns_read (opcodes_of p.world) name made.code made.insns made.insns_are in
     let same : places m.insns ≡ places made.insns = numbered_places refs p.statics r.insns
     ∙ sym (ap (λ (xs : List (ℕ × Op)). places xs) ops) ∙ ops_places p.world ref.class name made.insns made.ops made.ops_are in
     let signature = (own_signature p.world content.desc made.types
@@ -322,12 +324,12 @@ good_method p known bodies typed kept ref content r at made body run =
           (slots_with p.world ref.class content.flags made.types.params within signature.params);
       result = subst (λ (o : Option Slot). IfSome o (IsSlot (length p.world))) result signature.result;
       placed = numbered_placed refs p.statics r.insns ∙ sym (ap (λ (xs : List (ℕ × Op)). is_placed xs) ops)
-          ∙ ops_placed p.world ref.class name made.code made.insns made.ops made.insns_are made.ops_are;
+          ∙ ops_placed (opcodes_of p.world) p.world ref.class name made.code made.insns made.ops made.insns_are made.ops_are;
       insns = good_insns p m made.insns r.insns known bodies typed kept same
           (subst (λ (xs : List (ℕ × Op)). AllByRecursion (λ y. IsSaid p.world m.class made.insns y.1) xs) ops said) run;
       table = subst (λ (xs : List CatchRange). AllByRecursion (IsGoodRange p.world m) xs) table
           (good_table p.world (pool_of p.world ref.class) m made.code made.insns made.table same
-          (below_by (length made.code.code) made.insns m.insns same (code_below made.code.code made.insns read.0))
+          (below_by (length made.code.code) made.insns m.insns same (code_below (opcodes_of p.world) made.code.code made.insns read.0))
           (table_bounded made.code made.insns read.1) made.table_is);
     }
 

@@ -1,7 +1,7 @@
 -- The static fields that instructions name are those of the program.
 use Rattle.std.proofs.Common.{◌≡◌, ◌++◌, ◌||◌, ◌&&◌, ℕ, zero, suc, ◌+◌, ◌<◌, Bool, true, false, not, cond, eqb, List, [], ◌∷◌}
 use Rattle.std.proofs.Common.{length, get_or, Option, Some, None, Ok, Err, refl, ap, sym, ◌∙◌, subst, arith, zero-add, one-add}
-use Rattle.std.specs.Prelude.{slice_get, option_and_then, position, is_none, IfSome}
+use Rattle.std.specs.Prelude.{◌-◌, slice_get, option_and_then, position, is_none, IfSome}
 use Rattle.std.specs.List.{list_any, filter_map, flat_map, cons_option, range_with_len, position_or_len, AllByRecursion}
 use Rattle.std.specs.Option.{option_map, option_map_or}
 use Rattle.std.specs.Str.{bytes_eq}
@@ -28,7 +28,9 @@ use Rattle.class_program.specs.declared.program.Method.{Method}
 use Rattle.class_program.specs.declared.program.StaticField.{StaticField}
 use Rattle.class_program.specs.Operands.{Member}
 use Rattle.class_program.specs.Refusals.{◌>>=◌, wanted, required}
-use Rattle.class_program.specs.Ops.{type_named, class_number, static_kind, static_found as static_sought, static_of, unhidden}
+use Rattle.class_program.specs.Ops.{type_named, class_number, has_field_descriptor, static_kind, static_found as static_sought}
+use Rattle.class_program.specs.Ops.{static_of, unhidden}
+use Rattle.class_program.specs.Ops.{string_field, constant_desc}
 use Rattle.class_program.specs.Statics.{field_count, same_field, has_field, field_named, fields_in, fields_named, static_ref}
 use Rattle.class_program.specs.Statics.{static_field, static_at, statics_in, statics_of, is_field, placed_use}
 use Rattle.class_program.specs.Programs.{Program}
@@ -80,7 +82,7 @@ pub record IsDeclaredField (world : World) (field : FieldRef) : Type 0 where
   pub found_is : option_and_then (static_field world field) (field_at world field.class field.index) ≡ Some found
 
 -- a field that a class declares by name is there, with that descriptor
-record IsFieldAt (world : World) (class i : ℕ) (desc : List ℕ) : Type 0 where
+pub record IsFieldAt (world : World) (class i : ℕ) (desc : List ℕ) : Type 0 where
   pub within : class < length world
   pub inside : i < field_count world class
   pub content : FieldContent
@@ -123,7 +125,7 @@ found_there world class name desc i e = go (declared_field world class name desc
     go None p f = cc
     go (Some k) p f = by (is_interface_class world class && is_static_field world class k) k p f
 
-resolved_there : (world : World) (class : ℕ) (name desc : List ℕ) (found : ℕ × ℕ) → resolve_field world class name desc ≡ Some found
+pub resolved_there : (world : World) (class : ℕ) (name desc : List ℕ) (found : ℕ × ℕ) → resolve_field world class name desc ≡ Some found
     → IsFieldAt world found.0 found.1 desc
 unfolding resolve_field
 resolved_there world class name desc found e =
@@ -175,10 +177,33 @@ unfolding static_of
 field_declared world m used e =
     let t = bind_ok (type_named world m.class) _ used e in
     let class = bind_ok (class_number t.0) _ used t.2 in
-    let found = bind_ok (wanted (resolve_field world class.0 m.name m.desc)) _ used class.2 in
+    let spelled = bind_ok (has_field_descriptor m) _ used class.2 in
+    let found = bind_ok (wanted (resolve_field world class.0 m.name m.desc)) _ used spelled.2 in
     sought_declared world m.desc found.0 used
     (resolved_there world class.0 m.name m.desc found.0 (got_wanted (resolve_field world class.0 m.name m.desc) found.0 found.1))
     (got_asked (static_sought world m.desc found.0) (λ _. unhidden world class.0 m found.0) used found.2)
+
+-- a static field that a string constant is
+pub record IsLoaded (world : World) (used : StaticUse) : Type 0 where
+  pub text : List ℕ
+  pub found : ℕ × ℕ
+  pub found_is : string_field world text ≡ Some found
+  pub kind : static_kind world constant_desc found ≡ Ok used
+
+pub loaded_declared : (world : World) (used : StaticUse) → IsLoaded world used → IsDeclaredField world used.field
+unfolding string_field
+loaded_declared world used h = go (declared_field world last h.text constant_desc) refl h.found_is
+  where
+    last : ℕ
+    last = length world - 1
+
+    go : (o : Option ℕ) → declared_field world last h.text constant_desc ≡ o → option_map (λ i. (last, i)) o ≡ Some h.found
+        → IsDeclaredField world used.field
+    go None q f = cc
+    go (Some i) q f =
+        let same : (last, i) ≡ h.found = cc in
+        kind_declared world constant_desc h.found used
+        (subst (λ (x : ℕ × ℕ). IsFieldAt world x.0 x.1 constant_desc) same (declared_there world last h.text constant_desc i q)) h.kind
 
 -- ---- it is one of the static fields of the program
 

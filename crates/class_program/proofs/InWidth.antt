@@ -1,5 +1,5 @@
 -- Where the numbers of a code are of their fields' widths, so are those of its instructions with their names resolved.
-use Rattle.std.proofs.Common.{◌≡◌, ◌∷◌, ◌++◌, ℕ, Bool, true, false, cond, eqb, List, [], Option, Some, None, Ok, refl, sym, subst}
+use Rattle.std.proofs.Common.{◌≡◌, ◌∷◌, ◌++◌, ℕ, Bool, true, false, cond, eqb, List, [], Option, Some, None, Ok, refl, sym, subst, inl, inr}
 use Rattle.std.specs.Prelude.{Result, slice_get, option_and_then, IfSome, FitsSigned}
 use Rattle.std.proofs.lemmas.Bool.{eqb-true}
 use Rattle.std.specs.Int.{w32}
@@ -71,7 +71,7 @@ class_wide world pc n classes.Instanceof t op r e = let same : ops.Instanceof t 
 
 operand_wide : (world : World) (class pc : ℕ) (insn : Insn) (operand : Operand) (op : Op)
     → op_with world class (pool_of world class) insn operand ≡ Ok op → Fits pc insn
-    → ((entry : ℕ) → constant_of (pool_of world class) entry ≡ Ok op → IsInWidth pc op) → IsInWidth pc op
+    → ((entry : ℕ) → constant_of world (pool_of world class) entry ≡ Ok op → IsInWidth pc op) → IsInWidth pc op
 unfolding op_with
 operand_wide world class pc insn operands.Nothing op e fits constant = subst (IsInWidth pc)
     (sym (shape_of world class (pool_of world class) insn operands.Nothing op e)) fits
@@ -90,20 +90,26 @@ operand_wide world class pc insn (operands.Class form entry) op e fits constant 
 operand_wide world class pc insn (operands.Call form entry) op e fits constant =
     let s = shape_of world class (pool_of world class) insn (operands.Call form entry) op e in
     subst (IsInWidth pc) (sym s.3) (call_wide pc form s.1)
+operand_wide world class pc insn operands.Monitor op e fits constant =
+    let s = shape_of world class (pool_of world class) insn operands.Monitor op e in
+    subst (IsInWidth pc) (sym s.2) tt
 
 -- an instruction of a class, where the constant that it names is of 32 bits
 pub op_wide : (world : World) (class : ℕ) (name : MethodName) (pc : ℕ) (insn : Insn) (op : Op)
     → op_of world class name pc insn ≡ Ok op → Fits pc insn
-    → ((entry : ℕ) → constant_of (pool_of world class) entry ≡ Ok op → IsInWidth pc op) → IsInWidth pc op
+    → ((entry : ℕ) → constant_of world (pool_of world class) entry ≡ Ok op → IsInWidth pc op) → IsInWidth pc op
 op_wide world class name pc insn op e fits constant =
     operand_wide world class pc insn (operand_of insn) op (op_resolved world class name pc insn op e) fits constant
 
 constant_wide : (world : World) (class pc : ℕ) (insn : Insn) (op : Op) (entry : ℕ) → IsConstantInWidth op
-    → constant_of (pool_of world class) entry ≡ Ok op → IsInWidth pc op
+    → constant_of world (pool_of world class) entry ≡ Ok op → IsInWidth pc op
 unfolding op_with
 constant_wide world class pc insn op entry h e =
     let s = shape_of world class (pool_of world class) insn (operands.Constant entry) op e in
-    subst (IsInWidth pc) (sym s.1) (subst IsConstantInWidth s.1 h)
+    elim s [
+      | inl c ↦ subst (IsInWidth pc) (sym c.1) (subst IsConstantInWidth c.1 h)
+      | inr c ↦ subst (IsInWidth pc) (sym c.2) tt
+    ]
 
 -- ---- the instructions of a code
 

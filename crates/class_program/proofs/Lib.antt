@@ -29,3 +29,4 @@ pub mod GoodPrograms
 pub mod FewParams
 pub mod GoodInstructions
 pub mod InWidth
+pub mod NamedConstants

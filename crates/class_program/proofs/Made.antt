@@ -9,6 +9,7 @@ use Rattle.class_world.specs.code_forms.declared.insn.Insn.{Insn}
 use Rattle.class_world.specs.declared.fault.MethodName.{MethodName}
 use Rattle.class_world.specs.declared.world.MethodRef.{MethodRef}
 use Rattle.class_world.specs.World.{World}
+use Rattle.class_world.specs.BuiltIns.{has_monitors}
 use Rattle.class_world.specs.Resolve.{method_at, has_body}
 use Rattle.list_views.proofs.Steps.{bind_ok}
 use Rattle.class_program.specs.declared.op.Op.{Op}
@@ -18,7 +19,7 @@ use Rattle.class_program.specs.declared.program.StaticField.{StaticField}
 use Rattle.class_program.specs.declared.signature.Signature.{Signature}
 use Rattle.class_program.specs.Said.{Said, ◌>>=◌, unless, each}
 use Rattle.class_program.specs.Ops.{pool_of}
-use Rattle.class_program.specs.Methods.{method_name, static_init, code_of, synchronized, own_types, insns_of, ops_of, table_of}
+use Rattle.class_program.specs.Methods.{method_name, static_init, code_of, synchronized, own_types, opcodes_of, insns_of, ops_of, table_of}
 use Rattle.class_program.specs.Methods.{made_of, coded_of, named_of, method_of}
 use Rattle.class_program.specs.Statics.{statics_named}
 use Rattle.class_program.specs.Reached.{reached, contents_of, methods_of, method_numbered, close_of}
@@ -36,7 +37,7 @@ pub record IsMade (world : World) (ref : MethodRef) (m : MethodContent) (r : Met
   pub types : Signature
   pub types_are : own_types world (method_name world ref.class m) m.desc ≡ Ok types
   pub insns : List (ℕ × Insn)
-  pub insns_are : insns_of (method_name world ref.class m) code ≡ Ok insns
+  pub insns_are : insns_of (opcodes_of world) (method_name world ref.class m) code ≡ Ok insns
   pub ops : List (ℕ × Op)
   pub ops_are : ops_of world ref.class (method_name world ref.class m) insns ≡ Ok ops
   pub table : List CatchRange
@@ -51,15 +52,15 @@ unfolding method_of named_of coded_of
 method_made world ref m r e =
     let name : MethodName = method_name world ref.class m in
     let code = bind_ok (code_of name m) _ r (unless_ok (static_init world ref.class) _ r e) in
-    let types = bind_ok (unless (synchronized name m) (own_types world name m.desc)) _ r code.2 in
-    let insns = bind_ok (insns_of name code.0) _ r types.2 in
+    let types = bind_ok (unless (synchronized (has_monitors world) name m) (own_types world name m.desc)) _ r code.2 in
+    let insns = bind_ok (insns_of (opcodes_of world) name code.0) _ r types.2 in
     let ops = bind_ok (ops_of world ref.class name insns.0) _ r insns.2 in
     let table = bind_ok (table_of world (pool_of world ref.class) code.0.table) _ r ops.2 in
     record {
       code = code.0;
       code_is = code.1;
       types = types.0;
-      types_are = unless_ok (synchronized name m) (own_types world name m.desc) types.0 types.1;
+      types_are = unless_ok (synchronized (has_monitors world) name m) (own_types world name m.desc) types.0 types.1;
       insns = insns.0;
       insns_are = insns.1;
       ops = ops.0;

@@ -1,9 +1,10 @@
 -- The instructions of a method stand at rising places from 0 on.
-use Rattle.std.proofs.Common.{◌≡◌, ◌&&◌, ℕ, ◌+◌, true, eqb, leb, List, [], ◌∷◌, Option, Some, None, Ok, Err, refl, ap, ◌∙◌, subst}
+use Rattle.std.proofs.Common.{◌≡◌, ◌&&◌, ℕ, ◌+◌, Bool, true, eqb, leb, List, [], ◌∷◌, Option, Some, None, Ok, Err, refl, ap, ◌∙◌, subst}
 use Rattle.std.specs.Prelude.{Result}
 use Rattle.std.proofs.lemmas.Bool.{and_from, and_parts}
 use Rattle.class_world.specs.code_forms.declared.fault.CodeFault.{CodeFault}
 use Rattle.class_world.specs.code_forms.declared.insn.Insn.{Insn}
+use Rattle.class_world.specs.code_forms.declared.opcodes.Opcodes.{Opcodes}
 use Rattle.code_decode.specs.Codes.{decode_of}
 use Rattle.class_world.specs.class_read.Content.{CodeContent}
 use Rattle.class_world.specs.declared.fault.LinkFault.{LinkFault}
@@ -60,26 +61,27 @@ ops_first world class name (x ∷ xs) ys e r =
     (subst (λ (v : ℕ × Op). eqb v.0 0 ≡ true) place r)
 
 -- the instructions of a code whose exception table is good
-pub insns_read : (name : MethodName) (code : CodeContent) (xs : List (ℕ × Insn)) → insns_of name code ≡ Ok xs
-    → (decode_of code.code ≡ Ok xs) × (table_said code xs ≡ Ok tt)
+pub insns_read : (opcodes : Opcodes) (name : MethodName) (code : CodeContent) (xs : List (ℕ × Insn)) → insns_of opcodes name code ≡ Ok xs
+    → (decode_of opcodes code.code ≡ Ok xs) × (table_said code xs ≡ Ok tt)
 unfolding insns_of
-insns_read name code xs e =
-    let insns = bind_ok (in_method name (decode_of code.code))
+insns_read opcodes name code xs e =
+    let insns = bind_ok (in_method name (decode_of opcodes code.code))
     (λ insns. in_method name (table_said code insns) >>= λ tested. Ok insns) xs e in
     let tested = bind_ok (in_method name (table_said code insns.0)) (λ tested. Ok insns.0) xs insns.2 in
     let same : insns.0 ≡ xs = cc in
-    subst (λ (ys : List (ℕ × Insn)). (decode_of code.code ≡ Ok ys) × (table_said code ys ≡ Ok tt)) same
-    (read (decode_of code.code) insns.0 insns.1, read (table_said code insns.0) tt tested.1)
+    subst (λ (ys : List (ℕ × Insn)). (decode_of opcodes code.code ≡ Ok ys) × (table_said code ys ≡ Ok tt)) same
+    (read (decode_of opcodes code.code) insns.0 insns.1, read (table_said code insns.0) tt tested.1)
   where
     read : {A : Type 0} (s : Result A CodeFault) (ys : A) → in_method name s ≡ Ok ys → s ≡ Ok ys
     read (Ok zs) ys f = cc
     read (Err fault) ys f = cc
 
 -- with their names resolved they stand at the same places
-pub ops_placed : (world : World) (class : ℕ) (name : MethodName) (code : CodeContent) (xs : List (ℕ × Insn)) (ys : List (ℕ × Op))
-    → insns_of name code ≡ Ok xs → ops_of world class name xs ≡ Ok ys → is_placed ys ≡ true
-ops_placed world class name code xs ys i o =
-    let placed = and_parts (starts_at_zero xs) (rises_from 0 xs) (code_placed code.code xs (insns_read name code xs i).0) in
+pub ops_placed : (opcodes : Opcodes) (world : World) (class : ℕ) (name : MethodName) (code : CodeContent) (xs : List (ℕ × Insn))
+    (ys : List (ℕ × Op))
+    → insns_of opcodes name code ≡ Ok xs → ops_of world class name xs ≡ Ok ys → is_placed ys ≡ true
+ops_placed opcodes world class name code xs ys i o =
+    let placed = and_parts (starts_at_zero xs) (rises_from 0 xs) (code_placed opcodes code.code xs (insns_read opcodes name code xs i).0) in
     and_from (starts_at_zero ys) (rises_from 0 ys) (ops_first world class name xs ys o placed.0)
     (ops_rise world class name 0 xs ys o placed.1)
 

@@ -1,22 +1,24 @@
 -- Where a JVM (SE 8) would do otherwise than the machine here, so that what an instruction names counts as unresolved.
 --
--- Classes of `java.lang` are built in here with their constructors alone, selection asks for no packages, no object is
+-- Classes of `java.lang` are built in here with their public constructors alone, selection asks for no packages, no object is
 -- finalized, and exceptions have no traces. Each definition below says where that could be seen; that of fields is
 -- `is_hidden` of `class_world`. They speak of the classes that are there: what could be seen of an interface that a description
 -- passes over is a premise (docs/MACHINE.md).
-use Rattle.std.specs.Prelude.{ℕ, ◌==◌, ◌&&◌, ◌||◌, not, Bool, false, if◌then◌else◌, List, [], ◌∷◌, slice_get, is_none, codes}
-use Rattle.std.specs.List.{list_any}
+use Rattle.std.specs.Prelude.{ℕ, ◌==◌, ◌&&◌, ◌||◌, not, Bool, false, if◌then◌else◌, List, [], ◌∷◌, length, nat_lt, slice_get}
+use Rattle.std.specs.Prelude.{is_none, is_some, codes}
+use Rattle.std.specs.List.{list_any, range_with_len}
 use Rattle.std.specs.Option.{option_map_or}
 use Rattle.std.specs.Str.{bytes_eq}
 use Rattle.class_world.specs.class_read.Content.{MethodContent}
-use Rattle.class_world.specs.World.{World, line_of, has_flag}
+use Rattle.class_world.specs.declared.world.MethodRef.{MethodRef}
+use Rattle.class_world.specs.World.{World, with_cause, line_of, has_flag}
 use Rattle.class_world.specs.Types.{is_class_below}
-use Rattle.class_world.specs.BuiltIns.{throwable}
+use Rattle.class_world.specs.BuiltIns.{throwable, built_in_count}
 use Rattle.class_world.specs.Members.{declared_method}
 use Rattle.class_world.specs.Resolve.{method_ref, method_at}
 use Rattle.class_world.specs.Select.{is_selectable, select, receivers}
 use Rattle.class_program.specs.declared.op.Op.{Op}
-use Rattle.class_program.specs.declared.op.Op.TheVariants.{Invokevirtual, Invokeinterface}
+use Rattle.class_program.specs.declared.op.Op.TheVariants.{Invokevirtual, Invokespecial, Invokeinterface}
 
 -- ---- methods of Object and of Throwable
 
@@ -106,6 +108,28 @@ unfoldable pub leaves_package : World → ℕ → ℕ → MethodContent → Bool
 leaves_package world named declaring m =
     is_package_private m && list_any (selects_outside world (package_at world declaring) m.name m.desc) (receivers world named)
 
+-- ---- causes (java.lang.Throwable, Java SE 8)
+
+-- a method is a built-in class's constructor that takes a cause and nothing else
+abbrev pub takes_cause : ℕ → MethodContent → Bool
+takes_cause class m = nat_lt class built_in_count && bytes_eq m.name (codes "<init>") && bytes_eq m.desc with_cause.0
+
+-- A class declares a method that says what an object of it is: `toString`, or one of those that Throwable's own `toString` calls.
+abbrev pub has_own_text : World → ℕ → Bool
+has_own_text world class =
+    is_some (declared_method world class (codes "toString") (codes "()Ljava/lang/String;"))
+    || is_some (declared_method world class (codes "getLocalizedMessage") (codes "()Ljava/lang/String;"))
+    || is_some (declared_method world class (codes "getMessage") (codes "()Ljava/lang/String;"))
+
+-- some class of the world below Throwable declares such a method
+unfoldable pub some_own_text : World → Bool
+some_own_text world = list_any (λ class. is_class_below world class throwable && has_own_text world class) (range_with_len 0 (length world))
+
+-- The constructor of Throwable with a cause alone asks the cause for its text, by `toString`: where a class below Throwable has a method of
+-- its own that is run then, this is a call that the machine doesn't make.
+unfoldable pub asks_cause : World → MethodRef → Bool
+asks_cause world ref = option_map_or (takes_cause ref.class) (method_at world ref) false && some_own_text world
+
 -- ---- calls
 
 -- `invokevirtual` of the named class, whose resolved method is `m` of class `declaring`, could run another method than in a JVM: a
@@ -113,11 +137,12 @@ leaves_package world named declaring m =
 abbrev pub virtual_differs : World → ℕ → ℕ → MethodContent → Bool
 virtual_differs world named declaring m = loses_method world named m || leaves_package world named declaring m
 
--- A call on some receiver could run another method than in a JVM.
+-- A call on some receiver could run another method than in a JVM, or a method that a JVM runs in it isn't run.
 unfoldable pub call_differs : World → Op → Bool
 call_differs world (Invokevirtual call) = option_map_or (virtual_differs world call.class call.method.class)
     (method_at world call.method) false
 call_differs world (Invokeinterface call) = option_map_or (loses_method world call.class) (method_at world call.method) false
+call_differs world (Invokespecial call) = asks_cause world call.method
 call_differs world _ = false
 
 -- ---- what a JVM calls on its own
@@ -127,8 +152,7 @@ call_differs world _ = false
 abbrev pub has_code : List ℕ → MethodContent → Bool
 has_code bytes m = option_map_or (λ code. bytes_eq code.code bytes) m.code false
 
--- A class declares a method of that name and descriptor, and not with that code. Built-in classes declare constructors
--- alone.
+-- A class declares a method of that name and descriptor, and not with that code. Built-in classes declare none that is asked for below.
 unfoldable pub declares_other : World → List ℕ → List ℕ → List ℕ → ℕ → Bool
 declares_other world name desc bytes class =
     option_map_or (λ i. not (option_map_or (has_code bytes) (method_at world (method_ref (class, i))) false))

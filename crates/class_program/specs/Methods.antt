@@ -1,14 +1,17 @@
 -- One method of a program: what it is once its names are resolved, or the first rule that it breaks.
 --
 -- JVM specification: section 4.7.3 (codes and exception tables), section 5.4.3 (what names stand for), section 5.5 (which
--- classes a call initialises). Static initialisers, native and synchronized methods are not supported.
-use Rattle.std.specs.Prelude.{ℕ, ◌==◌, if◌then◌else◌, List, [], ◌∷◌, length, slice_get, Option, Some, None, option_map, Result, Ok, Err}
+-- classes a call initialises). Static initialisers and native methods are not supported, nor are synchronized ones in worlds without
+-- monitors.
+use Rattle.std.specs.Prelude.{ℕ, ◌==◌, ◌&&◌, not, Bool, if◌then◌else◌, List, [], ◌∷◌, length, slice_get, Option, Some, None, option_map}
+use Rattle.std.specs.Prelude.{Result, Ok, Err}
 use Rattle.std.specs.Option.{option_map_or}
 use Rattle.class_world.specs.class_pool.declared.entry.PoolEntry.{PoolEntry}
 use Rattle.class_world.specs.class_read.Content.{MethodContent, CodeContent, Handler}
 use Rattle.class_world.specs.class_read.Rules.{name_of}
 use Rattle.class_world.specs.code_forms.declared.fault.CodeFault.{CodeFault}
 use Rattle.class_world.specs.code_forms.declared.insn.Insn.{Insn}
+use Rattle.class_world.specs.code_forms.declared.opcodes.Opcodes.{Opcodes}
 use Rattle.class_world.specs.code_forms.Marks.{starts, stands}
 use Rattle.code_decode.specs.Codes.{decode_of}
 use Rattle.class_world.specs.code_forms.Tables.{first_bad_boundary, boundary_fault}
@@ -21,6 +24,7 @@ use Rattle.class_program.specs.declared.program.CatchRange.{CatchRange}
 use Rattle.class_program.specs.declared.program.Method.{Method}
 use Rattle.class_world.specs.declared.world.MethodRef.{MethodRef}
 use Rattle.class_world.specs.World.{World, class_of, is_static, is_native, is_synchronized}
+use Rattle.class_world.specs.BuiltIns.{has_monitors}
 use Rattle.class_world.specs.Descriptors.{class_slot}
 use Rattle.class_program.specs.Said.{Said, ◌>>=◌, unless, each}
 use Rattle.class_world.specs.Resolve.{first_static_init}
@@ -51,9 +55,11 @@ static_init world class = option_map StaticInit (first_static_init world class)
 unfoldable pub code_of : MethodName → MethodContent → Said CodeContent
 code_of name m = if is_native m.flags then Err (Native name) else option_map_or Ok m.code (Err (Native name))
 
--- the fault of a method that is synchronized: such methods are not supported (JVM specification, section 2.11.10)
-unfoldable pub synchronized : MethodName → MethodContent → Option LinkFault
-synchronized name m = if is_synchronized m.flags then Some (Synchronized name) else None
+-- The fault of a method that is synchronized, where the world has no monitors: such methods are not supported there. Where it has them, a
+-- JVM enters the monitor of the receiver, which isn't null, or of the class, and leaves it when the method ends. Where there is one thread
+-- and monitors are structured, nothing is seen of that (JVM specification, section 2.11.10).
+unfoldable pub synchronized : Bool → MethodName → MethodContent → Option LinkFault
+synchronized monitors name m = if not monitors && is_synchronized m.flags then Some (Synchronized name) else None
 
 -- what the descriptor of a method means that a class declares, or the fault that it has (JVM specification, section 4.3.3)
 unfoldable pub own_types : World → MethodName → List ℕ → Said Signature
@@ -68,10 +74,14 @@ in_method name (Err fault) = Err (Code name fault)
 abbrev pub table_said : CodeContent → List (ℕ × Insn) → Result (Unit {0}) CodeFault
 table_said code insns = boundary_fault (first_bad_boundary (stands (starts insns)) (length code.code) code.table)
 
+-- the opcodes that are read in a world: those of monitors where it has these
+abbrev pub opcodes_of : World → Opcodes
+opcodes_of world = record { monitors = has_monitors world }
+
 -- the instructions of a code, or the fault of the code or of its exception table
-unfoldable pub insns_of : MethodName → CodeContent → Said (List (ℕ × Insn))
-insns_of name code = do
-  insns ← in_method name (decode_of code.code)
+unfoldable pub insns_of : Opcodes → MethodName → CodeContent → Said (List (ℕ × Insn))
+insns_of opcodes name code = do
+  insns ← in_method name (decode_of opcodes code.code)
   tested ← in_method name (table_said code insns)
   Ok insns
 
@@ -129,7 +139,7 @@ made_of ref m code types ops table = record {
 -- first fault of these.
 unfoldable pub coded_of : World → MethodRef → MethodName → MethodContent → CodeContent → Signature → Said Method
 coded_of world ref name m code types = do
-  insns ← insns_of name code
+  insns ← insns_of (opcodes_of world) name code
   ops ← ops_of world ref.class name insns
   table ← table_of world (pool_of world ref.class) code.table
   Ok (made_of ref m code types ops table)
@@ -138,7 +148,7 @@ coded_of world ref name m code types = do
 unfoldable pub named_of : World → MethodRef → MethodName → MethodContent → Said Method
 named_of world ref name m = do
   code ← code_of name m
-  types ← unless (synchronized name m) (own_types world name m.desc)
+  types ← unless (synchronized (has_monitors world) name m) (own_types world name m.desc)
   coded_of world ref name m code types
 
 -- what a method of the world is once its names are resolved, or the first fault that it has; its calls still name methods of the world

@@ -3,14 +3,14 @@
 --
 -- An instruction that has several faults has the one that stands first in the order of faults. What is said last of an
 -- instruction below has no fault that stands before one of an earlier part, so the parts can be asked in turn.
-use Rattle.std.specs.Prelude.{ℕ, ◌==◌, ◌&&◌, ◌||◌, not, Bool, true, false, if◌then◌else◌, List, [], slice_get, nat_lt, Option, Some}
-use Rattle.std.specs.Prelude.{None, is_none, codes, Result, Ok, Err}
+use Rattle.std.specs.Prelude.{◌≡◌, ℕ, ◌-◌, ◌==◌, ◌&&◌, ◌||◌, not, Bool, true, false, if◌then◌else◌, List, [], ◌∷◌, ◌++◌, length}
+use Rattle.std.specs.Prelude.{slice_get, nat_lt, Option, Some, None, is_none, is_some, option_and_then, codes, Result, Ok, Err}
 use Rattle.std.specs.List.{list_any}
 use Rattle.std.specs.Option.{option_map, option_map_or}
 use Rattle.std.specs.Str.{bytes_eq}
 use Rattle.class_world.specs.class_pool.declared.entry.PoolEntry.{PoolEntry}
-use Rattle.class_world.specs.class_pool.Text.{class_name_at, integer_at, member_at, tag_at}
-use Rattle.class_world.specs.class_read.Content.{MethodContent}
+use Rattle.class_world.specs.class_pool.Text.{class_name_at, integer_at, string_at, member_at, tag_at}
+use Rattle.class_world.specs.class_read.Content.{FieldContent, MethodContent}
 use Rattle.class_world.specs.class_base.declared.types.FieldType.{FieldType}
 use Rattle.class_world.specs.class_base.ClassNames.{is_class_name}
 use Rattle.class_world.specs.class_base.Types.{field_type}
@@ -43,10 +43,13 @@ use Rattle.class_program.specs.declared.op.Op.TheVariants.{Plain, Constant, Gets
 use Rattle.class_program.specs.declared.op.Op.TheVariants.{Invokespecial, Invokestatic, Invokeinterface, New, Anewarray, Checkcast}
 use Rattle.class_program.specs.declared.op.Op.TheVariants.{Instanceof}
 use Rattle.class_program.specs.declared.op.Call.{Call}
+use Rattle.class_program.specs.declared.op.FieldRef.{FieldRef}
 use Rattle.class_program.specs.declared.op.FieldUse.{FieldUse}
 use Rattle.class_program.specs.declared.op.StaticUse.{StaticUse}
 use Rattle.class_world.specs.declared.world.MethodRef.{MethodRef}
 use Rattle.class_world.specs.World.{World, class_of, super_of, line_of, is_interface_class, is_static, is_private, is_abstract}
+use Rattle.class_world.specs.World.{monitor_name}
+use Rattle.class_world.specs.BuiltIns.{object}
 use Rattle.class_world.specs.Descriptors.{meaning_of, slot_of}
 use Rattle.class_world.specs.declared.meaning.Meaning.{Meaning}
 use Rattle.class_world.specs.declared.meaning.Meaning.TheVariants.{Known, Unsupported, Missing}
@@ -54,25 +57,11 @@ use Rattle.class_world.specs.Fields.{can_be_made}
 use Rattle.class_world.specs.Members.{declared_method, initialiser_name}
 use Rattle.class_program.specs.Operands.{Member, operand_of}
 use Rattle.class_program.specs.Refusals.{◌>>=◌, wanted, required, together, with_fault}
-use Rattle.class_world.specs.Resolve.{resolve_field, is_static_field, resolve_method, field_place, method_at, first_static_init}
+use Rattle.class_world.specs.Resolve.{declared_field, field_at, resolve_field, is_static_field, resolve_method, field_place, method_at}
+use Rattle.class_world.specs.Resolve.{first_static_init}
 use Rattle.class_program.specs.Signatures.{signature_of}
 use Rattle.class_world.specs.Hidden.{is_hidden}
 use Rattle.class_program.specs.JvmDiffers.{call_differs, new_differs}
-
--- ---- constants (section 6.5, ldc)
-
--- The tag of a pool entry is that of a constant which `ldc` can load and programs here can't: float, long, double, class or string
--- (JVM specification, section 4.4).
-abbrev pub is_other_constant : Option ℕ → Bool
-is_other_constant (Some tag) = (tag == 4) || (tag == 5) || (tag == 6) || (tag == 7) || (tag == 8)
-is_other_constant None = false
-
--- `ldc` of a pool entry: the instruction that pushes the entry's int. Other constants are not supported, and an entry that is no
--- constant names nothing (JVM specification, section 6.5.ldc).
-unfoldable pub constant_of : List PoolEntry → ℕ → Result Op Refusal
-constant_of pool entry =
-    option_map_or (λ value. Ok (Constant value)) (integer_at pool entry)
-    (if is_other_constant (tag_at pool entry) then Err UnsupportedType else Err Unresolved)
 
 -- ---- classes and array types (sections 4.4.1 and 5.4.3.1)
 
@@ -143,6 +132,11 @@ member_operand pool tag entry = do
   fits ← required (m.0 == tag)
   Ok (record { class = m.1; name = m.2; desc = m.3 })
 
+-- A field is named by a field's descriptor; a text that is none names no field (JVM specification, section 4.3.2). It is asked before any
+-- field is looked for.
+unfoldable pub has_field_descriptor : Member → Result (Unit {0}) Refusal
+has_field_descriptor m = required (is_some (field_type m.desc))
+
 -- ---- instance fields (section 5.4.3.2)
 
 -- the use of a field of the named class's objects, at its place among their fields and with what it holds there
@@ -161,12 +155,13 @@ field_found world class desc found =
 unfoldable pub unhidden : World → ℕ → Member → ℕ × ℕ → Result (Unit {0}) Refusal
 unhidden world class m found = required (not (is_hidden world class found.0 m.name m.desc))
 
--- The field that `getfield` or `putfield` names: the named class is there, look-up finds the field, it is one of objects, and a JVM
--- finds no other one (JVM specification, section 5.4.3.2).
+-- The field that `getfield` or `putfield` names: the named class is there, the descriptor is one, look-up finds the field, it is one of
+-- objects, and a JVM finds no other one (JVM specification, section 5.4.3.2).
 unfoldable pub field_of : World → Member → Result FieldUse Refusal
 field_of world m = do
   t ← type_named world m.class
   class ← class_number t
+  spelled ← has_field_descriptor m
   found ← wanted (resolve_field world class m.name m.desc)
   used ← field_found world class m.desc found
   same ← unhidden world class m found
@@ -193,12 +188,13 @@ unfoldable pub static_found : World → List ℕ → ℕ × ℕ → Result Stati
 static_found world desc found =
     option_map_or (λ name. Err (refusals.StaticInit name)) (first_static_init world found.0) (static_kind world desc found)
 
--- The static field that `getstatic` or `putstatic` names: the named class is there, look-up finds the field, it is static, no static
--- initialiser would run, and a JVM finds no other field (JVM specification, sections 5.4.3.2 and 5.5).
+-- The static field that `getstatic` or `putstatic` names: the named class is there, the descriptor is one, look-up finds the field, it is
+-- static, no static initialiser would run, and a JVM finds no other field (JVM specification, sections 5.4.3.2 and 5.5).
 unfoldable pub static_of : World → Member → Result StaticUse Refusal
 static_of world m = do
   t ← type_named world m.class
   class ← class_number t
+  spelled ← has_field_descriptor m
   found ← wanted (resolve_field world class m.name m.desc)
   used ← static_found world m.desc found
   same ← unhidden world class m found
@@ -208,6 +204,61 @@ static_of world m = do
 abbrev pub static_op : StaticForm → StaticUse → Op
 static_op statics.Getstatic used = Getstatic used
 static_op statics.Putstatic used = Putstatic used
+
+-- ---- constants (section 6.5, ldc)
+
+-- The tag of a pool entry is that of a constant that is no int: float, long, double, class or string (JVM specification, section 4.4)
+abbrev pub is_other_constant : Option ℕ → Bool
+is_other_constant (Some tag) = (tag == 4) || (tag == 5) || (tag == 6) || (tag == 7) || (tag == 8)
+is_other_constant None = false
+
+-- the name of the class of strings
+abbrev pub string_name : List ℕ
+string_name = codes "java/lang/String"
+
+-- The descriptor of the fields that string constants are: that of a string's type and then a quotation mark. It is no field's descriptor,
+-- and `has_field_descriptor` asks an instruction that names a field for one, so no instruction of a class file names such a field and
+-- none writes it.
+abbrev pub constant_desc : List ℕ
+constant_desc = codes "Ljava/lang/String;" ++ 34 ∷ []
+
+-- The field that a string constant of that text is: one of the last class, as the set-up of classes puts it there; a class that is read has
+-- none. A constant is one object, the same for every class (JVM specification, section 5.1).
+unfoldable pub string_field : World → List ℕ → Option (ℕ × ℕ)
+string_field world text = option_map (λ i. (length world - 1, i)) (declared_field world (length world - 1) text constant_desc)
+
+-- `ldc` of a string constant pushes the value of the field that it is; the class of strings must be there. It is no access to the class
+-- that has the field, so no static initialiser runs (JVM specification, sections 5.1 and 6.5.ldc).
+unfoldable pub string_loaded : World → ℕ × ℕ → Result Op Refusal
+string_loaded world found = do
+  t ← class_named world string_name
+  used ← static_kind world constant_desc found
+  Ok (Getstatic used)
+
+-- a field is no string constant
+abbrev pub IsNoConstant : World → FieldRef → Type 0
+IsNoConstant world field = (f : FieldContent) → field_at world field.class field.index ≡ Some f → bytes_eq f.desc constant_desc ≡ false
+
+-- A name of a class file names no string constant, so `putstatic`, whose field comes of a name alone, writes none: a constant is one object
+-- throughout a run (JVM specification, section 5.1).
+abbrev pub NoNameNamesConstants : Type 0
+NoNameNamesConstants = (world : World) (m : Member) (used : StaticUse) → static_of world m ≡ Ok used → IsNoConstant world used.field
+
+-- `ldc` of a pool entry that is no int and no string constant of the world: other constants are not supported, and an entry that is no
+-- constant names nothing
+unfoldable pub other_constant : List PoolEntry → ℕ → Result Op Refusal
+other_constant pool entry = if is_other_constant (tag_at pool entry) then Err UnsupportedType else Err Unresolved
+
+-- the field of the world that the string constant of a pool entry is
+unfoldable pub string_found : World → List PoolEntry → ℕ → Option (ℕ × ℕ)
+string_found world pool entry = option_and_then (string_field world) (string_at pool entry)
+
+-- `ldc` of a pool entry: the instruction that pushes the entry's int, or the value of the field that its string constant is
+-- (JVM specification, section 6.5.ldc).
+unfoldable pub constant_of : World → List PoolEntry → ℕ → Result Op Refusal
+constant_of world pool entry =
+    option_map_or (λ value. Ok (Constant value)) (integer_at pool entry)
+    (option_map_or (string_loaded world) (string_found world pool entry) (other_constant pool entry))
 
 -- ---- methods (sections 5.4.3.3 and 5.4.3.4)
 
@@ -312,6 +363,32 @@ call_op calls.Special call = Invokespecial call
 call_op calls.Static call = Invokestatic call
 call_op calls.Interface call = Invokeinterface call
 
+-- ---- monitors (sections 2.11.10 and 6.5, monitorenter and monitorexit)
+
+-- the method of Object that stands for the instructions of monitors, where the world has it
+unfoldable pub monitor_ref : World → Option MethodRef
+monitor_ref world = option_map (λ i. record { class = object; index = i }) (declared_method world object monitor_name (codes "()V"))
+
+-- the call of a method of Object that takes and gives nothing
+abbrev pub object_call : MethodRef → Call
+object_call ref = record { class = object; method = ref; params = []; result = None; target = None }
+
+-- `monitorenter` and `monitorexit` call that method on their operand, which throws NullPointerException where the operand is null.
+unfoldable pub monitor_op : World → Result Op Refusal
+monitor_op world = do
+  ref ← found_fit world calls.Special (monitor_ref world)
+  Ok (Invokespecial (object_call ref))
+
+-- a call is of the method of Object that stands for monitors
+abbrev pub is_monitor_call : Call → MethodContent → Bool
+is_monitor_call call m = (call.class == object) && ((call.method.class == object) && bytes_eq m.name monitor_name)
+
+-- A call by `invokespecial` takes any object of the named class, and not only those of the calling method's class: it is of a constructor,
+-- or of the method that stands for monitors (JVM specification, sections 4.10.1.9, invokespecial, and 6.5.monitorenter).
+abbrev pub takes_any_receiver : World → Call → Bool
+takes_any_receiver world call =
+    option_map_or (λ m. bytes_eq m.name constructor_name || is_monitor_call call m) (method_at world call.method) false
+
 -- ---- instructions
 
 -- an array of whole numbers; the codes of float, double and long are those of no kind (section 6.5, newarray)
@@ -348,11 +425,12 @@ call_operand world current pool form entry = do
 unfoldable pub op_with : World → ℕ → List PoolEntry → Insn → Operand → Result Op Refusal
 op_with world current pool insn operands.Nothing = Ok (Plain insn)
 op_with world current pool insn (operands.Numbers code) = numbers_op insn code
-op_with world current pool insn (operands.Constant entry) = constant_of pool entry
+op_with world current pool insn (operands.Constant entry) = constant_of world pool entry
 op_with world current pool insn (operands.Static form entry) = static_operand world pool form entry
 op_with world current pool insn (operands.Field form entry) = field_operand world pool form entry
 op_with world current pool insn (operands.Class form entry) = class_operand world pool form entry
 op_with world current pool insn (operands.Call form entry) = call_operand world current pool form entry
+op_with world current pool insn operands.Monitor = monitor_op world
 
 -- What an instruction is once its names are resolved, where a JVM selects the methods that are selected here; else the instruction
 -- counts as unresolved

@@ -5,7 +5,7 @@ ghost use Rattle.std.specs.Str.{bytes_eq};
 ghost use Rattle.class_world.specs.class_read.View.{method_content};
 ghost use Rattle.class_program.specs.Ops.{is_special, member_tag, may_call, is_fit_class, constructor_of, special_start};
 ghost use Rattle.class_program.specs.Ops.{special_sought, method_sought, found_fit, constructor_name, is_fit_static, virtual_fit};
-ghost use Rattle.class_program.specs.Ops.{method_fit, method_called, named_parts, call_of, call_op};
+ghost use Rattle.class_program.specs.Ops.{method_fit, method_called, named_parts, call_of, call_op, monitor_ref, monitor_op};
 ghost use Rattle.class_program.specs.inner.Reads.{member_seen};
 ghost use Rattle.class_program.specs.Refusals.{Gives, required, first_refusal, rank, together};
 ghost use Rattle.class_world.specs.Members.{initialiser_name};
@@ -18,10 +18,12 @@ use crate::operand::CallForm;
 use crate::refusal::Refusal;
 use crate::signature::{Signature, signature_of};
 use crate::slots::Slots;
+use class_world::built_ins::OBJECT;
 use class_world::class_base::{ABSTRACT, PRIVATE, STATIC, has_flag};
 use class_world::class_read::MethodView;
 use class_world::{MethodRef, World};
 use jvm_values::Ty;
+use list_views::Seq;
 use std::alloc::{AllocError, Global};
 
 fn rank(refusal: &Refusal) -> u8
@@ -317,4 +319,33 @@ pub(crate) fn call_of(
         result: signature.result,
         target: None,
     })
+}
+
+/// The method that stands for the instructions of monitors.
+#[tactic(auto, unfolding(crate::specs::Ops::monitor_ref))]
+fn monitor_ref(world: &World<'_>) -> Option<MethodRef>
+    ensures { result ≡ monitor_ref (classes_of world.now) }
+{
+    match world.declared_method(OBJECT, b"<monitor>", b"()V") {
+        Some(index) => Some(MethodRef {
+            class: OBJECT,
+            index: index as u32,
+        }),
+        None => None,
+    }
+}
+
+/// `monitorenter` and `monitorexit`: the call of that method, without its number among the reached ones.
+#[tactic(auto, unfolding(crate::specs::Ops::monitor_op))]
+pub(crate) fn monitor_op(world: &World<'_>, alloc: Global) -> Result<Op, Refusal>
+    ensures { Gives (λ op. op) result (monitor_op (classes_of world.now)) }
+{
+    let method = found_fit(world, CallForm::Special, monitor_ref(world))?;
+    Ok(Op::Invokespecial(Call {
+        class: OBJECT,
+        method,
+        params: Slots::new(alloc, Seq::new(alloc))?,
+        result: None,
+        target: None,
+    }))
 }

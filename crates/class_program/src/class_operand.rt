@@ -64,7 +64,7 @@ fn anewarray_of(t: Ty) -> Result<Op, Refusal>
 
 /// The type of the class of a name.
 #[tactic(auto, unfolding(crate::specs::Ops::class_named))]
-fn class_named(world: &World<'_>, alloc: Global, name: &[u8]) -> Result<Ty, Refusal>
+pub(crate) fn class_named(world: &World<'_>, alloc: Global, name: &[u8]) -> Result<Ty, Refusal>
     ensures { Gives (λ t. t) result (class_named (classes_of world.now) name.now) }
 {
     match world.class_of(name) {

@@ -6,7 +6,7 @@ ghost use Rattle.class_program.specs.inner.Reads.{member_seen};
 ghost use Rattle.class_program.specs.Refusals.{Gives};
 
 use crate::class_operand::{class_number, type_named};
-use crate::member_operand::{MemberNames, unhidden};
+use crate::member_operand::{MemberNames, has_field_descriptor, unhidden};
 use crate::op::{FieldUse, Op};
 use crate::operand::FieldForm;
 use crate::refusal::Refusal;
@@ -56,6 +56,7 @@ pub(crate) fn field_of(
 {
     let named = type_named(world, alloc, names.class)?;
     let class = class_number(named)?;
+    has_field_descriptor(names)?;
     let Some(found) = world.resolve_field(class, names.name, names.desc) else {
         return Err(Refusal::Unresolved);
     };

@@ -8,16 +8,18 @@ ghost use Rattle.class_world.specs.class_read.View.{method_content};
 ghost use Rattle.class_world.specs.World.{line_of};
 ghost use Rattle.class_world.specs.Resolve.{method_at};
 ghost use Rattle.class_world.specs.Select.{is_selectable, receivers};
+ghost use Rattle.class_world.specs.Types.{is_class_below};
+ghost use Rattle.class_world.specs.BuiltIns.{throwable};
 ghost use Rattle.class_program.specs.inner.Rows.{IsRow, AreRows};
 ghost use Rattle.class_program.specs.JvmDiffers.{object_methods, throwable_methods, is_listed, inherits, loses, loses_method};
 ghost use Rattle.class_program.specs.JvmDiffers.{package_of, package_at, is_package_private, selects_outside, leaves_package};
 ghost use Rattle.class_program.specs.JvmDiffers.{virtual_differs, call_differs, has_code, declares_other, fills_trace, is_finalized};
-ghost use Rattle.class_program.specs.JvmDiffers.{new_differs};
+ghost use Rattle.class_program.specs.JvmDiffers.{new_differs, takes_cause, has_own_text, some_own_text, asks_cause};
 
 use crate::op::{Call, Op};
 use crate::receivers::is_receiver;
 use crate::selections::{Selections, selected};
-use class_world::built_ins::THROWABLE;
+use class_world::built_ins::{BUILT_IN_CLASSES, THROWABLE};
 use class_world::class_base::{PRIVATE, STATIC, has_flag};
 use class_world::class_read::MethodView;
 use class_world::{MethodRef, World};
@@ -304,7 +306,65 @@ fn interface_call_differs(
     }
 }
 
-/// Whether a call on some receiver could run another method than in a JVM. What classes select for it is put into rows.
+/// Whether the method of a built-in class is one that takes a cause and nothing else.
+fn takes_cause(class: u32, method: &MethodView<'_>) -> bool
+    ensures { result ≡ takes_cause class (method_content method.now) }
+{
+    class < BUILT_IN_CLASSES
+        && method.name == b"<init>".as_slice()
+        && method.desc == b"(Ljava/lang/Throwable;)V".as_slice()
+}
+
+/// Whether a class declares a method that says what an object of it is.
+fn has_own_text(world: &World<'_>, class: u32) -> bool
+    ensures { result ≡ has_own_text (classes_of world.now) class }
+{
+    world
+        .declared_method(class, b"toString", b"()Ljava/lang/String;")
+        .is_some()
+        || world
+            .declared_method(class, b"getLocalizedMessage", b"()Ljava/lang/String;")
+            .is_some()
+        || world
+            .declared_method(class, b"getMessage", b"()Ljava/lang/String;")
+            .is_some()
+}
+
+/// Whether a class is below Throwable and declares such a method.
+fn throwable_says(world: &World<'_>, class: u32) -> bool
+    requires { class < length (classes_of world.now) }
+    ensures { result ≡ (is_class_below (classes_of world.now) class throwable && has_own_text (classes_of world.now) class) }
+{
+    world.is_below(class, THROWABLE) && has_own_text(world, class)
+}
+
+/// Whether some class below Throwable declares such a method.
+#[tactic(auto, unfolding(crate::specs::JvmDiffers::some_own_text))]
+fn some_own_text(world: &World<'_>) -> bool
+    ensures { result ≡ some_own_text (classes_of world.now) }
+{
+    for class in 0..world.len() {
+        let class = class as u32;
+        if throwable_says(world, class) {
+            return true;
+        }
+    }
+    false
+}
+
+/// Whether the method is a constructor that asks its cause, and some cause has a method of its own for that.
+#[tactic(auto, unfolding(crate::specs::JvmDiffers::asks_cause))]
+fn asks_cause(world: &World<'_>, method: MethodRef) -> bool
+    ensures { result ≡ asks_cause (classes_of world.now) method }
+{
+    match world.method_at(method) {
+        Some(view) => takes_cause(method.class, view) && some_own_text(world),
+        None => false,
+    }
+}
+
+/// Whether a call on some receiver could run another method than in a JVM, or leaves out one that a JVM runs. What classes select for it
+/// is put into rows.
 ///
 /// # Errors
 ///
@@ -323,6 +383,7 @@ pub(crate) fn call_differs(
     match op {
         Op::Invokevirtual(call) => virtual_call_differs(world, alloc, rows, call),
         Op::Invokeinterface(call) => interface_call_differs(world, alloc, rows, call),
+        Op::Invokespecial(call) => Ok(asks_cause(world, call.method)),
         _ => Ok(false),
     }
 }

@@ -1,11 +1,12 @@
 //! Members that instructions name (JVM specification, section 4.4.2).
 ghost use Rattle.class_world.specs.Worlds.{classes_of};
-ghost use Rattle.class_program.specs.Ops.{member_operand, unhidden};
+ghost use Rattle.class_program.specs.Ops.{member_operand, has_field_descriptor, unhidden};
 ghost use Rattle.class_program.specs.inner.Reads.{member_seen};
 ghost use Rattle.class_program.specs.Refusals.{Gives};
 
 use crate::refusal::Refusal;
 use class_world::World;
+use class_world::class_base::field_type;
 use class_world::class_pool::Pool;
 
 /// What a Fieldref, Methodref or InterfaceMethodref entry names.
@@ -33,6 +34,17 @@ pub(crate) fn member_operand<'p>(
         return Err(Refusal::Unresolved);
     }
     Ok(MemberNames { class, name, desc })
+}
+
+/// The descriptor of a field that an instruction names is one.
+#[tactic(auto, unfolding(crate::specs::Ops::has_field_descriptor))]
+pub(crate) fn has_field_descriptor(names: MemberNames<'_>) -> Result<(), Refusal>
+    ensures { Gives (λ x. x) result (has_field_descriptor (member_seen names.entry)) }
+{
+    match field_type(names.desc) {
+        Some(_) => Ok(()),
+        None => Err(Refusal::Unresolved),
+    }
 }
 
 /// The field that was found for a name is the one that a JVM finds too: no superinterface hides it.

@@ -14,7 +14,7 @@ ghost use Rattle.class_program.specs.Ops.{pool_of};
 ghost use Rattle.class_program.specs.inner.Rows.{AreRows};
 ghost use Rattle.class_world.specs.Resolve.{method_at, has_body};
 ghost use Rattle.class_program.specs.Methods.{method_name, static_init, code_of, synchronized, own_types, in_method, table_said};
-ghost use Rattle.class_program.specs.Methods.{insns_of, op_said, ops_of, caught, catch_of, range_of, table_of, with_receiver};
+ghost use Rattle.class_program.specs.Methods.{opcodes_of, insns_of, op_said, ops_of, caught, catch_of, range_of, table_of, with_receiver};
 ghost use Rattle.class_program.specs.Methods.{coded_of, named_of, method_of};
 ghost use Rattle.class_program.specs.Widths.{constant_in, IsConstantInWidth, AreInWidth};
 
@@ -28,7 +28,7 @@ use crate::slots::SharedSlots;
 use class_world::class_base::{Handler, NATIVE, STATIC, SYNCHRONIZED, has_flag};
 use class_world::class_pool::Pool;
 use class_world::class_read::{CodeView, MethodView};
-use class_world::code_forms::{CodeFault, Insn, check_table};
+use class_world::code_forms::{CodeFault, Insn, Opcodes, check_table};
 use class_world::{LinkFault, MethodName, MethodRef, World};
 use code_decode::decode;
 use jvm_values::{Base, Slot, Ty};
@@ -59,16 +59,17 @@ fn code_of<'v, 'a>(
     }
 }
 
-/// The method isn't synchronized.
+/// The method isn't synchronized, or the world has monitors.
 #[tactic(auto, unfolding(crate::specs::Methods::synchronized))]
 fn not_synchronized(
     alloc: Global,
+    monitors: bool,
     name: &MethodName,
     view: &MethodView<'_>,
 ) -> Result<(), LinkFault>
-    ensures { Refuses result (synchronized name.now (method_content view.now)) }
+    ensures { Refuses result (synchronized monitors name.now (method_content view.now)) }
 {
-    if has_flag(view.flags, SYNCHRONIZED) {
+    if !monitors && has_flag(view.flags, SYNCHRONIZED) {
         return Err(LinkFault::Synchronized {
             method: name.copy(alloc)?,
         });
@@ -89,13 +90,27 @@ fn code_fault(alloc: Global, name: &MethodName, fault: CodeFault) -> LinkFault
     }
 }
 
+/// The opcodes that are read in a world.
+fn opcodes_of(world: &World<'_>) -> Opcodes
+    ensures { result ≡ opcodes_of (classes_of world.now) }
+{
+    Opcodes {
+        monitors: world.has_monitors(),
+    }
+}
+
 /// The instructions of a code.
-fn decoded(alloc: Global, name: &MethodName, code: &[u8]) -> Result<Vec<(u16, Insn)>, LinkFault>
+fn decoded(
+    alloc: Global,
+    opcodes: Opcodes,
+    name: &MethodName,
+    code: &[u8],
+) -> Result<Vec<(u16, Insn)>, LinkFault>
     requires { length code.now < 2 ^ 16 }
-    ensures insns { Says (λ insns. insns.items) result (in_method name.now (decode_of code.now)) }
+    ensures insns { Says (λ insns. insns.items) result (in_method name.now (decode_of opcodes code.now)) }
     ensures code { IfOk result (λ insns. IsCode insns.items) }
 {
-    match decode(alloc, code) {
+    match decode(alloc, opcodes, code) {
         Ok(insns) => Ok(insns),
         Err(fault) => Err(code_fault(alloc, name, fault)),
     }
@@ -121,14 +136,15 @@ fn has_good_table(
 #[tactic(auto, unfolding(crate::specs::Methods::insns_of))]
 fn insns_of(
     alloc: Global,
+    opcodes: Opcodes,
     name: &MethodName,
     code: &CodeView<'_>,
 ) -> Result<Vec<(u16, Insn)>, LinkFault>
     requires { length code.now.code.now < 2 ^ 16 }
-    ensures insns { Says (λ insns. insns.items) result (insns_of name.now (code_content code.now)) }
+    ensures insns { Says (λ insns. insns.items) result (insns_of opcodes name.now (code_content code.now)) }
     ensures code { IfOk result (λ insns. IsCode insns.items) }
 {
-    let insns = decoded(alloc, name, code.code)?;
+    let insns = decoded(alloc, opcodes, name, code.code)?;
     has_good_table(alloc, name, code, &insns)?;
     Ok(insns)
 }
@@ -341,7 +357,7 @@ fn coded<'a>(
     ensures rows { IfOk result (λ _. AreRows (classes_of world.now) rows.new) }
 {
     let class = method.class;
-    let insns = insns_of(alloc, name, code)?;
+    let insns = insns_of(alloc, opcodes_of(world), name, code)?;
     let insns = ops_of(world, alloc, shared, rows, class, name, insns)?;
     let table = table_of(world, alloc, pool(world, class), code.table.as_slice())?;
     Ok(Method {
@@ -376,7 +392,7 @@ fn named<'a>(
     ensures rows { IfOk result (λ _. AreRows (classes_of world.now) rows.new) }
 {
     let code = code_of(alloc, name, view)?;
-    not_synchronized(alloc, name, view)?;
+    not_synchronized(alloc, world.has_monitors(), name, view)?;
     let types = own_types(world, alloc, name, view.desc)?;
     coded(world, alloc, shared, rows, method, name, view, code, &types)
 }

@@ -53,6 +53,8 @@ pub(crate) enum Operand {
     Class(ClassForm, u16),
     /// A method.
     Call(CallForm, u16),
+    /// Nothing; it calls the method that stands for monitors.
+    Monitor,
 }
 
 /// What an instruction takes from the constant pool.
@@ -75,6 +77,8 @@ pub(crate) fn operand_of(insn: &Insn) -> Operand
         Insn::Anewarray(entry) => Operand::Class(ClassForm::Anewarray, *entry),
         Insn::Checkcast(entry) => Operand::Class(ClassForm::Checkcast, *entry),
         Insn::Instanceof(entry) => Operand::Class(ClassForm::Instanceof, *entry),
+        Insn::Monitorenter => Operand::Monitor,
+        Insn::Monitorexit => Operand::Monitor,
         _ => Operand::Nothing,
     }
 }

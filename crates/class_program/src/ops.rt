@@ -1,14 +1,16 @@
 //! Instructions with their names resolved (JVM specification, sections 5.4.3 and 6.5).
 ghost use Rattle.class_world.specs.Worlds.{classes_of};
 ghost use Rattle.std.specs.Prelude.{◌≡◌, ◌<◌, length, IfOk};
+ghost use Rattle.std.specs.Option.{option_map_or};
 ghost use Rattle.class_program.specs.Operands.{operand_of};
-ghost use Rattle.class_program.specs.Ops.{is_other_constant, constant_of, numbers_op, field_operand, static_operand, class_operand};
+ghost use Rattle.class_program.specs.Ops.{is_other_constant, string_loaded, other_constant, string_found, constant_of};
+ghost use Rattle.class_program.specs.Ops.{numbers_op, field_operand, static_operand, class_operand};
 ghost use Rattle.class_program.specs.Ops.{call_operand, op_with, alike_with, op_of};
 ghost use Rattle.class_program.specs.inner.Rows.{AreRows};
 ghost use Rattle.class_program.specs.Refusals.{Gives, fault_at};
 ghost use Rattle.class_program.specs.Said.{Says};
 
-use crate::call_operand::{call_of, call_op, member_tag};
+use crate::call_operand::{call_of, call_op, member_tag, monitor_op};
 use crate::class_operand::{class_op, type_operand};
 use crate::field_operand::{field_of, field_op};
 use crate::jvm_differs::call_differs;
@@ -17,7 +19,7 @@ use crate::op::Op;
 use crate::operand::{CallForm, ClassForm, FieldForm, Operand, StaticForm, operand_of};
 use crate::refusal::Refusal;
 use crate::selections::Selections;
-use crate::static_operand::{static_of, static_op};
+use crate::static_operand::{static_of, static_op, string_field, string_loaded};
 use class_world::class_pool::Pool;
 use class_world::code_forms::Insn;
 use class_world::{LinkFault, MethodName, World};
@@ -38,18 +40,53 @@ fn is_other_constant(tag: Option<u8>) -> bool
     }
 }
 
-/// `ldc` and `ldc_w`.
-#[tactic(auto, unfolding(crate::specs::Ops::constant_of))]
-fn constant_of(pool: &Pool<'_>, entry: u16) -> Result<Op, Refusal>
-    ensures { Gives (λ op. op) result (constant_of pool.now entry) }
+/// A constant that is no int and no string constant of the world.
+#[tactic(auto, unfolding(crate::specs::Ops::other_constant))]
+fn other_constant(pool: &Pool<'_>, entry: u16) -> Result<Op, Refusal>
+    ensures { Gives (λ op. op) result (other_constant pool.now entry) }
 {
-    if let Some(value) = pool.integer(entry) {
-        return Ok(Op::Constant(value));
-    }
     if is_other_constant(pool.tag(entry)) {
         return Err(Refusal::UnsupportedType);
     }
     Err(Refusal::Unresolved)
+}
+
+/// The field that the string constant of an entry is.
+#[tactic(auto, unfolding(crate::specs::Ops::string_found))]
+fn string_found(world: &World<'_>, pool: &Pool<'_>, entry: u16) -> Option<(u32, u32)>
+    ensures { result ≡ string_found (classes_of world.now) pool.now entry }
+{
+    match pool.string(entry) {
+        Some(text) => string_field(world, text),
+        None => None,
+    }
+}
+
+/// A constant that is no int.
+fn constant_loaded(
+    world: &World<'_>,
+    alloc: Global,
+    pool: &Pool<'_>,
+    entry: u16,
+) -> Result<Op, Refusal>
+    ensures { Gives (λ op. op) result (option_map_or (string_loaded (classes_of world.now))
+        (string_found (classes_of world.now) pool.now entry) (other_constant pool.now entry)) }
+{
+    match string_found(world, pool, entry) {
+        Some(found) => string_loaded(world, alloc, found),
+        None => other_constant(pool, entry),
+    }
+}
+
+/// `ldc` and `ldc_w`.
+#[tactic(auto, unfolding(crate::specs::Ops::constant_of))]
+fn constant_of(world: &World<'_>, alloc: Global, pool: &Pool<'_>, entry: u16) -> Result<Op, Refusal>
+    ensures { Gives (λ op. op) result (constant_of (classes_of world.now) pool.now entry) }
+{
+    if let Some(value) = pool.integer(entry) {
+        return Ok(Op::Constant(value));
+    }
+    constant_loaded(world, alloc, pool, entry)
 }
 
 /// `newarray`.
@@ -169,11 +206,12 @@ fn op_with(
     match operand_of(&insn) {
         Operand::Nothing => Ok(Op::Plain(insn)),
         Operand::Numbers(code) => numbers_op(insn, code),
-        Operand::Constant(entry) => constant_of(pool, entry),
+        Operand::Constant(entry) => constant_of(world, alloc, pool, entry),
         Operand::Static(form, entry) => static_operand(world, alloc, pool, form, entry),
         Operand::Field(form, entry) => field_operand(world, alloc, pool, form, entry),
         Operand::Class(form, entry) => class_operand(world, alloc, pool, form, entry),
         Operand::Call(form, entry) => call_operand(world, alloc, current, pool, form, entry),
+        Operand::Monitor => monitor_op(world, alloc),
     }
 }
 

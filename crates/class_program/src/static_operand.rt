@@ -1,12 +1,12 @@
 //! Static fields that instructions name (JVM specification, sections 5.4.3.2 and 5.5).
 ghost use Rattle.class_world.specs.Worlds.{classes_of};
 ghost use Rattle.std.specs.Prelude.{◌≡◌};
-ghost use Rattle.class_program.specs.Ops.{static_kind, static_found, static_of, static_op};
+ghost use Rattle.class_program.specs.Ops.{static_kind, string_field, string_loaded, static_found, static_of, static_op};
 ghost use Rattle.class_program.specs.inner.Reads.{member_seen};
 ghost use Rattle.class_program.specs.Refusals.{Gives};
 
-use crate::class_operand::{class_number, type_named};
-use crate::member_operand::{MemberNames, unhidden};
+use crate::class_operand::{class_named, class_number, type_named};
+use crate::member_operand::{MemberNames, has_field_descriptor, unhidden};
 use crate::op::{FieldRef, Op, StaticUse};
 use crate::operand::StaticForm;
 use crate::refusal::Refusal;
@@ -61,6 +61,32 @@ fn static_found(
     static_kind(world, desc, found)
 }
 
+/// The field that a string constant of that text is.
+#[tactic(auto, unfolding(crate::specs::Ops::string_field))]
+pub(crate) fn string_field(world: &World<'_>, text: &[u8]) -> Option<(u32, u32)>
+    ensures { result ≡ string_field (classes_of world.now) text.now }
+{
+    let last = world.len().saturating_sub(1) as u32;
+    match world.declared_field(last, text, b"Ljava/lang/String;\"") {
+        Some(index) => Some((last, index as u32)),
+        None => None,
+    }
+}
+
+/// `ldc` of a string constant: the field that it is, where the class of strings is there.
+#[tactic(auto, unfolding(crate::specs::Ops::string_loaded))]
+pub(crate) fn string_loaded(
+    world: &World<'_>,
+    alloc: Global,
+    found: (u32, u32),
+) -> Result<Op, Refusal>
+    ensures { Gives (λ op. op) result (string_loaded (classes_of world.now) found) }
+{
+    class_named(world, alloc, b"java/lang/String")?;
+    let used = static_kind(world, b"Ljava/lang/String;\"", found)?;
+    Ok(Op::Getstatic(used))
+}
+
 /// The static field of that name and descriptor, sought from the named class up; its place among the program's static
 /// fields is still to be put in.
 #[tactic(auto, unfolding(crate::specs::Ops::static_of))]
@@ -73,6 +99,7 @@ pub(crate) fn static_of(
 {
     let named = type_named(world, alloc, names.class)?;
     let class = class_number(named)?;
+    has_field_descriptor(names)?;
     let Some(found) = world.resolve_field(class, names.name, names.desc) else {
         return Err(Refusal::Unresolved);
     };

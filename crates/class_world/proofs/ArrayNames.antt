@@ -8,7 +8,8 @@ use Rattle.std.proofs.lemmas.Option.{slice_get-get_or}
 use Rattle.class_read.specs.Content.{ClassContent}
 use Rattle.class_world.specs.declared.fault.LinkFault.{LinkFault}
 use Rattle.class_world.specs.declared.fault.LinkFault.TheVariants.{DuplicateClass}
-use Rattle.class_world.specs.World.{World, built_in, class_of}
+use Rattle.class_world.specs.World.{World, built_in, no_features, class_of}
+use Rattle.class_world.specs.declared.features.Constructors.TheVariants.{Nothing}
 use Rattle.class_world.specs.Linking.{is_array_interface, duplicate_class}
 use Rattle.class_world.specs.lemmas.Linked.{linked_from}
 use Rattle.class_world.specs.BuiltIns.{IsWorld}
@@ -28,7 +29,7 @@ no_array_class world known name named = go (class_of world name) refl
     go : (o : Option ℕ) → class_of world name ≡ o → o ≡ None
     go None e = refl
     go (Some i) e =
-        let d = built_in [] [] in
+        let d = built_in no_features ([], [], Nothing) in
         let c = get_or world i d in
         let at = position-Some (λ x. bytes_eq name x.name) world i d e in
         let same : name ≡ c.name = (bytes_decides name c.name).0 at.1 in

@@ -13,7 +13,8 @@ use Rattle.std.proofs.lemmas.List.Elements.{filter-append}
 use Rattle.jvm_values.specs.declared.types.Slot.{Slot}
 use Rattle.code_forms.proofs.list_views.Quantified.{holds_at}
 use Rattle.class_read.specs.Content.{ClassContent}
-use Rattle.class_world.specs.World.{World, super_of, line_from, line_of, built_in}
+use Rattle.class_world.specs.World.{World, super_of, line_from, line_of, built_in, no_features}
+use Rattle.class_world.specs.declared.features.Constructors.TheVariants.{Nothing}
 use Rattle.class_world.specs.Fields.{field_slot, own_slots, fields_of}
 use Rattle.class_world.specs.Linking.{has_few_members}
 use Rattle.class_world.specs.Resolve.{slots_above, own_slots_before}
@@ -146,8 +147,9 @@ module _ (world : World) (class index : ℕ) (table : List (List ℕ)) (slots : 
 
   here : Tables → (c : ClassContent) × (slice_get world class ≡ Some c) × (index < length c.fields)
   here t =
-      let s = slice_get-get_or world class (built_in [] []) t.within in
-      (get_or world class (built_in [] []), s, subst (λ (o : Option ClassContent). IfSome o (λ c. index < length c.fields)) s t.there)
+      let s = slice_get-get_or world class (built_in no_features ([], [], Nothing)) t.within in
+      (get_or world class (built_in no_features ([], [], Nothing)), s, subst
+            (λ (o : Option ClassContent). IfSome o (λ c. index < length c.fields)) s t.there)
 
   row_of : Tables → (c : ClassContent) → slice_get world class ≡ Some c → (row : List ℕ) → row ≡ get_or table class row
       → row ≡ values_to (kept_before world c.fields) (length c.fields + 1)

@@ -14,9 +14,11 @@ use Rattle.class_read.specs.Content.{ClassContent, MethodContent}
 use Rattle.class_read.specs.Rules.{IsMethod, text_of, method_of}
 use Rattle.class_read.specs.declared.text.MemberText.{MemberText}
 use Rattle.class_world.specs.declared.world.MethodRef.{MethodRef}
-use Rattle.class_world.specs.World.{World, built_ins, built_in_names, world_of}
+use Rattle.class_world.specs.declared.features.Features.{Features}
+use Rattle.class_world.specs.World.{World, built_ins_with, built_in_rows, world_with}
 use Rattle.class_world.specs.Linking.{CanBeRead, IsLinkable, has_descriptor, have_descriptors}
 use Rattle.class_world.specs.Resolve.{method_at}
+use Rattle.class_world.proofs.BuiltInMethods.{each_feature}
 use Rattle.class_world.proofs.Few.{all_append}
 
 methods_have : (pool : List PoolEntry) (ms : List MemberText) → AllByRecursion (IsMethod pool) ms
@@ -34,14 +36,14 @@ all_have : (cs : List ClassContent) → AllByRecursion IsLinkable cs → list_al
 all_have [] h = refl
 all_have (c ∷ cs) h = and_from (have_descriptors c) (list_all have_descriptors cs) h.0.descriptors (all_have cs h.1)
 
-built_ins_have : list_all have_descriptors built_ins ≡ true
-unfolding built_in_names is_descriptor method_type types_at returned_at
-built_ins_have = refl
+built_ins_have : (features : Features) → list_all have_descriptors (built_ins_with features) ≡ true
+unfolding built_in_rows is_descriptor method_type types_at returned_at
+built_ins_have = each_feature (λ features. list_all have_descriptors (built_ins_with features) ≡ true) refl refl refl refl
 
-pub world_has : (given : List ClassContent) (world : World) → world ≡ world_of given → AllByRecursion IsLinkable given
-    → list_all have_descriptors world ≡ true
-world_has given world e h = subst (λ (w : World). list_all have_descriptors w ≡ true) (sym e)
-    (all_append have_descriptors built_ins given built_ins_have (all_have given h))
+pub world_has : (features : Features) (given : List ClassContent) (world : World) → world ≡ world_with features given
+    → AllByRecursion IsLinkable given → list_all have_descriptors world ≡ true
+world_has features given world e h = subst (λ (w : World). list_all have_descriptors w ≡ true) (sym e)
+    (all_append have_descriptors (built_ins_with features) given (built_ins_have features) (all_have given h))
 
 descriptor_at : (world : World) (ref : MethodRef) (m : MethodContent) → list_all have_descriptors world ≡ true
     → method_at world ref ≡ Some m → has_descriptor m ≡ true

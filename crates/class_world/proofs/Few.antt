@@ -6,11 +6,13 @@ use Rattle.std.specs.List.{list_all, AllByRecursion}
 use Rattle.std.proofs.lemmas.Bool.{and_from, and_parts, lt-ltb, ltb-true}
 use Rattle.class_read.specs.Content.{ClassContent}
 use Rattle.class_read.specs.Rules.{field_of, method_of}
-use Rattle.class_world.specs.World.{World, built_ins, built_in_names, world_of}
+use Rattle.class_world.specs.declared.features.Features.{Features}
+use Rattle.class_world.specs.World.{World, built_ins_with, built_in_rows, world_with}
 use Rattle.class_world.specs.Linking.{CanBeRead, IsLinkable, has_few_members}
 use Rattle.std.proofs.lemmas.List.Quantifiers.{position-Some}
 use Rattle.code_forms.proofs.list_views.Items.{length_mapped}
 use Rattle.class_world.specs.Members.{is_method_named, declared_method}
+use Rattle.class_world.proofs.BuiltInMethods.{each_feature}
 
 pub few_read : (c : ClassContent) → CanBeRead c → has_few_members c ≡ true
 few_read c r =
@@ -31,11 +33,14 @@ pub all_append : (p : ClassContent → Bool) (xs ys : List ClassContent) → lis
 all_append p [] ys e f = f
 all_append p (x ∷ xs) ys e f = let r = and_parts (p x) (list_all p xs) e in and_from (p x) _ r.0 (all_append p xs ys r.1 f)
 
-pub few_world : (given : List ClassContent) (world : World) → world ≡ world_of given → AllByRecursion IsLinkable given
-    → list_all has_few_members world ≡ true
-unfolding built_in_names
-few_world given world e h = subst (λ (w : World). list_all has_few_members w ≡ true) (sym e)
-    (all_append has_few_members built_ins given refl (all_few given h))
+few_built : (features : Features) → list_all has_few_members (built_ins_with features) ≡ true
+unfolding built_in_rows
+few_built = each_feature (λ features. list_all has_few_members (built_ins_with features) ≡ true) refl refl refl refl
+
+pub few_world : (features : Features) (given : List ClassContent) (world : World) → world ≡ world_with features given
+    → AllByRecursion IsLinkable given → list_all has_few_members world ≡ true
+few_world features given world e h = subst (λ (w : World). list_all has_few_members w ≡ true) (sym e)
+    (all_append has_few_members (built_ins_with features) given (few_built features) (all_few given h))
 
 pub few_methods : (world : World) (n : ℕ) (c : ClassContent) → list_all has_few_members world ≡ true → slice_get world n ≡ Some c
     → length c.methods < 65536

@@ -15,7 +15,10 @@ use Rattle.class_read.specs.Rules.{same_key, key_of, field_of, method_of}
 use Rattle.class_read.specs.View.{field_content, method_content}
 use Rattle.class_read.specs.declared.view.FieldView.{FieldView}
 use Rattle.class_read.specs.declared.view.MethodView.{MethodView}
-use Rattle.class_world.specs.World.{World, built_in, built_ins, built_in_names, world_of, class_of, super_of}
+use Rattle.class_world.specs.declared.features.Features.{Features}
+use Rattle.class_world.specs.declared.features.Constructors.{Constructors}
+use Rattle.class_world.specs.World.{World, built_in, built_ins_with, built_in_rows, world_with, class_of, super_of}
+use Rattle.class_world.proofs.BuiltInMethods.{distinct_methods}
 use Rattle.class_world.specs.inner.Once.{once, interfaces_once}
 use Rattle.class_world.specs.Linking.{CanBeRead, IsLinkable, has_few_members}
 use Rattle.class_world.specs.Members.{is_method_named, declared_method}
@@ -165,20 +168,22 @@ all_distinct : (cs : List ClassContent) → AllByRecursion IsLinkable cs → All
 all_distinct [] h = tt
 all_distinct (c ∷ cs) h = (h.0.distinct, all_distinct cs h.1)
 
-distinct_built : (names : List (List ℕ × List ℕ)) → AllByRecursion HasDistinctMembers (map (λ n. built_in n.0 n.1) names)
-unfolding IsDistinct
-distinct_built [] = tt
-distinct_built (n ∷ names) = (record { methods = (tt, tt); fields = tt }, distinct_built names)
+distinct_built : (features : Features) → AllByRecursion HasDistinctMembers (built_ins_with features)
+distinct_built features = go built_in_rows
+  where
+    go : (rows : List (List ℕ × List ℕ × Constructors)) → AllByRecursion HasDistinctMembers (map (built_in features) rows)
+    go [] = tt
+    go (row ∷ rows) = (distinct_methods features row, go rows)
 
 all_both : (P : ClassContent → Type 0) (xs ys : List ClassContent) → AllByRecursion P xs → AllByRecursion P ys
     → AllByRecursion P (xs ++ ys)
 all_both P [] ys e f = f
 all_both P (x ∷ xs) ys e f = (e.0, all_both P xs ys e.1 f)
 
-pub distinct_world : (given : List ClassContent) (world : World) → world ≡ world_of given → AllByRecursion IsLinkable given
-    → AllByRecursion HasDistinctMembers world
-distinct_world given world e h = subst (λ (w : World). AllByRecursion HasDistinctMembers w) (sym e)
-    (all_both HasDistinctMembers built_ins given (distinct_built built_in_names) (all_distinct given h))
+pub distinct_world : (features : Features) (given : List ClassContent) (world : World) → world ≡ world_with features given
+    → AllByRecursion IsLinkable given → AllByRecursion HasDistinctMembers world
+distinct_world features given world e h = subst (λ (w : World). AllByRecursion HasDistinctMembers w) (sym e)
+    (all_both HasDistinctMembers (built_ins_with features) given (distinct_built features) (all_distinct given h))
 
 -- ---- looking members up
 

@@ -25,3 +25,4 @@ pub mod ArrayNames
 pub mod Onces
 pub mod Gathering
 pub mod Linkable
+pub mod BuiltInMethods

@@ -13,7 +13,8 @@ use Rattle.code_forms.proofs.list_views.Items.{get_before, get_behind}
 use Rattle.jvm_values.specs.declared.types.Slot.{Slot}
 use Rattle.class_read.specs.Content.{ClassContent, FieldContent}
 use Rattle.class_world.specs.declared.fault.LinkFault.TheVariants.{MissingClass}
-use Rattle.class_world.specs.World.{World, built_in, leads_up, class_of, super_of, supers_of, is_interface_class, is_above}
+use Rattle.class_world.specs.World.{World, built_in, no_features, leads_up, class_of, super_of, supers_of, is_interface_class, is_above}
+use Rattle.class_world.specs.declared.features.Constructors.TheVariants.{Nothing}
 use Rattle.class_world.specs.World.{line_from, line_of}
 use Rattle.class_world.specs.Types.{is_class_below}
 use Rattle.class_world.specs.Fields.{field_slot, own_slots, fields_of}
@@ -136,7 +137,7 @@ module _ (world : World) (linked : IsLinked world) where
       ]
         where
           past : (a : ℕ) → a < length world → slice_get world a ≡ None → ⊥
-          past a l e = let s = slice_get-get_or world a (built_in [] []) l in cc
+          past a l e = let s = slice_get-get_or world a (built_in no_features ([], [], Nothing)) l in cc
 
   over_all : (a : ℕ) → a < length world → StartsWith (fields_of world 0) (fields_of world a)
   over_all a l = elim (to_root n a l) [

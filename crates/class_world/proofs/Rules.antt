@@ -18,7 +18,8 @@ use Rattle.code_forms.proofs.list_views.Steps.{found_by}
 use Rattle.class_read.specs.Content.{ClassContent}
 use Rattle.class_world.specs.declared.fault.LinkFault.{LinkFault}
 use Rattle.class_world.specs.declared.fault.LinkFault.TheVariants.{DuplicateClass}
-use Rattle.class_world.specs.World.{World, class_of, built_in, is_above}
+use Rattle.class_world.specs.World.{World, class_of, built_in, no_features, is_above}
+use Rattle.class_world.specs.declared.features.Constructors.TheVariants.{Nothing}
 use Rattle.class_world.specs.Linking.{Rule, Refuses, is_memory, first_broken, first_missing, missing_interface, rule_at}
 use Rattle.class_world.specs.Linking.{duplicate_class, is_array_interface}
 use Rattle.class_world.specs.inner.Tables.{names_of, values_to, above_table}
@@ -29,7 +30,7 @@ use Rattle.class_world.proofs.Tables.{class_at, get_or-values, length-values}
 pub broken_step : (rule : Rule) (world : World) (i : ℕ) → i < length world
     → first_broken rule i (drop i world) ≡ option_or (rule_at rule world i) (first_broken rule (i + 1) (drop (i + 1) world))
 broken_step rule world i l =
-    let d = built_in [] [] in
+    let d = built_in no_features ([], [], Nothing) in
     let c = get_or world i d in
     let a : drop i world ≡ c ∷ drop (suc i) world = drop-cons world i d l in
     ap (first_broken rule i) a
@@ -62,20 +63,21 @@ broken_never rule world i l e = sym e ∙ broken_end rule world i l
 -- ---- names that stand twice
 
 any_in_take : (p : ClassContent → Bool) (xs : List ClassContent) (i : ℕ) → list_any p (take i xs) ≡ true
-    → (k : ℕ) × (k < i) × (k < length xs) × (p (get_or xs k (built_in [] [])) ≡ true)
+    → (k : ℕ) × (k < i) × (k < length xs) × (p (get_or xs k (built_in no_features ([], [], Nothing))) ≡ true)
 any_in_take p [] zero e = absurd (false≢true e)
 any_in_take p [] (suc i) e = absurd (false≢true e)
 any_in_take p (x ∷ xs) zero e = absurd (false≢true e)
 any_in_take p (x ∷ xs) (suc i) e = go (p x) refl e (any_in_take p xs i)
   where
     go : (b : Bool) → p x ≡ b → (b || list_any p (take i xs)) ≡ true
-        → (list_any p (take i xs) ≡ true → (k : ℕ) × (k < i) × (k < length xs) × (p (get_or xs k (built_in [] [])) ≡ true))
-        → (k : ℕ) × (k < suc i) × (k < length (x ∷ xs)) × (p (get_or (x ∷ xs) k (built_in [] [])) ≡ true)
+        → (list_any p (take i xs) ≡ true → (k : ℕ) × (k < i) × (k < length xs)
+              × (p (get_or xs k (built_in no_features ([], [], Nothing))) ≡ true))
+        → (k : ℕ) × (k < suc i) × (k < length (x ∷ xs)) × (p (get_or (x ∷ xs) k (built_in no_features ([], [], Nothing))) ≡ true)
     go true q f rest = (0, omega arith, omega arith, q)
     go false q f rest = let r = rest f in (suc r.0, omega (arith, r.1), omega (arith, r.2), r.3)
 
 none_in_take : (p : ClassContent → Bool) (xs : List ClassContent) (i : ℕ) → list_any p (take i xs) ≡ false → (k : ℕ) → k < i
-    → k < length xs → p (get_or xs k (built_in [] [])) ≡ false
+    → k < length xs → p (get_or xs k (built_in no_features ([], [], Nothing))) ≡ false
 none_in_take p [] i e k l m = absurd (omega (arith, m))
 none_in_take p (x ∷ xs) zero e k l m = absurd (omega (arith, l))
 none_in_take p (x ∷ xs) (suc i) e zero l m = (or_parts (p x) (list_any p (take i xs)) e).0
@@ -98,7 +100,7 @@ duplicate_at world i c there s e =
     says arrays first = cond (not arrays && first) None (Some (DuplicateClass c.name))
 
     d : ClassContent
-    d = built_in [] []
+    d = built_in no_features ([], [], Nothing)
 
     p : ClassContent → Bool
     p x = bytes_eq c.name x.name

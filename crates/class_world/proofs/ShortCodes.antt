@@ -12,9 +12,11 @@ use Rattle.class_read.specs.declared.text.AttrText.{AttrText}
 use Rattle.class_read.specs.declared.text.AttrText.TheVariants.{Skipped, Code}
 use Rattle.class_read.specs.declared.text.MemberText.{MemberText}
 use Rattle.class_world.specs.declared.world.MethodRef.{MethodRef}
-use Rattle.class_world.specs.World.{World, built_ins, built_in_names, world_of}
+use Rattle.class_world.specs.declared.features.Features.{Features}
+use Rattle.class_world.specs.World.{World, built_ins_with, built_in_rows, world_with}
 use Rattle.class_world.specs.Linking.{CanBeRead, IsLinkable, has_short_code, has_short_codes}
 use Rattle.class_world.specs.Resolve.{method_at}
+use Rattle.class_world.proofs.BuiltInMethods.{each_feature}
 use Rattle.class_world.proofs.Few.{all_append}
 
 abbrev is_short : CodeContent → Bool
@@ -41,11 +43,14 @@ all_short : (cs : List ClassContent) → AllByRecursion IsLinkable cs → list_a
 all_short [] h = refl
 all_short (c ∷ cs) h = and_from (has_short_codes c) (list_all has_short_codes cs) h.0.short (all_short cs h.1)
 
-pub short_world : (given : List ClassContent) (world : World) → world ≡ world_of given → AllByRecursion IsLinkable given
-    → list_all has_short_codes world ≡ true
-unfolding built_in_names
-short_world given world e h = subst (λ (w : World). list_all has_short_codes w ≡ true) (sym e)
-    (all_append has_short_codes built_ins given refl (all_short given h))
+short_built : (features : Features) → list_all has_short_codes (built_ins_with features) ≡ true
+unfolding built_in_rows
+short_built = each_feature (λ features. list_all has_short_codes (built_ins_with features) ≡ true) refl refl refl refl
+
+pub short_world : (features : Features) (given : List ClassContent) (world : World) → world ≡ world_with features given
+    → AllByRecursion IsLinkable given → list_all has_short_codes world ≡ true
+short_world features given world e h = subst (λ (w : World). list_all has_short_codes w ≡ true) (sym e)
+    (all_append has_short_codes (built_ins_with features) given (short_built features) (all_short given h))
 
 pub short_at : (world : World) (ref : MethodRef) (m : MethodContent) → list_all has_short_codes world ≡ true
     → method_at world ref ≡ Some m → has_short_code m ≡ true

@@ -1,11 +1,13 @@
 -- What a world is, and what all worlds have in common: the built-in classes, by their numbers, and the order of fields.
-use Rattle.std.specs.Prelude.{◌≡◌, ◌≢◌, ℕ, ◌<◌, false, List, [], ◌++◌, length, take, slice_get, Some, IsTrue}
+use Rattle.std.specs.Prelude.{◌≡◌, ◌≢◌, ℕ, ◌<◌, Bool, false, List, [], ◌++◌, length, take, slice_get, Some, is_some, IsTrue, codes}
 use Rattle.jvm_values.specs.declared.types.Slot.{Slot}
 use Rattle.jvm_values.specs.declared.types.Ty.{Ty}
 use Rattle.jvm_values.specs.Subtyping.{class_type, IsErased}
-use Rattle.class_world.specs.World.{World, built_ins, is_interface_class}
+use Rattle.class_world.specs.declared.features.Features.{Features}
+use Rattle.class_world.specs.World.{World, with_message, monitor_name, built_ins_with, is_interface_class}
 use Rattle.class_world.specs.Types.{is_class_below, is_sub, erase}
 use Rattle.class_world.specs.Fields.{fields_of, can_be_made}
+use Rattle.class_world.specs.Members.{declared_method}
 use Rattle.class_world.specs.Resolve.{field_place}
 use Rattle.class_world.specs.Linking.{is_linked}
 
@@ -79,11 +81,25 @@ abstract_method_error = 14
 abbrev pub built_in_count : ℕ
 built_in_count = 15
 
+-- ---- what worlds have
+
+-- the built-in classes have their constructors with messages, causes and indexes, as Throwable has the one with a message
+unfoldable pub has_messages : World → Bool
+has_messages world = is_some (declared_method world throwable (codes "<init>") with_message.0)
+
+-- the instructions of monitors and synchronized methods can be run: Object has the method that stands for them
+unfoldable pub has_monitors : World → Bool
+has_monitors world = is_some (declared_method world object monitor_name (codes "()V"))
+
+-- what a world has beside what every world has
+abbrev pub features_of : World → Features
+features_of world = record { messages = has_messages world; monitors = has_monitors world }
+
 -- ---- worlds
 
 -- A world begins with the built-in classes, and its classes keep the rules of linking.
 pub record IsWorld (world : World) : Type 0 where
-  pub begins : take built_in_count world ≡ built_ins
+  pub begins : take built_in_count world ≡ built_ins_with (features_of world)
   pub linked : IsTrue (is_linked world)
 
 -- What is known of the built-in classes. Those that instructions throw are among the ones below Throwable.

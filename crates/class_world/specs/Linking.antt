@@ -141,7 +141,7 @@ abbrev pub have_descriptors : ClassContent → Bool
 have_descriptors class = list_all has_descriptor class.methods
 
 -- What linking asks of each class by itself: its members differ, it has few of them, their codes are short, and the descriptors of its
--- methods are some. It is so of each class that is read (`ReadIsLinkable`).
+-- methods are some. It is so of each class that is read (`ReadIsLinkable`), and of one with fields for string constants.
 pub record IsLinkable (class : ClassContent) : Type 0 where
   pub distinct : HasDistinctMembers class
   pub few : IsTrue (has_few_members class)

@@ -1,63 +1,128 @@
 -- A world: the classes that a program can speak of, each under its number (JVM specification, sections 2.10 and 5.3).
 --
 -- The built-in classes have the numbers 0 to 14. They are the classes of `java.lang` that instructions throw, with
--- those above them (Java SE 8). Given classes are numbered from 15 on, in their order. A world is the list of its
--- classes; nothing here knows of an index of names.
-use Rattle.std.specs.Prelude.{ℕ, zero, suc, ◌==◌, ◌||◌, Bool, false, if◌then◌else◌, List, [], ◌∷◌, ◌++◌, length, slice_get}
+-- those above them (Java SE 8). What a world has beside what every world has (`Features`) is seen in their methods. Given classes are
+-- numbered from 15 on, in their order. A world is the list of its classes; nothing here knows of an index of names.
+use Rattle.std.specs.Prelude.{ℕ, zero, suc, ◌==◌, ◌||◌, ◌&&◌, Bool, false, if◌then◌else◌, List, [], ◌∷◌, ◌++◌, length, slice_get}
 use Rattle.std.specs.Prelude.{position, map, Option, Some, None, option_and_then, codes, filter_map}
 use Rattle.std.specs.List.{list_any}
 use Rattle.std.specs.Option.{option_map_or}
 use Rattle.std.specs.Str.{bytes_eq}
 use Rattle.class_read.specs.Content.{ClassContent, MethodContent}
+use Rattle.class_world.specs.declared.features.Features.{Features}
+use Rattle.class_world.specs.declared.features.Constructors.{Constructors}
+use Rattle.class_world.specs.declared.features.Constructors.TheVariants.{Nothing, Message, MessageAndCause, Cause, Index}
 pub use Rattle.code_forms.specs.class_base.Flags.{has_flag, is_private, is_static, is_synchronized, is_native, is_interface, is_abstract}
 
 -- ---- the built-in classes
 
--- `<init>()V` of a built-in class: `return` alone, for one local, the receiver
-abbrev pub built_in_init : MethodContent
-built_in_init = record {
+-- a method of a built-in class: it is public, and `return` is all that it does
+abbrev pub built_in_method : List ℕ → List ℕ → ℕ → MethodContent
+built_in_method name desc max_locals = record {
   flags = 0x0001;
-  name = codes "<init>";
-  desc = codes "()V";
-  code = Some (record { max_stack = 0; max_locals = 1; code = 177 ∷ []; table = [] });
+  name = name;
+  desc = desc;
+  code = Some (record { max_stack = 0; max_locals = max_locals; code = 177 ∷ []; table = [] });
 }
 
--- A built-in class and its superclass. It is public, has no interfaces and no fields, and one method.
-abbrev pub built_in : List ℕ → List ℕ → ClassContent
-built_in name super_name = record {
+-- `<init>()V` of a built-in class: `return` alone, for one local, the receiver
+abbrev pub built_in_init : MethodContent
+built_in_init = built_in_method (codes "<init>") (codes "()V") 1
+
+-- a constructor of a built-in class, by its descriptor and the number of its locals: the receiver and its parameters
+abbrev pub constructor : List ℕ × ℕ → MethodContent
+constructor c = built_in_method (codes "<init>") c.0 c.1
+
+-- the constructor with a message
+abbrev pub with_message : List ℕ × ℕ
+with_message = (codes "(Ljava/lang/String;)V", 2)
+
+-- the constructor with a message and a cause
+abbrev pub with_message_and_cause : List ℕ × ℕ
+with_message_and_cause = (codes "(Ljava/lang/String;Ljava/lang/Throwable;)V", 3)
+
+-- the constructor with a cause
+abbrev pub with_cause : List ℕ × ℕ
+with_cause = (codes "(Ljava/lang/Throwable;)V", 2)
+
+-- the constructor with an index
+abbrev pub with_index : List ℕ × ℕ
+with_index = (codes "(I)V", 2)
+
+-- The public constructors of a class of `java.lang` besides `<init>()V`, in this order (Java SE 8). The four protected ones with four
+-- parameters are left out: a call of one is unresolved.
+abbrev pub constructors_of : Constructors → List (List ℕ × ℕ)
+constructors_of Nothing = []
+constructors_of Message = with_message ∷ []
+constructors_of MessageAndCause = with_message ∷ with_message_and_cause ∷ []
+constructors_of Cause = with_message ∷ with_message_and_cause ∷ with_cause ∷ []
+constructors_of Index = with_message ∷ with_index ∷ []
+
+-- The constructors of a built-in class: in worlds with messages all public ones. What they are given is kept where nothing here reads it,
+-- so they only return; that the one with a cause alone asks the cause for its text is looked at where it is called.
+abbrev pub built_in_constructors : Bool → Constructors → List MethodContent
+built_in_constructors messages kind = built_in_init ∷ (if messages then map constructor (constructors_of kind) else [])
+
+-- The name of the method of Object that stands for the instructions of monitors. No class file may have such a name (JVM specification,
+-- section 4.2.2); that is not tested in files, and one that had it would call this method and no other.
+abbrev pub monitor_name : List ℕ
+monitor_name = codes "<monitor>"
+
+-- The method that `monitorenter` and `monitorexit` call on their operand. Where there is one thread and monitors are structured (JVM
+-- specification, section 2.11.10), they ask of it only that it isn't null, as each call does (6.5.monitorenter and 6.5.monitorexit).
+abbrev pub monitor_method : MethodContent
+monitor_method = built_in_method monitor_name (codes "()V") 1
+
+-- methods, with the one that stands for monitors behind them where it is wanted
+abbrev pub with_monitor : Bool → List MethodContent → List MethodContent
+with_monitor wanted methods = if wanted then methods ++ monitor_method ∷ [] else methods
+
+-- the methods of a built-in class, by the name of its superclass; Object alone has none, and in worlds with monitors it has their method
+abbrev pub built_in_methods : Features → List ℕ → Constructors → List MethodContent
+built_in_methods features super_name kind = with_monitor (features.monitors && (length super_name == 0))
+    (built_in_constructors features.messages kind)
+
+-- A built-in class by its name, its superclass's name and its constructors. It is public, and has no interfaces and no fields.
+abbrev pub built_in : Features → List ℕ × List ℕ × Constructors → ClassContent
+built_in features c = record {
   major = 50;
   flags = 0x0021;
-  name = name;
-  super_name = super_name;
+  name = c.0;
+  super_name = c.1;
   interfaces = [];
   fields = [];
-  methods = built_in_init ∷ [];
+  methods = built_in_methods features c.1 c.2;
   pool = [];
 }
 
--- the names of the built-in classes, from number 0 to 14, each with the name of its superclass; Object has none
-unfoldable pub built_in_names : List (List ℕ × List ℕ)
-built_in_names =
-    (codes "java/lang/Object", [])
-    ∷ (codes "java/lang/Throwable", codes "java/lang/Object")
-    ∷ (codes "java/lang/Exception", codes "java/lang/Throwable")
-    ∷ (codes "java/lang/RuntimeException", codes "java/lang/Exception")
-    ∷ (codes "java/lang/NullPointerException", codes "java/lang/RuntimeException")
-    ∷ (codes "java/lang/ArithmeticException", codes "java/lang/RuntimeException")
-    ∷ (codes "java/lang/IndexOutOfBoundsException", codes "java/lang/RuntimeException")
-    ∷ (codes "java/lang/ArrayIndexOutOfBoundsException", codes "java/lang/IndexOutOfBoundsException")
-    ∷ (codes "java/lang/NegativeArraySizeException", codes "java/lang/RuntimeException")
-    ∷ (codes "java/lang/ClassCastException", codes "java/lang/RuntimeException")
-    ∷ (codes "java/lang/ArrayStoreException", codes "java/lang/RuntimeException")
-    ∷ (codes "java/lang/Error", codes "java/lang/Throwable")
-    ∷ (codes "java/lang/LinkageError", codes "java/lang/Error")
-    ∷ (codes "java/lang/IncompatibleClassChangeError", codes "java/lang/LinkageError")
-    ∷ (codes "java/lang/AbstractMethodError", codes "java/lang/IncompatibleClassChangeError")
+-- the names of the built-in classes, from number 0 to 14, each with the name of its superclass, which Object has none of, and with its
+-- constructors
+unfoldable pub built_in_rows : List (List ℕ × List ℕ × Constructors)
+built_in_rows =
+    (codes "java/lang/Object", [], Nothing)
+    ∷ (codes "java/lang/Throwable", codes "java/lang/Object", Cause)
+    ∷ (codes "java/lang/Exception", codes "java/lang/Throwable", Cause)
+    ∷ (codes "java/lang/RuntimeException", codes "java/lang/Exception", Cause)
+    ∷ (codes "java/lang/NullPointerException", codes "java/lang/RuntimeException", Message)
+    ∷ (codes "java/lang/ArithmeticException", codes "java/lang/RuntimeException", Message)
+    ∷ (codes "java/lang/IndexOutOfBoundsException", codes "java/lang/RuntimeException", Message)
+    ∷ (codes "java/lang/ArrayIndexOutOfBoundsException", codes "java/lang/IndexOutOfBoundsException", Index)
+    ∷ (codes "java/lang/NegativeArraySizeException", codes "java/lang/RuntimeException", Message)
+    ∷ (codes "java/lang/ClassCastException", codes "java/lang/RuntimeException", Message)
+    ∷ (codes "java/lang/ArrayStoreException", codes "java/lang/RuntimeException", Message)
+    ∷ (codes "java/lang/Error", codes "java/lang/Throwable", Cause)
+    ∷ (codes "java/lang/LinkageError", codes "java/lang/Error", MessageAndCause)
+    ∷ (codes "java/lang/IncompatibleClassChangeError", codes "java/lang/LinkageError", Message)
+    ∷ (codes "java/lang/AbstractMethodError", codes "java/lang/IncompatibleClassChangeError", Message)
     ∷ []
 
 -- the built-in classes, in the order of their numbers
-abbrev pub built_ins : List ClassContent
-built_ins = map (λ n. built_in n.0 n.1) built_in_names
+abbrev pub built_ins_with : Features → List ClassContent
+built_ins_with features = map (built_in features) built_in_rows
+
+-- nothing beside what every world has
+abbrev pub no_features : Features
+no_features = record { messages = false; monitors = false }
 
 -- ---- worlds
 
@@ -66,8 +131,12 @@ abbrev pub World : Type 0
 World = List ClassContent
 
 -- the world of the given classes: the built-in classes and then the given ones
+abbrev pub world_with : Features → List ClassContent → World
+world_with features given = built_ins_with features ++ given
+
+-- the world of the given classes, with nothing beside what every world has
 abbrev pub world_of : List ClassContent → World
-world_of given = built_ins ++ given
+world_of given = world_with no_features given
 
 -- the number of the class of a name, the first of that name
 abbrev pub class_of : World → List ℕ → Option ℕ

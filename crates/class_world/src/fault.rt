@@ -73,7 +73,7 @@ pub enum LinkFault {
         /// The method.
         method: MethodName,
     },
-    /// A reached method is synchronized.
+    /// A reached method is synchronized, in a world without monitors.
     Synchronized {
         /// The method.
         method: MethodName,

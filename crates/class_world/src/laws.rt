@@ -2,10 +2,11 @@
 ghost use Rattle.std.specs.Prelude.{◌≡◌, ℕ, List, None, IsTrue};
 ghost use Rattle.class_read.specs.Content.{ClassContent};
 ghost use Rattle.jvm_values.specs.declared.types.Ty.{Ty};
-ghost use Rattle.class_world.specs.World.{class_of};
+ghost use Rattle.class_world.specs.declared.features.Features.{Features};
+ghost use Rattle.class_world.specs.World.{class_of, world_with};
 ghost use Rattle.class_world.specs.Linking.{ReadIsLinkable, is_array_interface, is_linked};
 ghost use Rattle.class_world.specs.Types.{Sub, is_sub};
-ghost use Rattle.class_world.specs.BuiltIns.{IsWorld, HasBuiltIns, HasNoInterfacesBelow, HasFieldsInOrder};
+ghost use Rattle.class_world.specs.BuiltIns.{features_of, IsWorld, HasBuiltIns, HasNoInterfacesBelow, HasFieldsInOrder};
 
 /// In a linked world the test of subtypes answers the least relation that has each type below itself, each class below
 /// what it extends and implements, arrays below arrays as their items are, and each type below `java/lang/Object`.
@@ -19,6 +20,11 @@ pub fn sub_is_least()
 /// most 255 words of parameters.
 pub fn read_can_be_linked()
     ensures { ReadIsLinkable }
+{}
+
+/// A world has the features that it is made with.
+pub fn features_are_kept()
+    ensures { (features : Features) (given : List ClassContent) → features_of (world_with features given) ≡ features }
 {}
 
 /// What every world has at the numbers below 15: classes that can be made, without fields, and all but the first below

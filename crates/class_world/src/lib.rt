@@ -6,6 +6,7 @@ pub mod built_ins;
 mod classes;
 mod fault;
 mod fault_text;
+mod features;
 mod fields;
 mod hidden;
 mod hierarchy;
@@ -30,6 +31,7 @@ pub use class_read::class_pool;
 pub use code_forms;
 pub use code_forms::class_base;
 pub use fault::{LinkFault, MethodName};
+pub use features::Features;
 pub use laws::{
     built_ins_are_known, fields_keep_their_places, no_class_is_of_arrays,
     no_interface_is_below_a_class, read_can_be_linked, sub_is_least,

@@ -27,7 +27,7 @@ pub(crate) enum Wanted {
 
 impl<'a> World<'a> {
     /// The place of the field that a class declares with that name and descriptor.
-    fn declared_field(&self, class: u32, name: &[u8], desc: &[u8]) -> Option<usize>
+    pub fn declared_field(&self, class: u32, name: &[u8], desc: &[u8]) -> Option<usize>
         ensures place { result ≡ declared_field self.now.roster.classes class name.now desc.now }
         ensures within { IfSome result (λ index. index < 65536) }
     {

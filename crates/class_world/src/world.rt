@@ -1,18 +1,20 @@
 //! Worlds: linked classes.
 ghost use Rattle.std.specs.Prelude.{◌≡◌, ◌+◌, ◌<◌, ◌≤◌, length, slice_get, IfOk, IfSome, IsTrue};
-ghost use Rattle.class_world.specs.World.{world_of, class_of, is_above};
+ghost use Rattle.class_world.specs.World.{world_with, class_of, is_above};
 ghost use Rattle.class_world.specs.Linking.{Refuses, IsLinkable, has_few_members, has_short_codes, have_descriptors, is_linked, link_fault, later_fault};
 ghost use Rattle.std.specs.List.{list_all, AllByRecursion};
 ghost use Rattle.class_world.specs.Fields.{fields_of};
 ghost use Rattle.class_world.specs.Members.{declared_method, find_method};
 ghost use Rattle.class_world.specs.inner.Index.{HasDistinctMembers, IsIndex};
 ghost use Rattle.std.proofs.Props.{props};
-ghost use Rattle.class_world.specs.BuiltIns.{IsWorld};
+ghost use Rattle.class_world.specs.BuiltIns.{has_monitors, IsWorld};
 ghost use Rattle.class_world.specs.inner.Once.{AreSought};
 ghost use Rattle.class_world.specs.inner.Tables.{above_table, values_to};
 
 use crate::built_in::with_built_ins;
+use crate::built_ins::OBJECT;
 use crate::fault::LinkFault;
+use crate::features::Features;
 use crate::hierarchy::above_table;
 use crate::index::MemberIndex;
 use crate::linking::{Hierarchy, LinkRule};
@@ -107,20 +109,27 @@ fn members_of<'a>(alloc: Global, roster: &Roster<'a>) -> Result<Members<'a>, All
 }
 
 impl<'a> World<'a> {
-    /// Links the classes, which are numbered from 15 in their order. What is asked of each of them holds of each class that is read
-    /// (`read_can_be_linked`).
+    /// Links the classes, which are numbered from 15 in their order, into a world with these features.
+    ///
+    /// No two members of a class may have the same name and descriptor, and each class has fewer than 65,536 fields and as many methods,
+    /// codes of fewer than 65,536 bytes, and methods with descriptors. Classes as files spell them are such classes, by
+    /// `read_can_be_linked`.
     ///
     /// # Errors
     ///
     /// The first rule that the classes break, rule by rule in the order of [`LinkFault`], and of a rule the first class
     /// by its number; or want of memory.
-    pub fn link(alloc: Global, classes: Vec<ClassView<'a>>) -> Result<World<'a>, LinkFault>
+    pub fn link(
+        alloc: Global,
+        classes: Vec<ClassView<'a>>,
+        features: Features,
+    ) -> Result<World<'a>, LinkFault>
         requires count { length classes.items + 15 ≤ 65535 }
         requires fit { AllByRecursion IsLinkable classes.items }
-        ensures fault { Refuses result (link_fault (world_of classes.entry.items)) }
-        ensures world { IfOk result (λ world. world.roster.classes ≡ world_of classes.entry.items) }
+        ensures fault { Refuses result (link_fault (world_with features classes.entry.items)) }
+        ensures world { IfOk result (λ world. world.roster.classes ≡ world_with features classes.entry.items) }
     {
-        let roster = Roster::enrol(alloc, with_built_ins(alloc, classes)?)?;
+        let roster = Roster::enrol(alloc, with_built_ins(alloc, features, classes)?)?;
         let above = ruled_above(alloc, &roster)?;
         let members = members_of(alloc, &roster)?;
         Ok(World {
@@ -176,6 +185,14 @@ impl<'a> World<'a> {
             class,
             index: index as u32,
         })
+    }
+
+    /// Whether the instructions of monitors and synchronized methods are run in the world.
+    #[tactic(auto, unfolding(crate::specs::BuiltIns::has_monitors))]
+    pub fn has_monitors(&self) -> bool
+        ensures { result ≡ has_monitors self.now.roster.classes }
+    {
+        self.declared_method(OBJECT, b"<monitor>", b"()V").is_some()
     }
 
     /// The place of the method that a class declares with that name and descriptor.

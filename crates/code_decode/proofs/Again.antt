@@ -23,25 +23,21 @@ use Rattle.code_forms.specs.declared.insn.Insn.TheVariants.{Ifgt, Ifle, Iflt, If
 use Rattle.code_forms.specs.declared.insn.Insn.TheVariants.{Iload2, Iload3, Imul, Ineg, Instanceof, Invokeinterface, Invokespecial}
 use Rattle.code_forms.specs.declared.insn.Insn.TheVariants.{Invokestatic, Invokevirtual, Ior, Irem, Ireturn, Ishl, Ishr, Istore}
 use Rattle.code_forms.specs.declared.insn.Insn.TheVariants.{Istore0, Istore1, Istore2, Istore3, Isub, Iushr, Ixor, Ldc, LdcW}
-use Rattle.code_forms.specs.declared.insn.Insn.TheVariants.{Lookupswitch, New, Newarray, Nop, Pop, Pop2, Putfield, Putstatic}
-use Rattle.code_forms.specs.declared.insn.Insn.TheVariants.{Return, Saload, Sastore, Sipush, Swap, Tableswitch, WideAload}
+use Rattle.code_forms.specs.declared.insn.Insn.TheVariants.{Lookupswitch, Monitorenter, Monitorexit, New, Newarray, Nop, Pop, Pop2}
+use Rattle.code_forms.specs.declared.insn.Insn.TheVariants.{Putfield, Putstatic, Return, Saload, Sastore, Sipush, Swap, Tableswitch}
+use Rattle.code_forms.specs.declared.insn.Insn.TheVariants.{WideAload}
 use Rattle.code_forms.specs.declared.insn.Insn.TheVariants.{WideAstore, WideIinc, WideIload, WideIstore}
 use Rattle.code_forms.specs.Spellings as spellings
 use Rattle.code_forms.specs.Spellings.{Spelling, spelling}
 use Rattle.code_decode.specs.Texts.{signed, distance, padding_of, case_text, spelling_text, Reaches, IsTable, IsLookup, FitsSpelling}
-use Rattle.code_forms.specs.Opcodes.{opcode_of, find_by, wide_local}
+use Rattle.code_forms.specs.Opcodes.{opcode_of, first_byte, find_by, wide_local}
 use Rattle.code_decode.specs.Reading.{target_at, skip_at, repeat_at, case_at, table_targets_at, table_at, counted_cases_at}
 use Rattle.code_decode.specs.Reading.{lookup_at, interface_at, array_at, wide_increment_at, wide_operand_at, wide_at, increment_at}
 use Rattle.code_decode.specs.Reading.{signed_byte_at, sipush_at, far_jump_at, byte_operand_at, pair_operand_at, jump_operand_at}
 use Rattle.code_decode.specs.Reading.{insn_at}
 use Rattle.code_decode.proofs.Fields.{wide16, wide32, number_again, signed_again, target_again}
 
--- the first byte of a spelling, which is the opcode where it isn't a wide one, and the others
-abbrev pub first_byte : Spelling → ℕ
-first_byte (spellings.WideLocal op n) = 196
-first_byte (spellings.WideIncrement op n v) = 196
-first_byte s = opcode_of s
-
+-- the bytes of a spelling behind the first
 abbrev pub other_bytes : ℕ → List ℕ → Spelling → List ℕ
 other_bytes pc padding (spellings.Plain op) = []
 other_bytes pc padding (spellings.Byte op n) = n ∷ []
@@ -322,6 +318,8 @@ insn_again pc padding rest Areturn len fits = refl
 insn_again pc padding rest Return len fits = refl
 insn_again pc padding rest Arraylength len fits = refl
 insn_again pc padding rest Athrow len fits = refl
+insn_again pc padding rest Monitorenter len fits = refl
+insn_again pc padding rest Monitorexit len fits = refl
 insn_again pc padding rest (Ldc n) len fits = byte_again pc Ldc n rest
 insn_again pc padding rest (Iload n) len fits = byte_again pc Iload n rest
 insn_again pc padding rest (Aload n) len fits = byte_again pc Aload n rest

@@ -136,7 +136,8 @@ high_rows = (
                                   refl,
                                   (
                                     refl,
-                                    (refl, (refl, (refl, (refl, (refl, (refl, (refl, (refl, (refl, (refl, (refl, tt))))))))))),
+                                    (refl, (refl, (refl, (refl,
+                                                (refl, (refl, (refl, (refl, (refl, (refl, (refl, (refl, (refl, tt))))))))))))),
                                   ),
                                 ),
                               ),

@@ -11,8 +11,9 @@ use Rattle.std.specs.List.{AllByRecursion}
 use Rattle.std.proofs.lemmas.List.Concat.{flat_map-cons}
 use Rattle.std.proofs.lemmas.List.Elements.{All-from_recursion}
 use Rattle.code_forms.specs.declared.insn.Insn.{Insn}
+use Rattle.code_forms.specs.declared.opcodes.Opcodes.{Opcodes}
 use Rattle.code_decode.specs.Texts.{padding_of, zeros, Fits}
-use Rattle.code_decode.specs.Codes.{Spells, IsReading, decode_of}
+use Rattle.code_decode.specs.Codes.{Spells, IsReading, AreOf, decode_of}
 use Rattle.code_decode.specs.Encoding.{plain_text, code_of, ArePlaced, IsCode}
 use Rattle.code_decode.proofs.Takes.{length-zeros}
 use Rattle.code_decode.proofs.Laws.{reads_again}
@@ -38,8 +39,9 @@ spells pc (x ∷ xs) placed fits =
 pub is_reading : (xs : List (ℕ × Insn)) → IsCode xs → IsReading (code_of xs) xs
 is_reading xs h = record { spelled = spells 0 xs h.placed h.fits; targets = h.targets }
 
-pub decodes : (xs : List (ℕ × Insn)) → IsCode xs → decode_of (code_of xs) ≡ Ok xs
-decodes xs h = reads_again (code_of xs) xs (is_reading xs h)
+pub decodes : (opcodes : Opcodes) (xs : List (ℕ × Insn)) → IsCode xs → AreOf opcodes xs
+    → decode_of opcodes (code_of xs) ≡ Ok xs
+decodes opcodes xs h taken = reads_again opcodes (code_of xs) xs (is_reading xs h) taken
 
 -- what two steps add at the end
 pub adds_then : (a b c x y : List ℕ) → b ≡ a ++ x → c ≡ b ++ y → c ≡ a ++ (x ++ y)
@@ -49,7 +51,7 @@ adds_then a b c x y e f = f ∙ ap (λ (t : List ℕ). t ++ y) e ∙ append_asso
 pub kept : (r x : ℤ) → r ≡ x → FitsSigned w32 x → cast_signed w32 (cast_unsigned w32 r) ≡ x
 kept r x e f = ap (λ (v : ℤ). cast_signed w32 (cast_unsigned w32 v)) e ∙ to_z-of_z w32 x f
 
-pub law_from_bytes : (r : Result (Vec ℕ) AllocError) (xs : List (ℕ × Insn)) → IsCode xs → IfOk r (λ v. v.items ≡ code_of xs)
-    → IfOk r (λ v. decode_of v.items ≡ Ok xs)
-law_from_bytes (Ok v) xs h e = ap decode_of e ∙ decodes xs h
-law_from_bytes (Err e) xs h g = tt
+pub law_from_bytes : (opcodes : Opcodes) (r : Result (Vec ℕ) AllocError) (xs : List (ℕ × Insn)) → IsCode xs → AreOf opcodes xs
+    → IfOk r (λ v. v.items ≡ code_of xs) → IfOk r (λ v. decode_of opcodes v.items ≡ Ok xs)
+law_from_bytes opcodes (Ok v) xs h taken e = ap (decode_of opcodes) e ∙ decodes opcodes xs h taken
+law_from_bytes opcodes (Err e) xs h taken g = tt

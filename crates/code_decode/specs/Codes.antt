@@ -1,11 +1,13 @@
 -- A code and its instructions.
 -- JVM specification, section 4.7.3 (the code array) and section 4.9.1 (targets stand at instructions).
 use Rattle.std.specs.Prelude.{ℕ, zero, suc, ◌+◌, ◌-◌, ◌≡◌, List, [], ◌∷◌, ◌++◌, length, map, Option, Some, None, Result, Ok, Err}
-use Rattle.std.specs.Prelude.{Bool, if◌then◌else◌}
-use Rattle.std.specs.List.{list_all}
+use Rattle.std.specs.Prelude.{Bool, IsTrue, if◌then◌else◌}
+use Rattle.std.specs.List.{list_all, AllByRecursion}
 use Rattle.code_forms.specs.declared.fault.CodeFault.{CodeFault}
-use Rattle.code_forms.specs.declared.fault.CodeFault.TheVariants.{BadTarget}
+use Rattle.code_forms.specs.declared.fault.CodeFault.TheVariants.{BadTarget, UnsupportedOpcode}
 use Rattle.code_forms.specs.declared.insn.Insn.{Insn}
+use Rattle.code_forms.specs.declared.opcodes.Opcodes.{Opcodes}
+use Rattle.code_forms.specs.Opcodes.{first_byte, is_read}
 use Rattle.code_forms.specs.Spellings.{Spelling, Plain, Byte, Pair, SignedByte, SignedPair, Jump, FarJump, Increment, Table, Lookup}
 use Rattle.code_forms.specs.Spellings.{Interface, Array, WideLocal, WideIncrement, spelling}
 use Rattle.code_forms.specs.Marks.{starts, stands}
@@ -54,16 +56,24 @@ pub record IsReading (code : List ℕ) (insns : List (ℕ × Insn)) : Type 0 whe
   pub spelled : Spells 0 insns code
   pub targets : first_stray (stands (starts insns)) insns ≡ None
 
+-- all instructions are of opcodes that are read
+abbrev pub AreOf : Opcodes → List (ℕ × Insn) → Type 0
+AreOf opcodes insns = AllByRecursion (λ x. IsTrue (is_read opcodes (first_byte (spelling x.1)))) insns
+
 -- ---- reading a whole code, with the first fault
 
+-- the instruction at a place, whose opcode is given, and the bytes after it; an opcode that isn't read is unsupported
+abbrev pub read_at : Opcodes → ℕ → ℕ → List ℕ → Result (Insn × List ℕ) CodeFault
+read_at opcodes pc op bytes = if is_read opcodes op then insn_at pc op bytes else Err (UnsupportedOpcode pc op)
+
 -- the instructions of a code from a place on, where the given number of bytes is passed over first
-unfoldable pub insns_from : ℕ → ℕ → List ℕ → Result (List (ℕ × Insn)) CodeFault
-insns_from passed pc [] = Ok []
-insns_from zero pc (op ∷ bytes) = do
-  x ← insn_at pc op bytes
-  rest ← insns_from (length bytes - length x.1) (pc + 1) bytes
+unfoldable pub insns_from : Opcodes → ℕ → ℕ → List ℕ → Result (List (ℕ × Insn)) CodeFault
+insns_from opcodes passed pc [] = Ok []
+insns_from opcodes zero pc (op ∷ bytes) = do
+  x ← read_at opcodes pc op bytes
+  rest ← insns_from opcodes (length bytes - length x.1) (pc + 1) bytes
   Ok ((pc, x.0) ∷ rest)
-insns_from (suc passed) pc (b ∷ bytes) = insns_from passed (pc + 1) bytes
+insns_from opcodes (suc passed) pc (b ∷ bytes) = insns_from opcodes passed (pc + 1) bytes
 
 -- the instructions of a code, or a BadTarget at the first one that has a stray target
 abbrev pub with_targets : List (ℕ × Insn) → Option ℕ → Result (List (ℕ × Insn)) CodeFault
@@ -71,7 +81,7 @@ with_targets insns None = Ok insns
 with_targets insns (Some pc) = Err (BadTarget pc)
 
 -- the instructions of a code, or its first fault; a stray target comes after all other faults
-unfoldable pub decode_of : List ℕ → Result (List (ℕ × Insn)) CodeFault
-decode_of code = do
-  insns ← insns_from 0 0 code
+unfoldable pub decode_of : Opcodes → List ℕ → Result (List (ℕ × Insn)) CodeFault
+decode_of opcodes code = do
+  insns ← insns_from opcodes 0 0 code
   with_targets insns (first_stray (stands (starts insns)) insns)

@@ -13,8 +13,9 @@ use Rattle.code_forms.specs.declared.insn.Insn.TheVariants.{Ifgt, Ifle, Iflt, If
 use Rattle.code_forms.specs.declared.insn.Insn.TheVariants.{Iload2, Iload3, Imul, Ineg, Instanceof, Invokeinterface, Invokespecial}
 use Rattle.code_forms.specs.declared.insn.Insn.TheVariants.{Invokestatic, Invokevirtual, Ior, Irem, Ireturn, Ishl, Ishr, Istore}
 use Rattle.code_forms.specs.declared.insn.Insn.TheVariants.{Istore0, Istore1, Istore2, Istore3, Isub, Iushr, Ixor, Ldc, LdcW}
-use Rattle.code_forms.specs.declared.insn.Insn.TheVariants.{Lookupswitch, New, Newarray, Nop, Pop, Pop2, Putfield, Putstatic}
-use Rattle.code_forms.specs.declared.insn.Insn.TheVariants.{Return, Saload, Sastore, Sipush, Swap, Tableswitch, WideAload}
+use Rattle.code_forms.specs.declared.insn.Insn.TheVariants.{Lookupswitch, Monitorenter, Monitorexit, New, Newarray, Nop, Pop, Pop2}
+use Rattle.code_forms.specs.declared.insn.Insn.TheVariants.{Putfield, Putstatic, Return, Saload, Sastore, Sipush, Swap, Tableswitch}
+use Rattle.code_forms.specs.declared.insn.Insn.TheVariants.{WideAload}
 use Rattle.code_forms.specs.declared.insn.Insn.TheVariants.{WideAstore, WideIinc, WideIload, WideIstore}
 
 -- the name of an instruction: its mnemonic in JVM specification 6.5, with `wide_` before it where it stands behind `wide`
@@ -122,6 +123,8 @@ name_of Arraylength = codes "arraylength"
 name_of Athrow = codes "athrow"
 name_of (Checkcast n) = codes "checkcast"
 name_of (Instanceof n) = codes "instanceof"
+name_of Monitorenter = codes "monitorenter"
+name_of Monitorexit = codes "monitorexit"
 name_of (Ifnull n) = codes "ifnull"
 name_of (Ifnonnull n) = codes "ifnonnull"
 name_of (GotoW target) = codes "goto_w"

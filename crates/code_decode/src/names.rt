@@ -112,6 +112,8 @@ pub fn name(insn: &Insn) -> &'static str
         Insn::Athrow => "athrow",
         Insn::Checkcast(_) => "checkcast",
         Insn::Instanceof(_) => "instanceof",
+        Insn::Monitorenter => "monitorenter",
+        Insn::Monitorexit => "monitorexit",
         Insn::Ifnull(_) => "ifnull",
         Insn::Ifnonnull(_) => "ifnonnull",
         Insn::GotoW(_) => "goto_w",

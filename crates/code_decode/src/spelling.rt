@@ -159,6 +159,8 @@ pub fn spelling_of(insn: &Insn) -> SpellingView<'_>
         Insn::Athrow => SpellingView::Plain(191),
         Insn::Checkcast(number) => SpellingView::Pair(192, *number),
         Insn::Instanceof(number) => SpellingView::Pair(193, *number),
+        Insn::Monitorenter => SpellingView::Plain(194),
+        Insn::Monitorexit => SpellingView::Plain(195),
         Insn::Ifnull(target) => SpellingView::Jump(198, *target),
         Insn::Ifnonnull(target) => SpellingView::Jump(199, *target),
         Insn::GotoW(target) => SpellingView::FarJump(200, *target),

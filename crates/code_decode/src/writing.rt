@@ -3,7 +3,8 @@ ghost use Rattle.std.specs.Prelude.{◌≡◌, ◌++◌, ◌∷◌, [], ◌<◌,
 ghost use Rattle.std.specs.Int.{w16, w32, to_be_bytes};
 ghost use Rattle.std.specs.Int.RustNames.{FitsSigned};
 ghost use Rattle.std.specs.List.{flat_map};
-ghost use Rattle.code_decode.specs.Codes.{decode_of};
+ghost use Rattle.code_forms.specs.declared.opcodes.Opcodes.{Opcodes};
+ghost use Rattle.code_decode.specs.Codes.{decode_of, AreOf};
 ghost use Rattle.code_decode.specs.Encoding.{plain_text, code_of, IsCode};
 ghost use Rattle.code_decode.specs.SpellingViews.{shown};
 ghost use Rattle.code_decode.specs.Texts.{signed, distance, padding_of, zeros, case_text, table_text, lookup_text, spelling_text};
@@ -264,7 +265,7 @@ fn code_of(alloc: Global, insns: &[(u16, Insn)]) -> Result<Vec<u8>, AllocError>
     Ok(out)
 }
 
-/// The code of the instructions; padding is zero bytes. Decoding it gives the list back.
+/// The code of the instructions; padding is zero bytes. Decoding it gives the list back, where all of its instructions are read.
 ///
 /// # Errors
 ///
@@ -272,7 +273,7 @@ fn code_of(alloc: Global, insns: &[(u16, Insn)]) -> Result<Vec<u8>, AllocError>
 pub fn encode(alloc: Global, insns: &[(u16, Insn)]) -> Result<Vec<u8>, AllocError>
     requires { IsCode insns.now }
     ensures bytes { IfOk result (λ v. v.items ≡ code_of insns.now) }
-    ensures law { IfOk result (λ v. decode_of v.items ≡ Ok insns.now) }
+    ensures law { (opcodes : Opcodes) → AreOf opcodes insns.now → IfOk result (λ v. decode_of opcodes v.items ≡ Ok insns.now) }
 {
     code_of(alloc, insns)
 }

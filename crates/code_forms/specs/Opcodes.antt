@@ -1,5 +1,5 @@
 -- Which instructions there are, by their operands; the opcodes are those of the table (JVM specification, chapter 7).
-use Rattle.std.specs.Prelude.{ℕ, List, [], ◌∷◌, Option, Some, None, ◌==◌, if◌then◌else◌}
+use Rattle.std.specs.Prelude.{ℕ, Bool, not, ◌||◌, List, [], ◌∷◌, Option, Some, None, ◌==◌, if◌then◌else◌}
 use Rattle.code_forms.specs.declared.insn.Insn.{Insn}
 use Rattle.code_forms.specs.declared.insn.Insn.TheVariants.{Aaload, Aastore, AconstNull, Aload, Aload0, Aload1, Aload2, Aload3}
 use Rattle.code_forms.specs.declared.insn.Insn.TheVariants.{Anewarray, Areturn, Arraylength, Astore, Astore0, Astore1, Astore2}
@@ -10,10 +10,12 @@ use Rattle.code_forms.specs.declared.insn.Insn.TheVariants.{Iconst4, Iconst5, Ic
 use Rattle.code_forms.specs.declared.insn.Insn.TheVariants.{IfIcmpge, IfIcmpgt, IfIcmple, IfIcmplt, IfIcmpne, Ifeq, Ifge, Ifgt}
 use Rattle.code_forms.specs.declared.insn.Insn.TheVariants.{Ifle, Iflt, Ifne, Ifnonnull, Ifnull, Iload, Iload0, Iload1, Iload2}
 use Rattle.code_forms.specs.declared.insn.Insn.TheVariants.{Iload3, Imul, Ineg, Instanceof, Invokespecial, Invokestatic}
+use Rattle.code_forms.specs.declared.insn.Insn.TheVariants.{Monitorenter, Monitorexit}
 use Rattle.code_forms.specs.declared.insn.Insn.TheVariants.{Invokevirtual, Ior, Irem, Ireturn, Ishl, Ishr, Istore, Istore0, Istore1}
 use Rattle.code_forms.specs.declared.insn.Insn.TheVariants.{Istore2, Istore3, Isub, Iushr, Ixor, Ldc, LdcW, New, Nop, Pop, Pop2}
 use Rattle.code_forms.specs.declared.insn.Insn.TheVariants.{Putfield, Putstatic, Return, Saload, Sastore, Swap, WideAload}
 use Rattle.code_forms.specs.declared.insn.Insn.TheVariants.{WideAstore, WideIload, WideIstore}
+use Rattle.code_forms.specs.declared.opcodes.Opcodes.{Opcodes}
 use Rattle.code_forms.specs.Spellings as spellings
 use Rattle.code_forms.specs.Spellings.{Spelling, spelling}
 
@@ -34,6 +36,12 @@ opcode_of (spellings.Array op code) = op
 opcode_of (spellings.WideLocal op n) = op
 opcode_of (spellings.WideIncrement op n v) = op
 
+-- the first byte of an instruction's form: its opcode, or 196, `wide`, where that stands before it
+abbrev pub first_byte : Spelling → ℕ
+first_byte (spellings.WideLocal op n) = 196
+first_byte (spellings.WideIncrement op n v) = 196
+first_byte s = opcode_of s
+
 -- the first of these instructions that has the opcode, none where none has it
 abbrev pub find : List Insn → ℕ → Option Insn
 find [] op = None
@@ -53,13 +61,13 @@ plain_low =
     Istore2 ∷ Istore3 ∷ Astore0 ∷ Astore1 ∷ Astore2 ∷ Astore3 ∷ Iastore ∷ Aastore ∷
     Bastore ∷ Castore ∷ Sastore ∷ []
 
--- the instructions without operands: the stack, numbers, returns, arrays and throws
+-- the instructions without operands: the stack, numbers, returns, arrays, throws and monitors
 abbrev pub plain_high : List Insn
 plain_high =
     Pop ∷ Pop2 ∷ Dup ∷ DupX1 ∷ DupX2 ∷ Dup2 ∷ Dup2X1 ∷ Dup2X2 ∷
     Swap ∷ Iadd ∷ Isub ∷ Imul ∷ Idiv ∷ Irem ∷ Ineg ∷ Ishl ∷
     Ishr ∷ Iushr ∷ Iand ∷ Ior ∷ Ixor ∷ I2b ∷ I2c ∷ I2s ∷
-    Ireturn ∷ Areturn ∷ Return ∷ Arraylength ∷ Athrow ∷ []
+    Ireturn ∷ Areturn ∷ Return ∷ Arraylength ∷ Athrow ∷ Monitorenter ∷ Monitorexit ∷ []
 
 -- the instructions with a number of one byte: a pool entry or a local
 abbrev pub with_byte : List (ℕ → Insn)
@@ -90,3 +98,10 @@ first_of None other = other
 -- the instruction without operands that has the opcode
 abbrev pub plain : ℕ → Option Insn
 plain op = first_of (find plain_low op) (find plain_high op)
+
+-- ---- which opcodes are read
+
+-- an opcode is that of an instruction that is read: those of monitors are read where they are wanted (JVM specification, 6.5.monitorenter
+-- and 6.5.monitorexit), all others always
+abbrev pub is_read : Opcodes → ℕ → Bool
+is_read opcodes op = opcodes.monitors || not ((op == 194) || (op == 195))

@@ -14,8 +14,9 @@ use Rattle.code_forms.specs.declared.insn.Insn.TheVariants.{Ifgt, Ifle, Iflt, If
 use Rattle.code_forms.specs.declared.insn.Insn.TheVariants.{Iload2, Iload3, Imul, Ineg, Instanceof, Invokeinterface, Invokespecial}
 use Rattle.code_forms.specs.declared.insn.Insn.TheVariants.{Invokestatic, Invokevirtual, Ior, Irem, Ireturn, Ishl, Ishr, Istore}
 use Rattle.code_forms.specs.declared.insn.Insn.TheVariants.{Istore0, Istore1, Istore2, Istore3, Isub, Iushr, Ixor, Ldc, LdcW}
-use Rattle.code_forms.specs.declared.insn.Insn.TheVariants.{Lookupswitch, New, Newarray, Nop, Pop, Pop2, Putfield, Putstatic}
-use Rattle.code_forms.specs.declared.insn.Insn.TheVariants.{Return, Saload, Sastore, Sipush, Swap, Tableswitch, WideAload}
+use Rattle.code_forms.specs.declared.insn.Insn.TheVariants.{Lookupswitch, Monitorenter, Monitorexit, New, Newarray, Nop, Pop, Pop2}
+use Rattle.code_forms.specs.declared.insn.Insn.TheVariants.{Putfield, Putstatic, Return, Saload, Sastore, Sipush, Swap, Tableswitch}
+use Rattle.code_forms.specs.declared.insn.Insn.TheVariants.{WideAload}
 use Rattle.code_forms.specs.declared.insn.Insn.TheVariants.{WideAstore, WideIinc, WideIload, WideIstore}
 
 -- The form of an instruction in a code: its opcode, which is the first number, and the operands behind it.
@@ -154,6 +155,8 @@ spelling Arraylength = Plain 190
 spelling Athrow = Plain 191
 spelling (Checkcast n) = Pair 192 n
 spelling (Instanceof n) = Pair 193 n
+spelling Monitorenter = Plain 194
+spelling Monitorexit = Plain 195
 spelling (Ifnull target) = Jump 198 target
 spelling (Ifnonnull target) = Jump 199 target
 spelling (GotoW target) = FarJump 200 target

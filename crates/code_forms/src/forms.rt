@@ -82,6 +82,8 @@ fn plain_high(op: u8) -> Option<Insn>
         177 => Some(Insn::Return),
         190 => Some(Insn::Arraylength),
         191 => Some(Insn::Athrow),
+        194 => Some(Insn::Monitorenter),
+        195 => Some(Insn::Monitorexit),
         _ => None,
     }
 }

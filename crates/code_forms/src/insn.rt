@@ -232,6 +232,10 @@ pub enum Insn {
     Checkcast(u16),
     /// `instanceof`, opcode 193, with the pool entry.
     Instanceof(u16),
+    /// `monitorenter`, opcode 194.
+    Monitorenter,
+    /// `monitorexit`, opcode 195.
+    Monitorexit,
     /// `ifnull`, opcode 198, with the target.
     Ifnull(u16),
     /// `ifnonnull`, opcode 199, with the target.

@@ -8,6 +8,7 @@ mod cases;
 mod fault;
 mod forms;
 mod insn;
+mod opcodes;
 mod starts;
 mod table;
 
@@ -17,5 +18,6 @@ pub use class_base::{Handler, list_views};
 pub use fault::CodeFault;
 pub use forms::{plain, wide_local, with_byte, with_jump, with_pair};
 pub use insn::{Case, Insn};
+pub use opcodes::Opcodes;
 pub use starts::Starts;
 pub use table::{check_table, table_is_good};

@@ -4,8 +4,7 @@
 -- What a row does not find has no type after it. Uninitialised objects are not told apart. Stacks are lists, the top first.
 use Rattle.std.specs.Prelude.{ℕ, ◌++◌, nat_lt, Bool, true, false, if◌then◌else◌, List, [], ◌∷◌, length, map, reverse, slice_get}
 use Rattle.std.specs.Prelude.{slice_set, Option, Some, None}
-use Rattle.std.specs.Option.{option_map, option_map_or}
-use Rattle.std.specs.Str.{bytes_eq}
+use Rattle.std.specs.Option.{option_map}
 use Rattle.list_views.specs.Options.{◌>>=◌, asked}
 use Rattle.jvm_values.specs.declared.types.Slot.{Slot}
 use Rattle.jvm_values.specs.declared.types.Slot.TheVariants as slots
@@ -17,11 +16,10 @@ use Rattle.jvm_values.specs.TypedHeaps.{WorldTypes}
 use Rattle.class_program.specs.class_world.World.{World}
 use Rattle.class_program.specs.class_world.Types.{erase}
 use Rattle.class_program.specs.class_world.WorldTypes.{types_of}
-use Rattle.class_program.specs.class_world.Resolve.{method_at}
 use Rattle.class_program.specs.class_world.BuiltIns.{throwable}
 use Rattle.class_program.specs.declared.op.Call.{Call}
 use Rattle.class_program.specs.declared.program.Method.{Method}
-use Rattle.class_program.specs.Ops.{constructor_name}
+use Rattle.class_program.specs.Ops.{takes_any_receiver}
 use Rattle.class_program.specs.Programs.{Program}
 use Rattle.op_forms.specs.declared.form.Shuffle.{Shuffle as StackShuffle}
 use Rattle.op_forms.specs.Forms.{Form, shuffled}
@@ -122,16 +120,12 @@ aaload_types types frame = do
 abbrev pub argument_wants : Call → List Want
 argument_wants call = map want_of (reverse call.params)
 
--- the named method of a call is `<init>` (JVM specification 2.9)
-abbrev pub is_constructor : World → Call → Bool
-is_constructor world call = option_map_or (λ m. bytes_eq m.name constructor_name) (method_at world call.method) false
-
 -- What `invokespecial` asks of its receiver in a method of class `current`: an object of the named class and, unless the
--- method is `<init>`, of the current class too. Where the current class is an interface, it stands for Object (JVM
+-- method is `<init>` or stands for monitors, of the current class too. Where the current class is an interface, it stands for Object (JVM
 -- specification 4.10.1.9, invokespecial).
 abbrev pub special_receiver : World → ℕ → Call → Want
 special_receiver world current call =
-    if is_constructor world call then wants.Below (class_type call.class)
+    if takes_any_receiver world call then wants.Below (class_type call.class)
     else wants.BelowBoth (class_type call.class) (class_type current)
 
 -- the types after a call that takes a receiver below its arguments, and gives the method's result if it has one

@@ -7,10 +7,12 @@ ghost use Rattle.std.specs.Prelude.{slice_get, slice_set};
 ghost use Rattle.std.specs.Option.{option_map};
 ghost use Rattle.jvm_values.specs.States.{types_of as seen};
 ghost use Rattle.jvm_values.specs.Subtyping.{class_type, array_of};
+ghost use Rattle.class_program.specs.class_world.class_read.View.{method_content};
+ghost use Rattle.class_program.specs.Ops.{is_monitor_call, takes_any_receiver};
 ghost use Rattle.class_program.specs.Views.{program_of};
 ghost use Rattle.code_verify.specs.Operands.{place_of, want_of};
 ghost use Rattle.code_verify.specs.Rows.{taken, acted, with_result, iload_types, aload_types, istore_types, astore_types};
-ghost use Rattle.code_verify.specs.Rows.{iinc_types, aaload_types, is_constructor, special_receiver, argument_wants, called};
+ghost use Rattle.code_verify.specs.Rows.{iinc_types, aaload_types, special_receiver, argument_wants, called};
 ghost use Rattle.code_verify.specs.Rows.{ireturn_types, areturn_types, static_slot, getstatic_types, putstatic_types};
 
 use crate::operands::{
@@ -18,6 +20,8 @@ use crate::operands::{
 };
 use crate::want::Want;
 use class_program::class_world::World;
+use class_program::class_world::built_ins::OBJECT;
+use class_program::class_world::class_read::MethodView;
 use class_program::{Call, Program};
 use jvm_values::{FrameType, PlaceType, Slot, Ty, Types, array_of, class_type};
 use list_views::Seq;
@@ -156,12 +160,19 @@ pub(crate) fn aaload(world: &World<'_>, frame: &mut FrameType) -> Result<bool, A
     Ok(true)
 }
 
-/// Whether the method of a call is `<init>`.
-fn is_constructor(world: &World<'_>, call: &Call) -> bool
-    ensures { result ≡ is_constructor (classes_of world.now) call.now }
+/// Whether a call is of the method of Object that stands for monitors.
+fn is_monitor_call(call: &Call, method: &MethodView<'_>) -> bool
+    ensures { result ≡ is_monitor_call call.now (method_content method.now) }
+{
+    call.class == OBJECT && call.method.class == OBJECT && method.name == b"<monitor>".as_slice()
+}
+
+/// Whether a call takes any object of the named class: one of `<init>`, or of the method that stands for monitors.
+fn takes_any_receiver(world: &World<'_>, call: &Call) -> bool
+    ensures { result ≡ takes_any_receiver (classes_of world.now) call.now }
 {
     match world.method_at(call.method) {
-        Some(method) => method.name == b"<init>".as_slice(),
+        Some(method) => method.name == b"<init>".as_slice() || is_monitor_call(call, method),
         None => false,
     }
 }
@@ -170,7 +181,7 @@ fn is_constructor(world: &World<'_>, call: &Call) -> bool
 pub(crate) fn special_receiver(world: &World<'_>, current: u32, call: &Call) -> Want
     ensures { result ≡ special_receiver (classes_of world.now) current call.now }
 {
-    if is_constructor(world, call) {
+    if takes_any_receiver(world, call) {
         Want::Below(class_type(call.class))
     } else {
         Want::BelowBoth(class_type(call.class), class_type(current))

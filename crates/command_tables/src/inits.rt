@@ -1,6 +1,6 @@
-//! `init-52`: a command, its number or nothing, texts and class files, for classes that are initialised before the run: what `prove`,
-//! `run` and
-//! `loop` say; of `link` the methods that the entry of a description reaches in the world that its lines set up, or why there are none.
+//! `init-52`, `strings-52`, `monitors-52`: a command, its number or nothing, texts and class files, for classes that are initialised before
+//! the run, for string constants and messages, and for monitors: what `prove`, `run` and `loop` say; of `link` the methods that the entry
+//! of a description reaches in the world that its lines set up, or why there are none.
 ghost use Rattle.std.specs.Prelude.{◌≤◌, length};
 ghost use Rattle.class_program.specs.class_world.class_base.Limits.{most_classes};
 

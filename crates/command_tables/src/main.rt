@@ -1,7 +1,7 @@
 //! Answers the cases of the tables of commands: `link-52`, `jvm-52` and five more of linking, `run`, `run-52`, `check`, `check-2`, and four
-//! more of checks, `prove` and `prove-int`, `throws`, `migrate`, `bound`, and `init-52` of texts of form 3: each line of the input is
-//! the name of a table, a tab and the input fields of a
-//! case, divided by tabs. The answer to each comes on a line of its own.
+//! more of checks, `prove` and `prove-int`, `throws`, `migrate`, `bound`, and `init-52`, `strings-52` and `monitors-52` of texts of form 3:
+//! each line of the input is the name of a table, a tab and the input fields of a case, divided by tabs. The answer to each comes on a
+//! line of its own.
 #![tactic(auto)]
 
 mod bounds;
@@ -34,7 +34,7 @@ impl Answers for Cases {
             "throws" => throws::answer(alloc, case),
             "migrate" => migrates::answer(alloc, case),
             "bound" => bounds::answer(alloc, case),
-            "init-52" => inits::answer(alloc, case),
+            "init-52" | "strings-52" | "monitors-52" => inits::answer(alloc, case),
             _ => bail!("the table is not known"),
         }
     }

@@ -244,8 +244,7 @@ names_it desc files given a =
       linked = subst (IsWorldOf (set_up text.0.world a.0)) (sym made.world_is) world.1.0;
       entry = subst (λ (e : MethodRef). entry_of program.0.world text.0.entry ≡ Ok e) (sym made.entry_is) here;
       closed = made.closed;
-      faultless = described.1.0.0;
-      is_described = described.1.0.1;
+      is_described = described.1.0;
     } in
     subst (λ (d : Desc). NameProgram files desc (program_of given.program) d) is.1.1
     (subst (λ (q : Program). NameProgram files desc q described.0) is.0 named)

@@ -33,7 +33,8 @@ use Rattle.input_text.specs.declared.texts.DescText.{DescText}
 use Rattle.input_desc.specs.declared.desc.Input.{Input}
 use Rattle.input_desc.specs.declared.desc.Input.TheVariants.{Int, Ref}
 use Rattle.input_desc.specs.declared.desc.Desc.{Desc}
-use Rattle.input_desc.specs.Descs.{desc_fault, IsDescribed}
+use Rattle.input_desc.specs.Constants.{filled, completed}
+use Rattle.input_desc.specs.Descs.{desc_fault, inputs_from}
 use Rattle.input_desc.specs.Fitting.{FitsInput, FitsDescription}
 use Rattle.input_desc.specs.Given.{params_of, statics_of, argument_slot, slots_of}
 use Rattle.input_desc.proofs.Faultless.{counted}
@@ -87,7 +88,8 @@ locals_length args max_locals fits =
 -- ---- a state of given inputs
 
 module _ (p : Program) (text : DescText) (described : Desc) (closed : IsClosed p) (faultless : desc_fault p text ≡ None)
-    (is : IsDescribed p text described) (typings : HasTypings p) (can : AllByRecursion (CanBeGiven p.world) described.inputs) where
+    (inputs_are : map Some described.inputs ≡ inputs_from p.world (slots_of p) (text.params ++ text.statics)) (typings : HasTypings p)
+    (can : AllByRecursion (CanBeGiven p.world) described.inputs) where
   laws : Laws p.world
   laws = world_laws p.world closed.known.linked
 
@@ -126,11 +128,11 @@ module _ (p : Program) (text : DescText) (described : Desc) (closed : IsClosed p
 
   fit : AllZip (FitsInput (types_of p.world) new_heap) described.inputs all
   fit = all_fit p.world new_heap laws (every_shape objects (all_bare p.world described.inputs can)) 0 described.inputs can
-      (have_ints p.world (slots_of p) (text.params ++ text.statics) described.inputs is.inputs_are)
+      (have_ints p.world (slots_of p) (text.params ++ text.statics) described.inputs inputs_are)
       (λ k. let same : k + 0 ≡ k = omega arith in ap (slice_get objects) same)
 
   hold : AllZip (Holds (types_of p.world) new_heap) (slots_of p) all
-  hold = all_hold p.world new_heap (slots_of p) (text.params ++ text.statics) described.inputs all laws texts_are is.inputs_are fit
+  hold = all_hold p.world new_heap (slots_of p) (text.params ++ text.statics) described.inputs all laws texts_are inputs_are fit
 
   many : length args ≡ count
   many =
@@ -211,11 +213,16 @@ all_can world heap (input ∷ inputs) (value ∷ given) typed h =
 -- ---- the law
 
 pub some_fits : SomeStateFits
+unfolding completed
 some_fits desc files p described named typings = (
   λ can.
-      let each = recursion_from_All (CanBeGiven p.world) described.inputs can in (
-        state p named.text described named.closed named.faultless named.is_described typings each,
-        state_fits p named.text described named.closed named.faultless named.is_described typings each,
+      let each = recursion_from_All (CanBeGiven p.world) described.inputs can in
+      let text = filled p named.text in
+      let faultless = named.is_described.1.0 in
+      let inputs_are : map Some described.inputs ≡ inputs_from p.world (slots_of p) (text.params ++ text.statics) =
+      ap (λ (d : Desc). map Some d.inputs) named.is_described.2 ∙ named.is_described.1.1.inputs_are in (
+        state p text described named.closed faultless inputs_are typings each,
+        state_fits p text described named.closed faultless inputs_are typings each,
       ),
   λ h. All-from_recursion (CanBeGiven p.world) described.inputs
       (all_can p.world h.0.heap described.inputs (h.1.args ++ h.0.statics) h.1.typed h.1.inputs),

@@ -30,6 +30,6 @@ named_once files desc p q d e h k =
     let entry : p.entry ≡ q.entry = ok_one (entry_of q.world k.text.entry) p.entry q.entry found k.entry in
     let program : p ≡ q = (program_exact q.world q.entry).one p q (record { world_is = world; entry_is = entry; closed = h.closed })
     (record { world_is = refl; entry_is = refl; closed = k.closed }) in
-    let said : IsDesc p k.text d = subst (λ (t : DescText). IsDesc p t d) text (h.faultless, h.is_described) in
+    let said : IsDesc p k.text d = subst (λ (t : DescText). IsDesc p t d) text h.is_described in
     let described : IsDesc q k.text d = subst (λ (r : Program). IsDesc r k.text d) program said in
-    (program, desc_one q k.text d e described (k.faultless, k.is_described))
+    (program, desc_one q k.text d e described k.is_described)

@@ -13,11 +13,12 @@ use Rattle.jvm_values.proofs.Options.{some_is}
 use Rattle.class_base.specs.ClassNames.{is_name_byte, is_class_name}
 use Rattle.class_read.specs.Content.{ClassContent}
 use Rattle.class_read.specs.Rules.{Spells}
-use Rattle.class_world.specs.World.{World, built_ins, built_in_names}
+use Rattle.class_world.specs.declared.features.Features.{Features}
+use Rattle.class_world.specs.World.{World, built_ins_with, built_in_rows}
 use Rattle.class_program.specs.Programs.{Program}
 use Rattle.input_desc.specs.declared.desc.Desc.{Desc}
 use Rattle.input_steps.specs.Classes.{AllSpell}
-use Rattle.input_steps.specs.SetUp.{set_up}
+use Rattle.input_steps.specs.SetUp.{features_said, entered}
 use Rattle.input_steps.proofs.SetUp.{set_up_names}
 use Rattle.desc_steps.specs.Headline.{NameProgram}
 use Rattle.desc_steps.specs.Names.{names_of}
@@ -66,9 +67,9 @@ plain_names (name ∷ names) h =
     and_from (is_class_name name) (list_all is_class_name names)
     (and_from (nat_lt 0 (length name) && list_all is_name_byte name) (is_utf8 name) parts.0 text) (plain_names names both.1)
 
-built_in_names_are : AreNames built_ins
-unfolding built_in_names
-built_in_names_are = plain_names (names_of built_ins) refl
+built_in_rows_are : (features : Features) → AreNames (built_ins_with features)
+unfolding built_in_rows
+built_in_rows_are features = plain_names (names_of (built_ins_with features)) refl
 
 spelled_names : (files : List (List ℕ)) (classes : List ClassContent) → AllSpell files classes → AreNames classes
 spelled_names [] [] s = refl
@@ -91,6 +92,7 @@ pub names_are : (files : List (List ℕ)) (desc : List ℕ) (p : Program) (descr
     → list_all is_class_name (names_of p.world) ≡ true
 names_are files desc p described named =
     ap (λ (world : World). list_all is_class_name (names_of world)) named.linked.world_is
-    ∙ joined_names built_ins (set_up named.text.world named.classes) built_in_names_are
+    ∙ joined_names (built_ins_with (features_said named.text.world)) (entered named.text.world named.classes)
+    (built_in_rows_are (features_said named.text.world))
     (ap (λ (names : List (List ℕ)). list_all is_class_name names) (set_up_names named.text.world named.classes)
     ∙ spelled_names files named.classes named.spelled)

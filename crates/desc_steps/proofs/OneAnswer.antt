@@ -1,6 +1,7 @@
--- Each step gives one thing or refuses for one fault, so an input has one refusal at most, and a command one answer where it says one thing.
+-- Each step gives one thing or refuses for one fault, so an input has one refusal at most, and a command one answer where it says one
+-- thing.
 use Rattle.std.proofs.Common.{◌≡◌, ◌∙◌, ℕ, List, Option, Some, None, slice_get, Result, Ok}
-use Rattle.std.proofs.Common.{refl, sym}
+use Rattle.std.proofs.Common.{refl, sym, ap}
 use Rattle.std.specs.Prelude.{IsTrue}
 use Rattle.list_views.proofs.Items.{get_past}
 use Rattle.list_views.proofs.Options.{one_answer}
@@ -17,7 +18,8 @@ use Rattle.input_text.specs.Descriptions.{description_of}
 use Rattle.input_text.specs.declared.texts.DescText.{DescText}
 use Rattle.input_text.specs.declared.fault.DescFault.{DescFault}
 use Rattle.input_desc.specs.declared.desc.Desc.{Desc}
-use Rattle.input_desc.specs.Descs.{desc_fault}
+use Rattle.input_desc.specs.Constants.{filled, completed}
+use Rattle.input_desc.specs.Descs.{desc_fault, Describes}
 use Rattle.input_desc.specs.Entries.{entry_of}
 use Rattle.input_steps.specs.declared.refused.Refused.{Refused}
 use Rattle.input_steps.specs.declared.refused.Place.TheVariants as places
@@ -34,19 +36,23 @@ use Rattle.desc_steps.specs.Descriptions.{IsDescText, RefusesText, RefusesEntry,
 
 -- ---- what is described
 
-pub desc_one : (p : Program) (text : DescText) (a b : Desc) → IsDesc p text a → IsDesc p text b → a ≡ b
-desc_one p text a b h k =
+-- a text describes one thing
+written_one : (p : Program) (text : DescText) (a b : Desc) → Describes p text (Ok a) → Describes p text (Ok b) → a ≡ b
+written_one p text a b h k =
     let inputs : a.inputs ≡ b.inputs = map_some_one a.inputs b.inputs (h.1.inputs_are ∙ sym k.1.inputs_are) in
     let same : a.same ≡ b.same = h.1.same_is ∙ sym k.1.same_is in
     let share : a.share ≡ b.share = h.1.share_is ∙ sym k.1.share_is in
     λ i. record { inputs = inputs i; same = same i; share = share i }
 
+pub desc_one : (p : Program) (text : DescText) (a b : Desc) → IsDesc p text a → IsDesc p text b → a ≡ b
+desc_one p text a b h k = h.2 ∙ ap (completed p) (written_one p (filled p text) h.0 k.0 h.1 k.1) ∙ sym k.2
+
 pub desc_exact : (p : Program) (text : DescText) → IsExact (IsDesc p text) (RefusesDesc p text)
 desc_exact p text = record {
   one = desc_one p text;
-  apart = λ described place fault h r. none_some (desc_fault p text) r.cause h.0 r.holds;
-  named = at_one {C = DescFault} (λ fault. places.Description) faults.Desc (λ fault. desc_fault p text ≡ Some fault)
-      (λ f g h k. one_answer (desc_fault p text) f g h k);
+  apart = λ described place fault h r. none_some (desc_fault p (filled p text)) r.cause h.1.0 r.holds;
+  named = at_one {C = DescFault} (λ fault. places.Description) faults.Desc (λ fault. desc_fault p (filled p text) ≡ Some fault)
+      (λ f g h k. one_answer (desc_fault p (filled p text)) f g h k);
 }
 
 -- ---- typings

@@ -7,7 +7,8 @@ use Rattle.input_text.specs.Answers.{SaysOf}
 use Rattle.input_text.specs.Descriptions.{description_of}
 use Rattle.input_text.specs.declared.texts.DescText.{DescText}
 use Rattle.input_desc.specs.declared.desc.Desc.{Desc}
-use Rattle.input_desc.specs.Descs.{desc_fault, Describes}
+use Rattle.input_desc.specs.Constants.{filled, DescribesInputs}
+use Rattle.input_desc.specs.Descs.{desc_fault}
 use Rattle.input_desc.specs.Entries.{entry_of}
 use Rattle.input_steps.specs.declared.refused.Place.{Place}
 use Rattle.input_steps.specs.declared.refused.Place.TheVariants as places
@@ -27,13 +28,13 @@ RefusesText desc = OfInput places.Description (IsTextFault description_of desc)
 abbrev pub RefusesEntry : World → DescText → Place → Fault → Type 0
 RefusesEntry world text = OfInput places.Description (λ fault. entry_of world text.entry ≡ Err fault)
 
--- a description's text says this of the inputs of a program
+-- a description's text says this of the inputs of a program, string constants among them
 abbrev pub IsDesc : Program → DescText → Desc → Type 0
-IsDesc p text described = Describes p text (Ok described)
+IsDesc p text described = DescribesInputs p text (Ok described)
 
--- a description is refused for its first fault against the program
+-- a description is refused for its first fault against the program; what is said of string constants is filled in
 abbrev pub RefusesDesc : Program → DescText → Place → Fault → Type 0
-RefusesDesc p text = OfInput places.Description (λ fault. desc_fault p text ≡ Some fault)
+RefusesDesc p text = OfInput places.Description (λ fault. desc_fault p (filled p text) ≡ Some fault)
 
 -- ---- the steps
 

@@ -1,5 +1,5 @@
 -- What the headline says of the bytes of a description and of class files.
-use Rattle.std.specs.Prelude.{◌≡◌, ℕ, List, None, Ok}
+use Rattle.std.specs.Prelude.{◌≡◌, ℕ, List, Ok}
 use Rattle.jvm_values.specs.States.{MachineState}
 use Rattle.class_read.specs.Content.{ClassContent}
 use Rattle.class_program.specs.Programs.{Program, IsClosed}
@@ -8,7 +8,7 @@ use Rattle.input_text.specs.Answers.{SaysOf}
 use Rattle.input_text.specs.Descriptions.{description_of}
 use Rattle.input_text.specs.declared.texts.DescText.{DescText}
 use Rattle.input_desc.specs.declared.desc.Desc.{Desc}
-use Rattle.input_desc.specs.Descs.{desc_fault, IsDescribed}
+use Rattle.input_desc.specs.Constants.{DescribesInputs}
 use Rattle.input_desc.specs.Entries.{entry_of}
 use Rattle.input_desc.specs.Fitting.{FitsDescription}
 use Rattle.input_steps.specs.Classes.{AllSpell, IsWorldOf}
@@ -17,7 +17,7 @@ use Rattle.input_steps.specs.SetUp.{set_up}
 -- Class files and a description name this program and this description of its inputs. The files spell classes. The description says a
 -- text; as its lines say, the classes enter the program's world, which they link and make. The text's method is the program's entry.
 -- The program is closed: it has the methods that the entry reaches, itself first, and the static fields that these name. The text has
--- no fault against it, and says this.
+-- no fault against it, and says this, with what is so of string constants.
 pub record NameProgram (files : List (List ℕ)) (desc : List ℕ) (program : Program) (described : Desc) : Type 0 where
   pub classes : List ClassContent
   pub spelled : AllSpell files classes
@@ -26,8 +26,7 @@ pub record NameProgram (files : List (List ℕ)) (desc : List ℕ) (program : Pr
   pub linked : IsWorldOf (set_up text.world classes) program.world
   pub entry : entry_of program.world text.entry ≡ Ok program.entry
   pub closed : IsClosed program
-  pub faultless : desc_fault program text ≡ None
-  pub is_described : IsDescribed program text described
+  pub is_described : DescribesInputs program text (Ok described)
 
 -- every state that a description fits comes to an end, and none is stuck
 abbrev pub AllFittingEnd : Program → Desc → Type 0

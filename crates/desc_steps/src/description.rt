@@ -46,7 +46,7 @@ pub fn entry_of(world: &World<'_>, text: &DescText) -> Result<MethodRef, Refused
     }
 }
 
-/// What a description says of a program's inputs.
+/// What a description says of a program's inputs, and what is so of string constants among them.
 ///
 /// # Errors
 ///
@@ -57,7 +57,7 @@ pub fn described(alloc: Global, program: &Program<'_>, text: DescText) -> Result
     ensures good { IfOk result (IsGoodDesc (program_of program.now)) }
     ensures refused { IfErr result (IsCaused (RefusesDesc (program_of program.now) text)) }
 {
-    match Desc::fit(alloc, text, program) {
+    match Desc::of(alloc, text, program) {
         Ok(described) => Ok(described),
         Err(fault) => Err(refuse_desc(Place::Description, fault)),
     }

@@ -1,3 +1,5 @@
+pub mod Completed
+pub mod CompletedPairs
 pub mod Faultless
 pub mod Fitted
 pub mod GoodDescs

@@ -212,7 +212,7 @@ typed : (p : Program) (texts' : List ObjectText) (given : StateInput)
 typed p texts' given e same =
     let types = types_of p.world in
     let heap = given.heap in
-    let clean = faultless types (params_of p) (statics_of p) (all_of heap) given.args given.statics e in
+    let clean = faultless types (params_of p) (statics_of p) (all_of heap) given.args given.statics (both_none _ _ e).0 in
     let named = all_named p.world texts' heap.objects same in
     let good = all_good types (all_of heap) 0 heap.objects clean.objects_fit in
     let args_count : length given.args ≡ length (map argument_slot (params_of p)) = clean.args_count
@@ -246,7 +246,7 @@ typed_input p text given h =
 pub there_without_fault : (p : Program) (objects : Objects) (args statics : List Value) → fault_of p objects args statics ≡ None
     → list_all is_some objects ≡ true
 there_without_fault p objects args statics e =
-    let clean = faultless (types_of p.world) (params_of p) (statics_of p) objects args statics e in
+    let clean = faultless (types_of p.world) (params_of p) (statics_of p) objects args statics (both_none _ _ e).0 in
     all_are_there (types_of p.world) objects 0 objects clean.objects_fit
 
 pub typed_if_given : (p : Program) (text : StateText) (result : Result StateInput DescFault) → GivesState p text result

@@ -1,12 +1,14 @@
 -- What a program asks for: a value for each parameter of its entry method and for each of its static fields. These are its inputs.
 use Rattle.std.specs.Prelude.{ℕ, List, [], ◌++◌, slice_get, map, Option, Some, None}
 use Rattle.std.specs.Option.{option_map_or}
+use Rattle.std.specs.Str.{bytes_eq}
 use Rattle.jvm_values.specs.declared.types.Kind.TheVariants as kinds
 use Rattle.jvm_values.specs.declared.types.Slot.{Slot}
 use Rattle.jvm_values.specs.declared.types.Slot.TheVariants as slots
 use Rattle.jvm_values.specs.declared.heap.Value.{Value}
 use Rattle.jvm_values.specs.Slots.{initial_value}
 use Rattle.class_program.specs.declared.program.StaticField.{StaticField}
+use Rattle.class_program.specs.Ops.{constant_desc}
 use Rattle.class_program.specs.Programs.{Program}
 
 -- what the parameters of a program's entry method hold: this method's number is 0
@@ -16,6 +18,10 @@ params_of p = option_map_or (λ m. m.params) (slice_get p.methods 0) []
 -- what a static field holds
 abbrev pub field_slot : StaticField → Slot
 field_slot s = s.slot
+
+-- a static field of a program is a string constant
+abbrev pub is_constant : StaticField → Bool
+is_constant s = bytes_eq s.desc constant_desc
 
 -- what the static fields of a program hold
 abbrev pub statics_of : Program → List Slot

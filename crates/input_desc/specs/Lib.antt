@@ -2,6 +2,7 @@ pub mod Descs
 pub mod Fitting
 pub mod Given
 pub mod Narrow
+pub mod Constants
 pub mod States
 pub mod Initial
 pub mod Entries

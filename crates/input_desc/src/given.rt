@@ -1,7 +1,7 @@
 //! What a program asks for.
 ghost use Rattle.std.specs.Prelude.{◌≡◌, IfOk, map};
 ghost use Rattle.class_program.specs.Views.{program_of};
-ghost use Rattle.input_desc.specs.Given.{argument_slot, field_slot, slots_of, statics_of, static_values};
+ghost use Rattle.input_desc.specs.Given.{argument_slot, is_constant, field_slot, slots_of, statics_of, static_values};
 ghost use Rattle.input_desc.specs.Narrow.{arguments_of, slots_in};
 
 use class_program::{Program, StaticField};
@@ -28,6 +28,13 @@ fn argument_slots(alloc: Global, params: &[Slot]) -> Result<Seq<Slot>, AllocErro
         slots.push(argument_slot(*slot))?;
     }
     Ok(slots)
+}
+
+/// Whether a static field is a string constant.
+pub(crate) fn is_constant(field: &StaticField<'_>) -> bool
+    ensures { result ≡ is_constant field.now }
+{
+    field.desc.as_slice() == b"Ljava/lang/String;\"".as_slice()
 }
 
 /// What static fields hold.

@@ -2,6 +2,7 @@
 #![tactic(auto)]
 
 mod beginning;
+mod constants;
 mod desc;
 mod entries;
 mod fit;
@@ -12,6 +13,7 @@ mod there;
 mod typed;
 
 pub use beginning::initial;
+pub use constants::{constant_count, constants_are_last};
 pub use desc::{Desc, Input};
 pub use entries::{entry, state_entry};
 pub use fit::has_receiver;

@@ -3,14 +3,14 @@ ghost use Rattle.std.specs.Prelude.{◌≡◌, ◌++◌, IfOk, map, length};
 ghost use Rattle.class_world.specs.Worlds.{classes_of};
 ghost use Rattle.class_world.specs.WorldTypes.{types_of};
 ghost use Rattle.class_program.specs.Views.{program_of};
-ghost use Rattle.input_desc.specs.Given.{static_values};
+ghost use Rattle.input_desc.specs.Given.{params_of, statics_of, static_values};
 ghost use Rattle.input_desc.specs.Typed.{object_of};
-ghost use Rattle.input_desc.specs.States.{Gives, GivesState, IsTypedInput, fault_of, value_fault};
+ghost use Rattle.input_desc.specs.States.{Gives, GivesState, IsTypedInput, first_fault, fault_of, is_null, null_constant, value_fault};
 
-use crate::given::{inputs, static_values};
+use crate::given::{inputs, is_constant, static_values};
 use crate::there::all_there;
 use crate::typed::{first_bad, first_held, object};
-use class_program::Program;
+use class_program::{Program, StaticField};
 use class_world::World;
 use input_text::{DescFault, ObjectText, StateText};
 use jvm_values::{Heap, Object, Slot, Value};
@@ -72,16 +72,41 @@ fn value_fault(
     }
 }
 
-/// The first fault of arguments, of values of static fields and of objects.
+/// Whether a value is null.
+fn is_null(value: &Value) -> bool
+    ensures { result ≡ is_null value.now }
+{
+    matches!(value, Value::Null)
+}
+
+/// The first static field that is a string constant and is given null, numbered behind the arguments.
+fn null_constant(fields: &[StaticField<'_>], values: &[Value], args: &[Value]) -> Option<usize>
+    ensures { result ≡ null_constant (length args.now) fields.now values.now }
+{
+    for (n, field) in fields.iter().enumerate() {
+        match values.get(n) {
+            Some(value) => {
+                if is_constant(field) && is_null(value) {
+                    return Some(args.len() + n);
+                }
+            }
+            None => return None,
+        }
+    }
+    None
+}
+
+/// The first fault of arguments, of values of static fields and of objects, beside string constants that are null.
 #[tactic(auto, unfolding(crate::specs::States::first_fault))]
-fn first_fault(
+fn typing_fault(
     alloc: Global,
     program: &Program<'_>,
     objects: &[Option<Object>],
     args: &[Value],
     statics: &[Value],
 ) -> Result<Option<DescFault>, AllocError>
-    ensures { IfOk result (λ fault. fault ≡ fault_of (program_of program.now) objects.now args.now statics.now) }
+    ensures { IfOk result (λ fault. fault ≡ first_fault (types_of (classes_of program.now.world)) (params_of (program_of program.now))
+        (statics_of (program_of program.now)) objects.now args.now statics.now) }
 {
     program.is_good();
     let params = program.methods.at(0).params.as_slice();
@@ -99,6 +124,27 @@ fn first_fault(
         objects,
         values.as_slice(),
     ))
+}
+
+/// The first fault of arguments, of values of static fields and of objects.
+fn first_fault(
+    alloc: Global,
+    program: &Program<'_>,
+    objects: &[Option<Object>],
+    args: &[Value],
+    statics: &[Value],
+) -> Result<Option<DescFault>, AllocError>
+    ensures { IfOk result (λ fault. fault ≡ fault_of (program_of program.now) objects.now args.now statics.now) }
+{
+    match typing_fault(alloc, program, objects, args, statics)? {
+        Some(fault) => Ok(Some(fault)),
+        None => Ok(
+            match null_constant(program.statics.as_slice(), statics, args) {
+                Some(i) => Some(DescFault::ParamKind { i }),
+                None => None,
+            },
+        ),
+    }
 }
 
 /// What is given, or its first fault.
@@ -136,7 +182,8 @@ fn tested(
 /// # Errors
 ///
 /// `ParamCount`, `StaticCount`; `ParamKind` of the first argument or static field that is of another kind or type, or names an
-/// object past the heap or one without a type; `BadObject` of the first object that isn't typed; in this order. Want of memory.
+/// object past the heap or one without a type; `BadObject` of the first object that isn't typed; `ParamKind` of the first string constant
+/// that is null; in this order. Want of memory.
 #[tactic(auto, using(crate::proofs::TypedInputs::typed_if_given))]
 pub fn state_of(
     alloc: Global,

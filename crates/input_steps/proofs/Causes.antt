@@ -2,8 +2,7 @@
 use Rattle.std.proofs.Common.{◌≡◌, ℕ, ◌<◌, List, length, Some, Result, Err, refl}
 use Rattle.std.proofs.lemmas.Option.{slice_get_within}
 use Rattle.list_views.specs.Results.{IsDue}
-use Rattle.class_read.specs.Content.{ClassContent}
-use Rattle.class_world.specs.World.{World, world_of}
+use Rattle.class_world.specs.World.{World, world_with}
 use Rattle.class_world.specs.Linking.{link_fault}
 use Rattle.class_world.specs.declared.fault.LinkFault.{LinkFault}
 use Rattle.class_world.specs.declared.fault.LinkFault.TheVariants.{DuplicateClass, MissingClass, CyclicHierarchy, BadSuper}
@@ -20,12 +19,13 @@ use Rattle.call_graph.specs.declared.fault.CallFault.TheVariants.{Recursive}
 use Rattle.code_verify.specs.Typings.{IsFirstUntyped}
 use Rattle.input_steps.specs.declared.refused.Place.TheVariants as places
 use Rattle.input_steps.specs.declared.refused.Fault.TheVariants as faults
+use Rattle.input_steps.specs.SetUp.{SetUp}
 use Rattle.input_steps.specs.Classes.{RefusesWorld}
 use Rattle.input_steps.specs.Programs.{RefusesProgram, RefusesCalls, RefusesTypes}
 
-pub at_world : (classes : List ClassContent) (fault : LinkFault) → link_fault (world_of classes) ≡ Some fault
-    → RefusesWorld classes places.Link (faults.Link fault)
-at_world classes fault e = record { cause = fault; place_is = refl; fault_is = refl; holds = e }
+pub at_world : (given : SetUp) (fault : LinkFault) → link_fault (world_with given.0 given.1) ≡ Some fault
+    → RefusesWorld given places.Link (faults.Link fault)
+at_world given fault e = record { cause = fault; place_is = refl; fault_is = refl; holds = e }
 
 -- the fault that is due, where it isn't want of memory
 due_is : {Y : Type 0} (fault : LinkFault) (said : Result Y LinkFault) → (fault ≡ Memory → ⊥) → IsDue is_memory fault said

@@ -7,7 +7,7 @@ use Rattle.list_views.proofs.Options.{one_answer}
 use Rattle.class_read.specs.Content.{ClassContent}
 use Rattle.class_read.specs.declared.fault.ClassFault.{ClassFault}
 use Rattle.class_read.proofs.ClassLaws.{class_one}
-use Rattle.class_world.specs.World.{World, world_of}
+use Rattle.class_world.specs.World.{World, world_with}
 use Rattle.class_world.specs.Linking.{link_fault}
 use Rattle.class_world.specs.declared.fault.LinkFault.{LinkFault}
 use Rattle.class_world.specs.declared.fault.MethodName.{MethodName}
@@ -28,6 +28,7 @@ use Rattle.input_steps.specs.declared.refused.Place.TheVariants as places
 use Rattle.input_steps.specs.declared.refused.Fault.{Fault}
 use Rattle.input_steps.specs.declared.refused.Fault.TheVariants as faults
 use Rattle.input_steps.specs.Steps.{IsAt, Then}
+use Rattle.input_steps.specs.SetUp.{SetUp}
 use Rattle.input_steps.specs.Classes.{AllSpell, IsFirstBroken, RefusesClasses, IsWorldOf, RefusesWorld}
 use Rattle.input_steps.specs.Programs.{IsProgramOf, RefusesProgram, IsAcyclic, RefusesCalls, HasTypings, RefusesTypes}
 
@@ -133,12 +134,13 @@ classes_exact files = record {
 
 -- ---- the world
 
-pub world_exact : (classes : List ClassContent) → IsExact (IsWorldOf classes) (RefusesWorld classes)
-world_exact classes = record {
+pub world_exact : (given : SetUp) → IsExact (IsWorldOf given) (RefusesWorld given)
+world_exact given = record {
   one = λ a b h k. h.world_is ∙ sym k.world_is;
-  apart = λ world place fault h r. none_some (link_fault (world_of classes)) r.cause (ap link_fault (sym h.world_is) ∙ h.links) r.holds;
-  named = at_one {C = LinkFault} (λ fault. places.Link) faults.Link (λ fault. link_fault (world_of classes) ≡ Some fault)
-      (λ x y e f. one_answer (link_fault (world_of classes)) x y e f);
+  apart = λ world place fault h r. none_some (link_fault (world_with given.0 given.1)) r.cause (ap link_fault (sym h.world_is)
+        ∙ h.links) r.holds;
+  named = at_one {C = LinkFault} (λ fault. places.Link) faults.Link (λ fault. link_fault (world_with given.0 given.1) ≡ Some fault)
+      (λ x y e f. one_answer (link_fault (world_with given.0 given.1)) x y e f);
 }
 
 -- ---- the program

@@ -1,6 +1,6 @@
 -- What holds of the classes as they enter the world.
 use Rattle.std.proofs.Common.{◌≡◌, ◌∙◌, ◌≤◌, ◌+◌, ℕ, suc, Bool, true, false, not, ◌||◌, ◌&&◌, cond, List, [], ◌∷◌, ◌++◌, length, map}
-use Rattle.std.proofs.Common.{Some, None, nat_lt, refl, sym, ap, subst, arith}
+use Rattle.std.proofs.Common.{Some, None, nat_lt, refl, sym, ap, ap₂, subst, arith}
 use Rattle.std.specs.Prelude.{position, is_none}
 use Rattle.std.specs.List.{filter, list_any, list_all, position_or_len, IsDistinct, AllByRecursion}
 use Rattle.std.specs.Str.{bytes_eq}
@@ -9,17 +9,20 @@ use Rattle.std.proofs.lemmas.Bool.Decides.{nat_tests}
 use Rattle.std.proofs.lemmas.List.Folds.{list_any-append}
 use Rattle.std.proofs.lemmas.Map.Keys.{IsDistinct-head, IsDistinct-tail, IsDistinct-cons}
 use Rattle.list_views.proofs.Items.{length_mapped}
-use Rattle.class_read.specs.Content.{ClassContent, MethodContent}
+use Rattle.class_read.specs.Content.{ClassContent, FieldContent, MethodContent}
 use Rattle.class_read.specs.View.{method_content}
 use Rattle.class_read.specs.declared.view.MethodView.{MethodView}
-use Rattle.class_world.specs.World.{World, built_in, built_in_names, built_ins, world_of, class_of}
+use Rattle.class_world.specs.declared.features.Constructors.{Constructors}
+use Rattle.class_world.specs.World.{World, built_in, built_in_rows, built_ins_with, no_features, world_of, class_of}
 use Rattle.class_world.specs.Linking.{IsLinkable, HasDistinctMembers, has_few_members, has_short_code, has_short_codes}
 use Rattle.class_world.specs.Linking.{has_descriptor, method_content_key, same_key}
 use Rattle.class_world.specs.Resolve.{is_initialiser}
 use Rattle.input_text.specs.declared.texts.WorldLine.{WorldLine}
-use Rattle.input_steps.specs.SetUp.{initialises, without_initialiser, past_initialiser, passes, is_passed, without_passed, entering, set_up}
+use Rattle.input_steps.specs.SetUp.{initialises, without_initialiser, past_initialiser, passes, is_passed, without_passed, entering}
+use Rattle.input_steps.specs.SetUp.{with_fields, with_constants, says_strings, says_monitors, features_said, with_constants_if, entered}
 use Rattle.input_steps.specs.SetUpLaws.{names_of, SetUpLinks, SetUpNothing, SetUpNames, SayTheSame, SetUpSame}
 use Rattle.input_steps.specs.inner.ByNames.{is_there, is_passed_by, without_passed_by, entering_by}
+use Rattle.input_steps.proofs.StringFields.{constants_length, constants_names}
 
 -- ---- lists of which some items are kept
 
@@ -131,14 +134,28 @@ all_link lines world (c ∷ cs) h = (
   all_link lines world cs h.1,
 )
 
+pub entering_links : (lines : List WorldLine) (classes : List ClassContent) → AllByRecursion IsLinkable classes
+    → AllByRecursion IsLinkable (map (entering lines (world_of classes)) classes)
+entering_links lines classes h = all_link lines (world_of classes) classes h
+
 pub set_up_links : SetUpLinks
-unfolding set_up
-set_up_links lines classes h = all_link lines (world_of classes) classes h
+unfolding entered
+set_up_links lines classes h none =
+    subst (λ (b : Bool). AllByRecursion IsLinkable (with_constants_if b (map (entering lines (world_of classes)) classes))) (sym none)
+    (entering_links lines classes h)
 
 -- as many classes
-pub set_up_length : (lines : List WorldLine) (classes : List ClassContent) → length (set_up lines classes) ≡ length classes
-unfolding set_up
-set_up_length lines classes = length_mapped (entering lines (world_of classes)) classes
+pub set_up_length : (lines : List WorldLine) (classes : List ClassContent) → length (entered lines classes) ≡ length classes
+unfolding entered
+set_up_length lines classes = go (list_any says_strings lines)
+    ∙ length_mapped (entering lines (world_of classes)) classes
+  where
+    all : List ClassContent
+    all = map (entering lines (world_of classes)) classes
+
+    go : (b : Bool) → length (with_constants_if b all) ≡ length all
+    go true = constants_length all
+    go false = refl
 
 -- ---- names
 
@@ -155,8 +172,15 @@ names_stay lines world (c ∷ cs) =
     ap (λ n. n ∷ names_of (map (entering lines world) cs)) (name_stays lines c) ∙ ap (λ ns. c.name ∷ ns) (names_stay lines world cs)
 
 pub set_up_names : SetUpNames
-unfolding set_up
-set_up_names lines classes = names_stay lines (world_of classes) classes
+unfolding entered
+set_up_names lines classes = go (list_any says_strings lines) ∙ names_stay lines (world_of classes) classes
+  where
+    all : List ClassContent
+    all = map (entering lines (world_of classes)) classes
+
+    go : (b : Bool) → names_of (with_constants_if b all) ≡ names_of all
+    go true = constants_names all
+    go false = refl
 
 -- ---- no lines
 
@@ -170,8 +194,8 @@ all_as_they_are world (c ∷ cs) =
     ap (λ d. d ∷ map (entering [] world) cs) (nothing_passed world c) ∙ ap (λ ds. c ∷ ds) (all_as_they_are world cs)
 
 pub set_up_nothing : SetUpNothing
-unfolding set_up
-set_up_nothing classes = all_as_they_are (world_of classes) classes
+unfolding entered
+set_up_nothing classes = ap (λ (cs : List ClassContent). (no_features, cs)) (all_as_they_are (world_of classes) classes)
 
 -- ---- lines that say the same
 
@@ -199,16 +223,21 @@ module _ (lines others : List WorldLine) (same : SayTheSame lines others) where
       ap (λ d. d ∷ map (entering lines world) cs) (enter_alike world c) ∙ ap (λ ds. entering others world c ∷ ds) (all_alike world cs)
 
 pub set_up_same : SetUpSame
-unfolding set_up
-set_up_same lines others classes same = all_alike lines others same (world_of classes) classes
+unfolding entered
+set_up_same lines others classes same =
+    let all = map (entering lines (world_of classes)) classes in
+    ap₂ (λ (s m : Bool). (record { messages = s; monitors = m }, with_constants_if s all)) same.strings same.monitors
+    ∙ ap (λ (cs : List ClassContent). (features_said others, with_constants_if (list_any says_strings others) cs))
+    (all_alike lines others same (world_of classes) classes)
 
--- ---- classes of which something holds that initialisers and interfaces don't matter to
+-- ---- classes of which something holds that initialisers, interfaces and fields don't matter to
 
 pub set_up_keeps : (P : ClassContent → Type 0) → ((c : ClassContent) → P c → P (without_initialiser c))
     → ((c : ClassContent) (interfaces : List (List ℕ)) → P c → P (record c { interfaces = interfaces }))
-    → (lines : List WorldLine) (classes : List ClassContent) → AllByRecursion P classes → AllByRecursion P (set_up lines classes)
-unfolding set_up
-set_up_keeps P without with_other lines classes h = go classes h
+    → ((c : ClassContent) (fields : List FieldContent) → P c → P (record c { fields = fields }))
+    → (lines : List WorldLine) (classes : List ClassContent) → AllByRecursion P classes → AllByRecursion P (entered lines classes)
+unfolding entered with_constants
+set_up_keeps P without with_other with_more lines classes h = behind (list_any says_strings lines)
   where
     by : (c : ClassContent) → P c → (b : Bool) → P (cond b (without_initialiser c) c)
     by c k true = without c k
@@ -220,6 +249,15 @@ set_up_keeps P without with_other lines classes h = go classes h
       with_other (past_initialiser lines c) _ (by c k.0 (list_any (initialises c.name) lines)),
       go cs k.1,
     )
+
+    last : (fields : List FieldContent) (cs : List ClassContent) → AllByRecursion P cs → AllByRecursion P (with_fields fields cs)
+    last fields [] k = tt
+    last fields (c ∷ []) k = (with_more c (c.fields ++ fields) k.0, tt)
+    last fields (c ∷ (next ∷ more)) k = (k.0, last fields (next ∷ more) k.1)
+
+    behind : (b : Bool) → AllByRecursion P (with_constants_if b (map (entering lines (world_of classes)) classes))
+    behind true = last _ (map (entering lines (world_of classes)) classes) (go classes h)
+    behind false = go classes h
 
 -- ---- the code's steps
 
@@ -238,12 +276,12 @@ kept_names {A = A} now p names old kept e f =
     ap (map now) (f ∙ ap (filter (λ (i : A). p (now i))) e) ∙ filter_of_map p now names
 
 -- a name that is that of a built-in class, or of one of these
-pub there : (names : List (List ℕ)) (name : List ℕ) (built among : Bool) → built ≡ list_any (bytes_eq name) (map (λ n. n.0) built_in_names)
+pub there : (names : List (List ℕ)) (name : List ℕ) (built among : Bool) → built ≡ list_any (bytes_eq name) (map (λ n. n.0) built_in_rows)
     → among ≡ list_any (bytes_eq name) names → (built || among) ≡ is_there names name
 unfolding is_there
 there names name built among e f =
-    ap (λ b. b || among) e ∙ ap (λ b. list_any (bytes_eq name) (map (λ n. n.0) built_in_names) || b) f
-    ∙ sym (list_any-append (bytes_eq name) (map (λ n. n.0) built_in_names) names)
+    ap (λ b. b || among) e ∙ ap (λ b. list_any (bytes_eq name) (map (λ n. n.0) built_in_rows) || b) f
+    ∙ sym (list_any-append (bytes_eq name) (map (λ n. n.0) built_in_rows) names)
 
 -- ---- a class of a name is there
 
@@ -275,9 +313,9 @@ names_more : (xs ys : List ClassContent) → names_of (xs ++ ys) ≡ names_of xs
 names_more [] ys = refl
 names_more (c ∷ xs) ys = ap (λ ns. c.name ∷ ns) (names_more xs ys)
 
-names_built : (ns : List (List ℕ × List ℕ)) → names_of (map (λ n. built_in n.0 n.1) ns) ≡ map (λ n. n.0) ns
+names_built : (rows : List (List ℕ × List ℕ × Constructors)) → names_of (map (built_in no_features) rows) ≡ map (λ row. row.0) rows
 names_built [] = refl
-names_built (n ∷ ns) = ap (λ xs. n.0 ∷ xs) (names_built ns)
+names_built (row ∷ rows) = ap (λ xs. row.0 ∷ xs) (names_built rows)
 
 any_named : (name : List ℕ) (cs : List ClassContent) → list_any (λ (c : ClassContent). bytes_eq name c.name) cs
     ≡ list_any (bytes_eq name) (names_of cs)
@@ -289,10 +327,10 @@ module _ (classes : List ClassContent) where
   numbered : (name : List ℕ) → is_none (class_of (world_of classes) name) ≡ not (is_there (names_of classes) name)
   unfolding is_there
   numbered name =
-      nowhere (λ (c : ClassContent). bytes_eq name c.name) (built_ins ++ classes)
-      ∙ ap not (any_named name (built_ins ++ classes)
-      ∙ ap (list_any (bytes_eq name)) (names_more built_ins classes
-      ∙ ap (λ ns. ns ++ names_of classes) (names_built built_in_names)))
+      nowhere (λ (c : ClassContent). bytes_eq name c.name) (built_ins_with no_features ++ classes)
+      ∙ ap not (any_named name (built_ins_with no_features ++ classes)
+      ∙ ap (list_any (bytes_eq name)) (names_more (built_ins_with no_features) classes
+      ∙ ap (λ ns. ns ++ names_of classes) (names_built built_in_rows)))
 
   passed_by_names : (lines : List WorldLine) (name : List ℕ) → is_passed_by lines (names_of classes) name
       ≡ is_passed lines (world_of classes) name
@@ -312,9 +350,13 @@ module _ (classes : List ClassContent) where
       ap (λ d. d ∷ map (entering_by lines (names_of classes)) cs) (enter_by_names lines c)
       ∙ ap (λ ds. entering lines (world_of classes) c ∷ ds) (all_by_names lines cs)
 
--- classes that entered beside these names entered the world
-pub entered : (lines : List WorldLine) (names : List (List ℕ)) (classes all : List ClassContent) → names ≡ names_of classes
-    → all ≡ map (entering_by lines names) classes → all ≡ set_up lines classes
-unfolding set_up
-entered lines names classes all e h =
+-- classes that enter beside these names enter the world
+pub entered_by_names : (lines : List WorldLine) (names : List (List ℕ)) (classes all : List ClassContent) → names ≡ names_of classes
+    → all ≡ map (entering_by lines names) classes → all ≡ map (entering lines (world_of classes)) classes
+entered_by_names lines names classes all e h =
     h ∙ ap (λ ns. map (entering_by lines ns) classes) e ∙ all_by_names classes lines classes
+
+pub entering_links_by : (lines : List WorldLine) (names : List (List ℕ)) (classes all : List ClassContent) → names ≡ names_of classes
+    → all ≡ map (entering_by lines names) classes → AllByRecursion IsLinkable classes → AllByRecursion IsLinkable all
+entering_links_by lines names classes all e h fit =
+    subst (AllByRecursion IsLinkable) (sym (entered_by_names lines names classes all e h)) (entering_links lines classes fit)

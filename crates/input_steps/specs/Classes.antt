@@ -5,7 +5,7 @@ use Rattle.class_read.specs.Rules.{Spells}
 use Rattle.class_read.specs.FirstFault.{class_in}
 use Rattle.class_read.specs.declared.fault.ClassFault.{ClassFault}
 use Rattle.class_read.specs.declared.fault.ClassFault.TheVariants as classes
-use Rattle.class_world.specs.World.{World, world_of}
+use Rattle.class_world.specs.World.{World, world_with}
 use Rattle.class_world.specs.Linking.{link_fault}
 use Rattle.class_world.specs.declared.fault.LinkFault.{LinkFault}
 use Rattle.input_steps.specs.declared.refused.Refused.{Refused}
@@ -15,6 +15,7 @@ use Rattle.input_steps.specs.declared.refused.Place.TheVariants as places
 use Rattle.input_steps.specs.declared.refused.Fault.{Fault}
 use Rattle.input_steps.specs.declared.refused.Fault.TheVariants as faults
 use Rattle.input_steps.specs.Steps.{IsAt, Step}
+use Rattle.input_steps.specs.SetUp.{SetUp}
 
 -- each file spells a class, in order
 abbrev pub AllSpell : List (List ℕ) → List ClassContent → Type 0
@@ -47,14 +48,14 @@ abbrev pub class_refusal : ℕ → ClassFault → Refused
 class_refusal number classes.Memory = Memory
 class_refusal number fault = At (places.Class number) (faults.Class fault)
 
--- the classes make this world, and break no rule of one
-pub record IsWorldOf (classes : List ClassContent) (world : World) : Type 0 where
-  pub world_is : world ≡ world_of classes
+-- classes that are set up make this world, and break no rule of one
+pub record IsWorldOf (given : SetUp) (world : World) : Type 0 where
+  pub world_is : world ≡ world_with given.0 given.1
   pub links : link_fault world ≡ None
 
 -- classes are refused for the first rule that they break as a world
-abbrev pub RefusesWorld : List ClassContent → Place → Fault → Type 0
-RefusesWorld classes = IsAt {C = LinkFault} (λ fault. places.Link) faults.Link (λ fault. link_fault (world_of classes) ≡ Some fault)
+abbrev pub RefusesWorld : SetUp → Place → Fault → Type 0
+RefusesWorld given = IsAt {C = LinkFault} (λ fault. places.Link) faults.Link (λ fault. link_fault (world_with given.0 given.1) ≡ Some fault)
 
 -- ---- the steps
 
@@ -62,6 +63,6 @@ RefusesWorld classes = IsAt {C = LinkFault} (λ fault. places.Link) faults.Link 
 abbrev pub reading_classes : List (List ℕ) → Step (List ClassContent)
 reading_classes files = record { gives = AllSpell files; refuses = RefusesClasses files }
 
--- classes are linked to a world (JVM specification, section 5.3)
-abbrev pub linking : List ClassContent → Step World
-linking classes = record { gives = IsWorldOf classes; refuses = RefusesWorld classes }
+-- classes that are set up are linked to a world (JVM specification, section 5.3)
+abbrev pub linking : SetUp → Step World
+linking given = record { gives = IsWorldOf given; refuses = RefusesWorld given }

@@ -1,7 +1,7 @@
 pub mod Steps
 pub mod Texts
-pub mod Classes
 pub mod SetUp
+pub mod Classes
 pub mod SetUpLaws
 pub mod inner
 pub mod Programs

@@ -10,9 +10,9 @@ ghost use Rattle.input_steps.specs.SetUp.{set_up};
 ghost use Rattle.input_steps.specs.Classes.{AllSpell, RefusesClasses, IsWorldOf, RefusesWorld, RefusesFile, class_refusal};
 
 use crate::refused::{Fault, Place, Refused};
-use crate::set_up::set_up;
+use crate::set_up::{enter, features_said};
 use class_read::{ClassFault, ClassView};
-use class_world::{LinkFault, World};
+use class_world::{Features, LinkFault, World};
 use input_text::WorldLine;
 use std::alloc::Global;
 
@@ -62,13 +62,17 @@ pub fn read_classes<'a>(alloc: Global, files: &'a [Vec<u8>]) -> Result<Vec<Class
 
 /// The world of at most 256 classes.
 #[tactic(auto, using(crate::proofs::Causes::at_world))]
-fn link_all<'a>(alloc: Global, classes: Vec<ClassView<'a>>) -> Result<World<'a>, Refused>
+fn link_all<'a>(
+    alloc: Global,
+    features: Features,
+    classes: Vec<ClassView<'a>>,
+) -> Result<World<'a>, Refused>
     requires few { length classes.items ≤ most_classes }
     requires fit { AllByRecursion IsLinkable classes.items }
-    ensures world { IfOk result (λ world. IsWorldOf classes.entry.items (classes_of world)) }
-    ensures refused { IfErr result (IsCaused (RefusesWorld classes.entry.items)) }
+    ensures world { IfOk result (λ world. IsWorldOf (features, classes.entry.items) (classes_of world)) }
+    ensures refused { IfErr result (IsCaused (RefusesWorld (features, classes.entry.items))) }
 {
-    match World::link(alloc, classes) {
+    match World::link(alloc, classes, features) {
         Ok(world) => Ok(world),
         Err(LinkFault::Memory) => Err(Refused::Memory),
         Err(fault) => Err(Refused::At {
@@ -95,8 +99,8 @@ pub fn link<'a>(
     ensures world { IfOk result (λ world. IsWorldOf (set_up lines.now classes.entry.items) (classes_of world)) }
     ensures refused { IfErr result (IsCaused (RefusesWorld (set_up lines.now classes.entry.items))) }
 {
-    match set_up(alloc, lines, classes) {
-        Ok(entered) => link_all(alloc, entered),
+    match enter(alloc, lines, classes) {
+        Ok(entered) => link_all(alloc, features_said(lines), entered),
         Err(error) => Err(Refused::from(error)),
     }
 }

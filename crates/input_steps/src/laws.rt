@@ -1,7 +1,12 @@
 //! Laws about how classes enter the world, for the proofs of other crates and for readers. They run nothing.
-ghost use Rattle.input_steps.specs.SetUpLaws.{SetUpLinks, SetUpNothing, SetUpNames, SetUpSame};
+ghost use Rattle.input_steps.specs.SetUpLaws.{ConstantsLink, SetUpLinks, SetUpNothing, SetUpNames, SetUpSame};
 
-/// Classes that can be linked can be linked as they enter the world, whatever the lines say.
+/// Classes that can be linked can be linked with their string constants, where the last one has room for these.
+pub fn constants_link()
+    ensures { ConstantsLink }
+{}
+
+/// Classes that can be linked can be linked as they enter the world, where no string constants are there.
 pub fn set_up_links()
     ensures { SetUpLinks }
 {}

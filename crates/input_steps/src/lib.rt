@@ -6,6 +6,7 @@
 #![tactic(auto)]
 
 mod classes;
+mod constants;
 mod laws;
 mod lines;
 mod programs;
@@ -13,7 +14,9 @@ mod refused;
 mod set_up;
 
 pub use classes::{link, read_classes};
-pub use laws::{set_up_keeps_names, set_up_links, set_up_nothing, set_up_of_same_lines};
+pub use laws::{
+    constants_link, set_up_keeps_names, set_up_links, set_up_nothing, set_up_of_same_lines,
+};
 pub use lines::refusal_text;
 pub use programs::{close, test_calls, typings};
 pub use refused::{Fault, Place, Refused, refuse_desc};

@@ -1,15 +1,18 @@
 //! How classes enter the world, by the lines of a description or a state.
 ghost use Rattle.std.specs.Prelude.{◌≡◌, not, map, IfOk};
-ghost use Rattle.std.specs.List.{filter, list_any};
+ghost use Rattle.std.specs.List.{filter, list_any, AllByRecursion};
 ghost use Rattle.std.specs.Str.{bytes_eq};
 ghost use Rattle.class_read.specs.View.{method_content};
 ghost use Rattle.class_world.specs.Resolve.{is_initialiser};
-ghost use Rattle.input_steps.specs.SetUp.{initialises, without_initialiser, past_initialiser, passes, set_up};
+ghost use Rattle.input_steps.specs.SetUp.{initialises, without_initialiser, past_initialiser, passes};
+ghost use Rattle.input_steps.specs.SetUp.{says_strings, says_monitors, features_said, with_constants_if, entered};
 ghost use Rattle.input_steps.specs.SetUpLaws.{names_of};
 ghost use Rattle.input_steps.specs.inner.ByNames.{is_there, is_passed_by, without_passed_by, entering_by};
+ghost use Rattle.class_world.specs.Linking.{IsLinkable};
 
+use crate::constants::with_constants;
 use class_read::{ClassView, MethodView};
-use class_world::is_built_in;
+use class_world::{Features, is_built_in};
 use input_text::WorldLine;
 use list_views::Seq;
 use std::alloc::{AllocError, Global};
@@ -20,7 +23,7 @@ fn initialises(name: &[u8], line: &WorldLine) -> bool
 {
     match line {
         WorldLine::Initialised(class) => name == class.as_slice(),
-        WorldLine::Passed(_) => false,
+        _ => false,
     }
 }
 
@@ -41,8 +44,8 @@ fn passes(name: &[u8], line: &WorldLine) -> bool
     ensures { result ≡ passes name.now line.now }
 {
     match line {
-        WorldLine::Initialised(_) => false,
         WorldLine::Passed(interface) => name == interface.as_slice(),
+        _ => false,
     }
 }
 
@@ -196,19 +199,63 @@ fn all_entering<'a>(
     Ok(entered)
 }
 
+/// Whether a line says that string constants are there.
+fn says_strings(line: &WorldLine) -> bool
+    ensures { result ≡ says_strings line.now }
+{
+    matches!(line, WorldLine::Strings)
+}
+
+/// Whether a line says that monitors are there.
+fn says_monitors(line: &WorldLine) -> bool
+    ensures { result ≡ says_monitors line.now }
+{
+    matches!(line, WorldLine::Monitors)
+}
+
+/// What a world has beside what every world has, by lines.
+pub(crate) fn features_said(lines: &[WorldLine]) -> Features
+    ensures { result ≡ features_said lines.now }
+{
+    let messages = lines.iter().any(|line| says_strings(line));
+    let monitors = lines.iter().any(|line| says_monitors(line));
+    Features { messages, monitors }
+}
+
+/// The classes with their string constants, where these are there.
+fn with_constants_if<'a>(
+    alloc: Global,
+    strings: bool,
+    classes: Vec<ClassView<'a>>,
+) -> Result<Vec<ClassView<'a>>, AllocError>
+    requires { AllByRecursion IsLinkable classes.items }
+    ensures classes { IfOk result (λ entered. entered.items ≡ with_constants_if strings classes.entry.items) }
+    ensures fit { IfOk result (λ entered. AllByRecursion IsLinkable entered.items) }
+{
+    if strings {
+        with_constants(alloc, classes)
+    } else {
+        Ok(classes)
+    }
+}
+
 /// The classes as they enter the world.
 ///
 /// # Errors
 ///
-/// Want of memory.
-#[tactic(auto, using(crate::proofs::SetUp::entered))]
-pub(crate) fn set_up<'a>(
+/// Want of memory, of which more than 65,535 fields of the last class are one case.
+#[tactic(auto, unfolding(crate::specs::SetUp::entered), using(crate::proofs::SetUp::entered_by_names, crate::proofs::SetUp::entering_links_by))]
+pub(crate) fn enter<'a>(
     alloc: Global,
     lines: &[WorldLine],
     classes: Vec<ClassView<'a>>,
 ) -> Result<Vec<ClassView<'a>>, AllocError>
-    ensures { IfOk result (λ entered. entered.items ≡ set_up lines.now classes.entry.items) }
+    requires { AllByRecursion IsLinkable classes.items }
+    ensures classes { IfOk result (λ given. given.items ≡ entered lines.now classes.entry.items) }
+    ensures fit { IfOk result (λ given. AllByRecursion IsLinkable given.items) }
 {
     let names = names_of(alloc, classes.as_slice())?;
-    all_entering(alloc, lines, names.as_slice(), classes)
+    let entering = all_entering(alloc, lines, names.as_slice(), classes)?;
+    let strings = lines.iter().any(|line| says_strings(line));
+    with_constants_if(alloc, strings, entering)
 }

@@ -21,7 +21,7 @@ use Rattle.input_text.specs.Fields.{◌>>=◌, field, nth, items_from, list_of, 
 use Rattle.input_text.specs.Values.{int_value, ref_value, value_by, value_of}
 use Rattle.input_text.specs.Objects.{instance_of, a_byte, kind_of, nums_of, refs_of, object_of}
 use Rattle.input_text.specs.Inputs.{int_input, shape_of, ref_fields, ref_input, input_of, both_numbers, pair_of}
-use Rattle.input_text.specs.WorldLines.{line_named, world_line}
+use Rattle.input_text.specs.WorldLines.{line_named, line_alone, alone, saying, with_name, line_by, world_line}
 use Rattle.input_text.specs.Descriptions.{is_first_form, is_third_form, world_lines, static_inputs, desc_end, desc_fields, description_of}
 use Rattle.input_text.specs.States.{static_values, state_end, state_fields, state_of}
 use Rattle.input_text.specs.declared.fault.DescFault.{DescFault}
@@ -234,15 +234,27 @@ of_pair : AreClean pair_of
 unfolding pair_of
 of_pair here = bind _ _ (items here) (λ count. choice (count == 2) _ _ (of_both here) tt)
 
+of_alone : (line : WorldLine) (count : ℕ) → AreClean (alone line count)
+of_alone line count here = bind _ _ (is_required (WrongKind here.place) (count == 1) tt) (λ _. tt)
+
+of_saying : (says : List ℕ → WorldLine) (count : ℕ) → AreClean (saying says count)
+of_saying says count here = bind _ _ (is_required (WrongKind here.place) (count == 2) tt) (λ _.
+    bind _ _ (of_nth 1 text_of text here) (λ _. tt))
+
+of_with_name : (word : List ℕ) (count : ℕ) → AreClean (with_name word count)
+of_with_name word count here =
+    bind _ _ (is_wanted (WrongKind (item_pointer here.place 0)) (line_named word) tt) (λ says. of_saying says count here)
+
+of_line_by : (found : Option WorldLine) (word : List ℕ) (count : ℕ) → AreClean (line_by found word count)
+of_line_by (Some line) word count here = of_alone line count here
+of_line_by None word count here = of_with_name word count here
+
 of_line : AreClean world_line
 unfolding world_line
 of_line here =
     bind _ _ (items here) (λ count.
     bind _ _ (is_required (WrongKind here.place) (nat_lt 0 count) tt) (λ _.
-    bind _ _ (of_nth 0 text_of text here) (λ word.
-    bind _ _ (is_wanted (WrongKind (item_pointer here.place 0)) (line_named word) tt) (λ _.
-    bind _ _ (is_required (WrongKind here.place) (count == 2) tt) (λ _.
-    bind _ _ (of_nth 1 text_of text here) (λ _. tt))))))
+    bind _ _ (of_nth 0 text_of text here) (λ word. of_line_by (line_alone word) word count here)))
 
 of_world : (form : ℤ) → AreClean (world_lines form)
 unfolding world_lines

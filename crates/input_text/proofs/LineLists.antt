@@ -1,25 +1,41 @@
 -- Lists of lines about classes, line by line.
 use Rattle.std.proofs.Common.{◌≡◌, ℕ, zero, suc, ◌+◌, ◌<◌, ◌≤◌, Bool, true, false, List, [], ◌∷◌, length, get_or, Some, slice_get, inl, inr}
 use Rattle.std.proofs.Common.{refl, sym, ap, subst, ◌∙◌, arith}
-use Rattle.std.specs.Prelude.{◌↔◌, IsTrue}
-use Rattle.std.proofs.lemmas.Bool.{cases_lt}
+use Rattle.std.specs.Prelude.{◌↔◌, ◌&&◌, IsTrue}
+use Rattle.std.proofs.lemmas.Bool.{and_from, and_parts, cases_lt}
 use Rattle.std.proofs.lemmas.Option.{slice_get-get_or, same_Some}
+use Rattle.input_text.specs.inner.SameLines.{word_number, name_in}
 use Rattle.input_text.specs.declared.texts.WorldLine.{WorldLine}
-use Rattle.input_text.specs.declared.texts.WorldLine.TheVariants.{Initialised, Passed}
+use Rattle.input_text.specs.declared.texts.WorldLine.TheVariants.{Initialised, Passed, Strings, Monitors}
 
 -- ---- one line
 
-pub both_initialised : (a b : List ℕ) (is : Bool) → IsTrue is ↔ (a ≡ b) → IsTrue is ↔ (Initialised a ≡ Initialised b)
-both_initialised a b is tells = (λ yes. ap Initialised (tells.0 yes), λ same. tells.1 (let e : a ≡ b = cc in e))
+same_line : (one other : WorldLine) → word_number one ≡ word_number other → name_in one ≡ name_in other → one ≡ other
+same_line (Initialised a) (Initialised b) number name = ap Initialised name
+same_line (Initialised a) (Passed b) number name = cc
+same_line (Initialised a) Strings number name = cc
+same_line (Initialised a) Monitors number name = cc
+same_line (Passed a) (Initialised b) number name = cc
+same_line (Passed a) (Passed b) number name = ap Passed name
+same_line (Passed a) Strings number name = cc
+same_line (Passed a) Monitors number name = cc
+same_line Strings (Initialised b) number name = cc
+same_line Strings (Passed b) number name = cc
+same_line Strings Strings number name = refl
+same_line Strings Monitors number name = cc
+same_line Monitors (Initialised b) number name = cc
+same_line Monitors (Passed b) number name = cc
+same_line Monitors Strings number name = cc
+same_line Monitors Monitors number name = refl
 
-pub both_passed : (a b : List ℕ) (is : Bool) → IsTrue is ↔ (a ≡ b) → IsTrue is ↔ (Passed a ≡ Passed b)
-both_passed a b is tells = (λ yes. ap Passed (tells.0 yes), λ same. tells.1 (let e : a ≡ b = cc in e))
-
-pub first_apart : (a b : List ℕ) → IsTrue false ↔ (Initialised a ≡ Passed b)
-first_apart a b = (λ yes. let no : ⊥ = cc in absurd no, λ same. let no : ⊥ = cc in absurd no)
-
-pub second_apart : (a b : List ℕ) → IsTrue false ↔ (Passed a ≡ Initialised b)
-second_apart a b = (λ yes. let no : ⊥ = cc in absurd no, λ same. let no : ⊥ = cc in absurd no)
+pub line_told : (one other : WorldLine) (numbers names : Bool) → IsTrue numbers ↔ (word_number one ≡ word_number other)
+    → IsTrue names ↔ (name_in one ≡ name_in other) → IsTrue (numbers && names) ↔ (one ≡ other)
+line_told one other numbers names n k = (
+  λ yes.
+      let parts = and_parts numbers names yes in
+      same_line one other (n.0 parts.0) (k.0 parts.1),
+  λ same. and_from numbers names (n.1 (ap word_number same)) (k.1 (ap name_in same)),
+)
 
 -- ---- lists of them
 

@@ -1,5 +1,6 @@
 //! Whether two lists of lines about classes are the same.
 ghost use Rattle.std.specs.Prelude.{◌≡◌, ◌↔◌, IsTrue};
+ghost use Rattle.input_text.specs.inner.SameLines.{word_number, name_in};
 
 use crate::texts::WorldLine;
 
@@ -10,21 +11,43 @@ fn are_same(one: &[u8], other: &[u8]) -> bool
     one == other
 }
 
+/// The word of a line, by its number.
+fn word_number(line: &WorldLine) -> u8
+    ensures { result ≡ word_number line.now }
+{
+    match line {
+        WorldLine::Initialised(_) => 0,
+        WorldLine::Passed(_) => 1,
+        WorldLine::Strings => 2,
+        WorldLine::Monitors => 3,
+    }
+}
+
+/// Whether two words are the same.
+fn is_same_word(one: &WorldLine, other: &WorldLine) -> bool
+    ensures { IsTrue result ↔ (word_number one.now ≡ word_number other.now) }
+{
+    word_number(one) == word_number(other)
+}
+
+/// The name behind the word of a line.
+fn name_in(line: &WorldLine) -> &[u8]
+    ensures { result.now ≡ name_in line.now }
+{
+    match line {
+        WorldLine::Initialised(name) => name.as_slice(),
+        WorldLine::Passed(name) => name.as_slice(),
+        WorldLine::Strings => &[],
+        WorldLine::Monitors => &[],
+    }
+}
+
 /// Whether two lines about classes say the same.
-#[tactic(auto, using(crate::proofs::LineLists::both_initialised, crate::proofs::LineLists::both_passed, crate::proofs::LineLists::first_apart, crate::proofs::LineLists::second_apart))]
+#[tactic(auto, using(crate::proofs::LineLists::line_told))]
 fn is_same_line(one: &WorldLine, other: &WorldLine) -> bool
     ensures { IsTrue result ↔ (one.now ≡ other.now) }
 {
-    match one {
-        WorldLine::Initialised(a) => match other {
-            WorldLine::Initialised(b) => are_same(a.as_slice(), b.as_slice()),
-            WorldLine::Passed(_) => false,
-        },
-        WorldLine::Passed(a) => match other {
-            WorldLine::Initialised(_) => false,
-            WorldLine::Passed(b) => are_same(a.as_slice(), b.as_slice()),
-        },
-    }
+    is_same_word(one, other) && are_same(name_in(one), name_in(other))
 }
 
 /// Whether two lists of lines about classes say the same, line by line: order and repeats count.

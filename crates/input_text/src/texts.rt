@@ -21,6 +21,10 @@ pub enum WorldLine {
     /// The interface of this name is passed over in lists of interfaces, where no class of the name is built in or handed in: a class
     /// that lists it isn't below it, nor below what is above it.
     Passed(Seq<u8>),
+    /// String constants are loaded (section 5.1), and exceptions have the constructors with messages and causes.
+    Strings,
+    /// The instructions of monitors and synchronized methods are run (section 2.11.10).
+    Monitors,
 }
 
 /// What a description says of one input: of a parameter or of a static field.

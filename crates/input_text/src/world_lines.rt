@@ -7,7 +7,8 @@ ghost use Rattle.json_view.specs.Reading.{item_count, text_of};
 ghost use Rattle.input_text.specs.Answers.{Says};
 ghost use Rattle.input_text.specs.Fields.{nth};
 ghost use Rattle.input_text.specs.Descriptions.{world_lines};
-ghost use Rattle.input_text.specs.inner.Lines.{saying, behind_word, behind_count};
+ghost use Rattle.input_text.specs.WorldLines.{alone, saying};
+ghost use Rattle.input_text.specs.inner.Lines.{behind_word, behind_count};
 
 use crate::fields::text;
 use crate::lists::{Said, list_field};
@@ -66,6 +67,22 @@ fn unknown_word(alloc: Global, view: &View<'_, '_>) -> JsonFault
     item.wrong_kind(alloc)
 }
 
+/// A line of its word alone, of which so many items are there.
+fn word_alone(
+    alloc: Global,
+    view: &View<'_, '_>,
+    count: usize,
+    line: WorldLine,
+) -> Result<WorldLine, JsonFault>
+    ensures { Says result (alone line.entry count (located view.now)) }
+{
+    if count == 1 {
+        Ok(line)
+    } else {
+        Err(view.wrong_kind(alloc))
+    }
+}
+
 /// The line of a word and so many items.
 fn line_with(
     alloc: Global,
@@ -77,6 +94,12 @@ fn line_with(
     requires count { count ≡ item_count (located view.now).value }
     ensures { Says result (behind_word word.now count (located view.now)) }
 {
+    if word == b"strings".as_slice() {
+        return word_alone(alloc, view, count, WorldLine::Strings);
+    }
+    if word == b"monitors".as_slice() {
+        return word_alone(alloc, view, count, WorldLine::Monitors);
+    }
     if word == b"initialised".as_slice() {
         return initialised_line(alloc, view, count);
     }

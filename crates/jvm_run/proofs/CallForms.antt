@@ -2,10 +2,10 @@
 use Rattle.std.proofs.Common.{◌≡◌, ℕ, zero, suc, ◌+◌, ◌<◌, ◌≤◌, ℤ, pos, negsuc, Bool, true, false, cond, ◌&&◌, eqb, ltb, List, []}
 use Rattle.std.proofs.Common.{◌∷◌, ◌++◌, length, map, set, get_or, replicate, Option, Some, None, IsTrue, refl, sym, ap, ◌∙◌, subst}
 use Rattle.std.proofs.Common.{◌⊎◌, inl, inr, length-set, arith}
-use Rattle.std.specs.Prelude.{slice_get, All, IfSome, nat_lt}
+use Rattle.std.specs.Prelude.{slice_get, All, IfSome, nat_lt, ◌||◌}
 use Rattle.std.specs.List.{AllZip, AllByRecursion}
 use Rattle.std.specs.Option.{option_and_then, option_map, option_map_or}
-use Rattle.std.proofs.lemmas.Bool.{false≢true, and_parts, and_from, lt-ltb, ltb-true}
+use Rattle.std.proofs.lemmas.Bool.{false≢true, and_parts, and_from, lt-ltb, ltb-true, eqb-true, or_cases}
 use Rattle.std.proofs.lemmas.Option.{slice_get_within, none-some}
 use Rattle.std.proofs.lemmas.List.{length-replicate}
 use Rattle.std.proofs.lemmas.List.Elements.{All-set, All-replicate}
@@ -36,7 +36,7 @@ use Rattle.std.proofs.lemmas.List.{reverse-append, reverse-reverse, length-rever
 use Rattle.std.specs.Str.{bytes_eq}
 use Rattle.list_views.proofs.Options.{cond_guarded}
 use Rattle.jvm_values.specs.Subtyping.{IsSlot}
-use Rattle.class_program.specs.class_world.World.{World, is_interface_class, is_abstract}
+use Rattle.class_program.specs.class_world.World.{World, monitor_name, is_interface_class, is_abstract}
 use Rattle.class_program.specs.class_world.Descriptors.{class_slot}
 use Rattle.class_program.specs.class_world.Resolve.{method_at}
 use Rattle.class_program.specs.class_world.class_read.Content.{MethodContent}
@@ -46,8 +46,8 @@ use Rattle.class_program.specs.declared.op.Call.{Call}
 use Rattle.class_program.specs.declared.program.Method.{Method}
 use Rattle.class_program.specs.declared.selected.Selected.{Selected}
 use Rattle.class_program.specs.declared.selected.Selected.TheVariants as answers
-use Rattle.class_program.specs.Programs.{refs_of}
-use Rattle.class_program.specs.Ops.{constructor_name}
+use Rattle.class_program.specs.Programs.{Program, refs_of}
+use Rattle.class_program.specs.Ops.{constructor_name, is_monitor_call, takes_any_receiver}
 use Rattle.class_program.specs.Good.{Takes, IsGoodStatic, SpecialRuns, IsGoodSpecial, IsGoodAnswer, IsGoodSelecting, IsGoodMethod}
 use Rattle.class_program.specs.Selected.{CanRun, can_receive, selection_at, selected_in}
 use Rattle.class_program.proofs.Got.{all_at}
@@ -55,7 +55,7 @@ use Rattle.code_verify.specs.Operands.{fits, place_of, want_of}
 use Rattle.code_verify.specs.Rows.{taken, acted, called, argument_wants, special_receiver}
 use Rattle.code_verify.specs.TypedStates.{HasPlaceType, HasStack, argument_count}
 use Rattle.code_verify.proofs.RowLaws.{array_reference}
-use Rattle.jvm_step.specs.Effects.{are_passed, below_arguments, is_constructor, is_special_receiver, runs_or_lacks, class_of_object}
+use Rattle.jvm_step.specs.Effects.{are_passed, below_arguments, is_special_receiver, runs_or_lacks, class_of_object}
 use Rattle.jvm_step.specs.Effects.{answer_of, selected_effect, invokestatic_effect, invokespecial_effect, selecting_effect}
 use Rattle.jvm_step.specs.Operands.{top_reference, is_passed, is_assignable}
 use Rattle.jvm_run.proofs.Lists.{zip_drop, zip_reverse}
@@ -238,20 +238,32 @@ receives_by here s call place r object false found =
       current = λ p. s.laws.transitive (type_of object) found.t (types.erase (class_type here.method.class)) found.below both.1;
     }
 
-special_received : (here : Here) (call : Call) (object : Object) (b : Bool) → is_constructor here.program.world call ≡ b
+special_received : (here : Here) (call : Call) (object : Object) (b : Bool) → takes_any_receiver here.program.world call ≡ b
     → Receives here call object b → is_special_receiver here.program.world here.method.class call object ≡ true
 special_received here call object true p k = and_from (is_assignable (types_here here) object (class_type call.class)) _ k.named
     (ap (λ (x : Bool). cond x true (is_assignable (types_here here) object (class_type here.method.class))) p)
 special_received here call object false p k = and_from (is_assignable (types_here here) object (class_type call.class)) _ k.named
     (ap (λ (x : Bool). cond x true (is_assignable (types_here here) object (class_type here.method.class))) p ∙ k.current refl)
 
-is_named_so : (world : World) (call : Call) (m : MethodContent) → method_at world call.method ≡ Some m
-    → is_constructor world call ≡ true → bytes_eq m.name constructor_name ≡ true
-is_named_so world call m e c = ap (λ (o : Option MethodContent). option_map_or (λ x. bytes_eq x.name constructor_name) o false) (sym e) ∙ c
+-- a call that takes any object of the named class is of a method of that class
+is_own : (p : Program) (current : ℕ) (call : Call) → (good : IsGoodSpecial p current call) → takes_any_receiver p.world call ≡ true
+    → call.method.class ≡ call.class
+is_own p current call good c =
+    let m = good.good.method in
+    let named : (bytes_eq m.name constructor_name || is_monitor_call call m) ≡ true = ap
+    (λ (o : Option MethodContent). option_map_or (λ x. bytes_eq x.name constructor_name || is_monitor_call call x) o false)
+    (sym good.good.there) ∙ c in
+    elim (or_cases (bytes_eq m.name constructor_name) (is_monitor_call call m) named) [
+      | inl made ↦ good.constructor made
+      | inr monitor ↦
+          let parts = and_parts (eqb call.class 0) (eqb call.method.class 0 && bytes_eq m.name monitor_name) monitor in
+          let rest = and_parts (eqb call.method.class 0) (bytes_eq m.name monitor_name) parts.1 in
+          eqb-true call.method.class 0 rest.0 ∙ sym (eqb-true call.class 0 parts.0)
+    ]
 
 -- the receiver is below the class of the method
 special_typed : (here : Here) → Stands here → (call : Call) → IsGoodSpecial here.program here.method.class call
-    → (object : Object) (b : Bool) → is_constructor here.program.world call ≡ b → Receives here call object b
+    → (object : Object) (b : Bool) → takes_any_receiver here.program.world call ≡ b → Receives here call object b
     → call.method.class < length here.program.world
     → IsTrue ((types_here here).sub (type_of object) ((types_here here).erase (class_type call.method.class)))
 special_typed here s call good object b p k l = by b p k good.above
@@ -261,14 +273,14 @@ special_typed here s call good object b p k l = by b p k good.above
         → IsTrue ((types_here here).sub (type_of object) ((types_here here).erase (class_type call.method.class)))
     named below e = erased_above here.program.world s.linked s.laws (type_of object) call.class call.method.class good.good.class l below e
 
-    by : (b : Bool) → is_constructor here.program.world call ≡ b → Receives here call object b
+    by : (b : Bool) → takes_any_receiver here.program.world call ≡ b → Receives here call object b
         → IsTrue (is_class_below here.program.world call.class call.method.class)
         ⊎ IsTrue (is_class_below here.program.world here.method.class call.method.class)
         → IsTrue ((types_here here).sub (type_of object) ((types_here here).erase (class_type call.method.class)))
     by b p k (inl below) = named below k.named
     by true p k (inr below) = subst
         (λ (c : ℕ). IsTrue ((types_here here).sub (type_of object) ((types_here here).erase (class_type c))))
-        (sym (good.constructor (is_named_so here.program.world call good.good.method good.good.there p))) k.named
+        (sym (is_own here.program here.method.class call good p)) k.named
     by false p k (inr below) = erased_above here.program.world s.linked s.laws (type_of object) here.method.class call.method.class
         s.current l below (k.current refl)
 
@@ -276,7 +288,7 @@ special_typed here s call good object b p k l = by b p k good.above
 special_runs : (here : Here) → Stands here → (call : Call) → here.op ≡ ops.Invokespecial call
     → IsGoodSpecial here.program here.method.class call
     → (after : PlaceTypes) (more : List Want) (below : List PlaceType) (rest : List Value) (r : ℕ) (object : Object) (b : Bool)
-    → is_constructor here.program.world call ≡ b → Receives here call object b → Arguments here call.params more below
+    → takes_any_receiver here.program.world call ≡ b → Receives here call object b → Arguments here call.params more below
     → drop (length call.params) here.work.frame.stack ≡ values.Ref r ∷ rest → slice_get here.work.heap.objects r ≡ Some object
     → (target : Option ℕ) (abstract_ : Bool) → call.target ≡ target → SpecialRuns here.program call target abstract_
     → Well here (FrameGood here after) (Some (runs_or_lacks (length call.params + 1) target))
@@ -299,7 +311,7 @@ invokespecial_well here s call op_is good after e =
     let heap = here.work.heap in
     let stack = here.work.frame.stack in
     let world = here.program.world in
-    let b = is_constructor world call in
+    let b = takes_any_receiver world call in
     let G : MachineFrame → Type 0 = FrameGood here after in
     let want : Want = cond b (wants.Below (class_type call.class))
     (wants.BelowBoth (class_type call.class) (class_type here.method.class)) in

@@ -8,10 +8,8 @@
 use Rattle.std.specs.Prelude.{ℕ, zero, suc, ◌+◌, ◌&&◌, not, nat_lt, Bool, true, false, if◌then◌else◌, List, [], ◌∷◌, ◌++◌, length}
 use Rattle.std.specs.Prelude.{map, reverse, take, drop, replicate, slice_get, slice_set, Option, Some, None, option_and_then}
 use Rattle.std.specs.Prelude.{unwrap_or, ℤ, pos, negsuc, ◌+ℤ◌, ◌-ℤ◌}
-use Rattle.std.specs.Option.{option_map_or}
 use Rattle.std.specs.Ordering.{int_eq}
 use Rattle.std.specs.Int.{w32, int_wrap}
-use Rattle.std.specs.Str.{bytes_eq}
 use Rattle.list_views.specs.Options.{◌>>=◌, asked}
 use Rattle.class_program.specs.code_forms.declared.insn.Case.{Case}
 use Rattle.jvm_values.specs.declared.heap.Value.{Value}
@@ -36,11 +34,11 @@ use Rattle.jvm_values.specs.TypedHeaps.{WorldTypes}
 use Rattle.jvm_values.specs.Writes.{with_value}
 use Rattle.class_program.specs.class_world.World.{World}
 pub use Rattle.class_program.specs.class_world.WorldTypes.{types_of}
-use Rattle.class_program.specs.class_world.Resolve.{method_at}
-use Rattle.class_program.specs.class_world.BuiltIns.{throwable, null_pointer_exception, arithmetic_exception, array_index_out_of_bounds_exception}
+use Rattle.class_program.specs.class_world.BuiltIns.{throwable, null_pointer_exception, arithmetic_exception}
+use Rattle.class_program.specs.class_world.BuiltIns.{array_index_out_of_bounds_exception}
 use Rattle.class_program.specs.class_world.BuiltIns.{negative_array_size_exception, class_cast_exception, array_store_exception}
 use Rattle.class_program.specs.class_world.BuiltIns.{incompatible_class_change_error, abstract_method_error}
-use Rattle.class_program.specs.Ops.{constructor_name}
+use Rattle.class_program.specs.Ops.{takes_any_receiver}
 use Rattle.class_program.specs.declared.op.Call.{Call}
 use Rattle.class_program.specs.declared.op.FieldUse.{FieldUse}
 use Rattle.class_program.specs.declared.op.Op.{Op}
@@ -278,16 +276,12 @@ invokestatic_effect types call heap frame = do
   number ← call.target
   Some (Invoke number (length call.params))
 
--- the named method of a call is `<init>` (JVM specification 2.9)
-abbrev pub is_constructor : World → Call → Bool
-is_constructor world call = option_map_or (λ m. bytes_eq m.name constructor_name) (method_at world call.method) false
-
 -- An object may be the receiver of `invokespecial` in a method of class `current`: it is of the named class and, unless the
--- method is `<init>`, of the current class too (JVM specification 4.10.1.9, invokespecial).
+-- method is `<init>` or stands for monitors, of the current class too (JVM specification 4.10.1.9, invokespecial).
 abbrev pub is_special_receiver : World → ℕ → Call → Object → Bool
 is_special_receiver world current call object =
     is_assignable (types_of world) object (class_type call.class)
-    && (if is_constructor world call then true else is_assignable (types_of world) object (class_type current))
+    && (if takes_any_receiver world call then true else is_assignable (types_of world) object (class_type current))
 
 -- a selected method is called with so many values; one without a body throws AbstractMethodError (JVM specification
 -- 6.5.invokespecial)

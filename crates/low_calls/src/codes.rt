@@ -1,6 +1,6 @@
 //! `code_forms` and `code_decode`: what their tables don't show.
 use code_decode::{decode, encode, falls_through, targets};
-use code_forms::{Case, Insn};
+use code_forms::{Case, CodeFault, Insn, Opcodes};
 use list_views::Seq;
 use std::alloc::AllocError;
 use std::test::Fail;
@@ -23,9 +23,24 @@ static CODE: [u8; 258] = [
 
 #[test]
 fn every_instruction_is_written_as_it_was_read(rt: HostRuntime) -> Result<(), Fail> {
-    let insns = decode(rt.alloc(), &CODE).map_err(|_| AllocError)?;
+    let insns = decode(rt.alloc(), Opcodes { monitors: true }, &CODE).map_err(|_| AllocError)?;
     let code = encode(rt.alloc(), insns.as_slice())?;
     assert!(rt; code.as_slice() == CODE.as_slice());
+    Ok(())
+}
+
+#[test]
+fn instructions_of_monitors_are_read_where_they_are_wanted(rt: HostRuntime) -> Result<(), Fail> {
+    let code = [1, 194, 1, 195, 177];
+    let insns = decode(rt.alloc(), Opcodes { monitors: true }, &code).map_err(|_| AllocError)?;
+    assert!(rt; encode(rt.alloc(), insns.as_slice())?.as_slice() == code.as_slice());
+    let refused = decode(rt.alloc(), Opcodes { monitors: false }, &code);
+    assert!(rt;
+        matches!(
+            refused,
+            Err(CodeFault::UnsupportedOpcode { pc: 1, op: 194 })
+        )
+    );
     Ok(())
 }
 

@@ -38,6 +38,8 @@ plain_formed (insns.Newarray code) h = array_formed (kind_of_code code) h
 plain_formed (insns.Anewarray entry) h = absurd h
 plain_formed (insns.Checkcast entry) h = absurd h
 plain_formed (insns.Instanceof entry) h = absurd h
+plain_formed insns.Monitorenter h = absurd h
+plain_formed insns.Monitorexit h = absurd h
 plain_formed _ h = refl
 
 op_formed : (p : Program) (current : ℕ) (op : Op) → IsGoodName p current op → is_some (form_of op) ≡ true

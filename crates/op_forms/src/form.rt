@@ -277,6 +277,8 @@ fn form_of_insn(insn: &Insn) -> Option<Form<'_>>
         Insn::Athrow => Some(Form::Athrow),
         Insn::Checkcast(_) => None,
         Insn::Instanceof(_) => None,
+        Insn::Monitorenter => None,
+        Insn::Monitorexit => None,
         Insn::Ifnull(target) => Some(Form::Ifnull(*target)),
         Insn::Ifnonnull(target) => Some(Form::Ifnonnull(*target)),
         Insn::GotoW(target) => Some(Form::Goto(*target)),

@@ -48,7 +48,8 @@ use Rattle.frame_types.specs.Tables.{CodeTypes}
 use Rattle.code_verify.specs.declared.want.Want.{Want}
 use Rattle.code_verify.specs.declared.want.Want.TheVariants as wants
 use Rattle.code_verify.specs.Operands.{fits, is_below, place_of, want_of}
-use Rattle.code_verify.specs.Rows.{taken, argument_wants, is_constructor, special_receiver}
+use Rattle.code_verify.specs.Rows.{taken, argument_wants, special_receiver}
+use Rattle.class_program.specs.Ops.{takes_any_receiver}
 use Rattle.abs_turns.specs.Needs.{need_null, passes, fails, passes_if, is_comparable_place, passing}
 use Rattle.abs_turns.specs.Needs.{may_be_null, is_unknown}
 use Rattle.abs_turns.specs.Plans.{Plan, no_child}
@@ -341,7 +342,7 @@ module _ (typing : ℕ → CodeTypes) (here : Here) (spot : Spot typing here) (o
           let got = received call want a.below x a.taken_is e in
           let has : HasCell is_no_int here.state x =
           subst (λ (sort : Cell → Bool). HasCell sort here.state x)
-          (special_sort (is_constructor here.program.world call) (class_type call.class) (class_type spot.placed.method.class))
+          (special_sort (takes_any_receiver here.program.world call) (class_type call.class) (class_type spot.placed.method.class))
           got.sort in
           need_null_grows typing here spot op x _ (unless_null_grows typing here spot op x _ (λ _.
           special_target call s a.below want x k e has call.target (is_abstract s.named.1.good.method.flags) refl s.named.1.runs))

@@ -17,7 +17,7 @@ use Rattle.input_steps.specs.Classes.{AllSpell, IsWorldOf}
 use Rattle.input_steps.specs.SetUp.{set_up}
 use Rattle.input_steps.specs.declared.refused.Place.TheVariants.{Description}
 use Rattle.input_steps.proofs.OneText.{text_exact}
-use Rattle.input_desc.specs.Descs.{desc_fault, IsDescribed}
+use Rattle.input_desc.specs.Constants.{DescribesInputs}
 use Rattle.input_desc.specs.Entries.{entry_of}
 use Rattle.input_desc.specs.declared.desc.Desc.{Desc}
 use Rattle.desc_steps.specs.Givable.{CanBeGiven}
@@ -125,7 +125,7 @@ says_world text said lines whole says =
 pub is_warned : (files : List (List ℕ)) (class name desc text : List ℕ) (lines : List WorldLine) (p : Program) (said : DescText)
     (described : Desc) (lacks : Lacks) (all : Bool) → IsMethodProgram lines files class name desc p → SaysLines text lines
     → SaysOf description_of text (Ok said) → entry_of p.world said.entry ≡ Ok p.entry
-    → (desc_fault p said ≡ None) × IsDescribed p said described
+    → DescribesInputs p said (Ok described)
     → (all ≡ true → AllByRecursion (CanBeGiven p.world) described.inputs) → lacks.no_input ≡ not all
     → (lacks.no_class ≡ None → AllNamedHaveOnes p) → IsWarned files text lacks
 is_warned files class name desc text lines p said described lacks all program whole says entry fits given no_input classes =
@@ -142,8 +142,7 @@ is_warned files class name desc text lines p said described lacks all program wh
         said = says;
         entry = entry;
         closed = program.program.closed;
-        faultless = fits.0;
-        is_described = fits.1;
+        is_described = fits;
       };
       inputs = λ e. given (not_false all (sym no_input ∙ e));
       classes = classes;

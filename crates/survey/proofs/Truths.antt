@@ -16,7 +16,7 @@ use Rattle.survey.specs.declared.lines.Head.{Head}
 use Rattle.survey.specs.declared.lines.Head.TheVariants.{Maybe, Refused, LeftOut, Count, Why}
 use Rattle.survey.specs.Claims.{Surveyed, IsProvedSo, IsTrueLine, AreTrue}
 use Rattle.survey.specs.Lines.{yes_line, words_text, lacks_text, no_input_text, no_class_text, touched_text, given_text}
-use Rattle.survey.specs.Lines.{narrow_text, others_text, passed_text, assumed_text}
+use Rattle.survey.specs.Lines.{narrow_text, others_text, passed_text, monitors_text, assumed_text}
 use Rattle.survey.specs.Lines.{errors_text, exceptions_text, constants_text}
 use Rattle.survey.specs.Lines.{printed, ended, text_of}
 use Rattle.survey.specs.inner.Putting.{IsOther}
@@ -153,6 +153,13 @@ passed_stays assumed = go assumed.passed
     go true = refl
     go false = refl
 
+monitors_stay : (assumed : Assumed) → list_all stays (monitors_text assumed) ≡ true
+monitors_stay assumed = go assumed.monitors
+  where
+    go : (b : Bool) → list_all stays (cond b (codes " monitors") []) ≡ true
+    go true = refl
+    go false = refl
+
 others_stay : (others : List (List ℕ)) → list_all stays (others_text others) ≡ true
 others_stay [] = refl
 others_stay (name ∷ others) = both_stay (codes " initialised=" ++ shown name) (others_text others)
@@ -160,9 +167,11 @@ others_stay (name ∷ others) = both_stay (codes " initialised=" ++ shown name) 
 
 assumed_stay : (assumed : Assumed) → list_all stays (assumed_text assumed) ≡ true
 assumed_stay assumed =
-    both_stay (narrow_text assumed ++ others_text assumed.others) (passed_text assumed)
+    both_stay ((narrow_text assumed ++ others_text assumed.others) ++ passed_text assumed) (monitors_text assumed)
+    (both_stay (narrow_text assumed ++ others_text assumed.others) (passed_text assumed)
     (both_stay (narrow_text assumed) (others_text assumed.others) (narrow_stays assumed) (others_stay assumed.others))
-    (passed_stays assumed)
+    (passed_stays assumed))
+    (monitors_stay assumed)
 
 errors_stay : (touched : Touched) → list_all stays (errors_text touched) ≡ true
 errors_stay touched = go touched.errors

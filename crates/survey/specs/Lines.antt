@@ -27,9 +27,13 @@ others_text others = flat_map (λ name. codes " initialised=" ++ shown name) oth
 abbrev pub passed_text : Assumed → List ℕ
 passed_text assumed = if assumed.passed then codes " passed" else []
 
+-- the word behind a method in whose world monitors are run
+abbrev pub monitors_text : Assumed → List ℕ
+monitors_text assumed = if assumed.monitors then codes " monitors" else []
+
 -- the words for all that is assumed
 abbrev pub assumed_text : Assumed → List ℕ
-assumed_text assumed = (narrow_text assumed ++ others_text assumed.others) ++ passed_text assumed
+assumed_text assumed = ((narrow_text assumed ++ others_text assumed.others) ++ passed_text assumed) ++ monitors_text assumed
 
 -- the word behind a method that no state begins: some input of the description can't be given with these classes
 abbrev pub no_input_text : Bool → List ℕ

@@ -2,7 +2,7 @@
 ghost use Rattle.std.specs.Prelude.{◌≡◌, ◌==◌, filter_map, IfOk};
 ghost use Rattle.std.specs.List.{list_any};
 ghost use Rattle.class_world.specs.Worlds.{classes_of};
-ghost use Rattle.survey.specs.Assumptions.{is_own, other_of, is_passing, Shows};
+ghost use Rattle.survey.specs.Assumptions.{is_own, other_of, is_passing, is_monitors, Shows};
 
 use class_program::Program;
 use class_world::World;
@@ -20,12 +20,14 @@ pub(crate) struct Assumed {
     pub(crate) others: Seq<Seq<u8>>,
     /// Whether an interface is passed over.
     pub(crate) passed: bool,
+    /// Whether the instructions of monitors and synchronized methods are run.
+    pub(crate) monitors: bool,
 }
 
 impl Assumed {
     /// Whether the line has a word that says so of classes.
     pub(crate) fn is_shown(&self) -> bool {
-        self.passed || !self.others.is_empty()
+        self.passed || self.monitors || !self.others.is_empty()
     }
 }
 
@@ -75,7 +77,7 @@ fn other_of(
             }
             Ok(Some(Seq::from_slice(alloc, name.as_slice())?))
         }
-        WorldLine::Passed(_) => Ok(None),
+        _ => Ok(None),
     }
 }
 
@@ -101,10 +103,7 @@ fn others_of(
 fn is_passing(line: &WorldLine) -> bool
     ensures { result ≡ is_passing line.now }
 {
-    match line {
-        WorldLine::Initialised(_) => false,
-        WorldLine::Passed(_) => true,
-    }
+    matches!(line, WorldLine::Passed(_))
 }
 
 /// Whether some line does so.
@@ -113,6 +112,25 @@ fn has_passing(lines: &[WorldLine]) -> bool
 {
     for line in lines {
         if is_passing(line) {
+            return true;
+        }
+    }
+    false
+}
+
+/// Whether a line has monitors run.
+fn is_monitors(line: &WorldLine) -> bool
+    ensures { result ≡ is_monitors line.now }
+{
+    matches!(line, WorldLine::Monitors)
+}
+
+/// Whether some line does so.
+fn has_monitors(lines: &[WorldLine]) -> bool
+    ensures { result ≡ list_any is_monitors lines.now }
+{
+    for line in lines {
+        if is_monitors(line) {
             return true;
         }
     }
@@ -139,6 +157,7 @@ pub(crate) fn assumed_of(
         narrow,
         others,
         passed: has_passing(lines),
+        monitors: has_monitors(lines),
     })
 }
 

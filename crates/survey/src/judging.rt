@@ -140,6 +140,8 @@ fn program_as_given<'a>(
     let leave = Leave {
         initialised: false,
         passed: false,
+        strings: false,
+        monitors: false,
     };
     match method_program(alloc, files, lines, method, leave) {
         Ok(under) => Ok(under),
@@ -523,6 +525,8 @@ fn judged_assuming(
     let leave = Leave {
         initialised: true,
         passed: false,
+        strings: true,
+        monitors: true,
     };
     let under = method_program(alloc, scope.files, scope.lines, method, leave)?;
     let narrow = has_narrow(&under.program);

@@ -7,7 +7,7 @@ ghost use Rattle.class_world.specs.Fields.{can_be_made};
 ghost use Rattle.class_world.specs.Types.{is_sub, is_class_below};
 ghost use Rattle.class_world.specs.Worlds.{classes_of};
 ghost use Rattle.class_program.specs.Views.{program_of};
-ghost use Rattle.input_desc.specs.Descs.{desc_fault, IsDescribed};
+ghost use Rattle.input_desc.specs.Constants.{DescribesInputs};
 ghost use Rattle.input_desc.specs.Entries.{entry_of};
 ghost use Rattle.input_text.specs.Answers.{SaysOf};
 ghost use Rattle.input_text.specs.Descriptions.{description_of};
@@ -372,9 +372,9 @@ fn said_of(alloc: Global, program: &Program<'_>, text: &[u8]) -> Result<DescText
 
 /// What a description says of the program's inputs.
 fn fitted(alloc: Global, program: &Program<'_>, said: DescText) -> Result<Desc, Refused>
-    ensures { IfOk result (λ desc. (desc_fault (program_of program.now) said ≡ None) × IsDescribed (program_of program.now) said desc) }
+    ensures { IfOk result (λ desc. DescribesInputs (program_of program.now) said (Ok desc)) }
 {
-    match Desc::fit(alloc, said, program) {
+    match Desc::of(alloc, said, program) {
         Ok(desc) => Ok(desc),
         Err(fault) => Err(no_description(fault)),
     }

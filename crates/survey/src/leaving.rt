@@ -227,7 +227,7 @@ fn is_passed(lines: &[WorldLine], name: &[u8]) -> bool {
                     return true;
                 }
             }
-            WorldLine::Initialised(_) => {}
+            _ => {}
         }
     }
     false

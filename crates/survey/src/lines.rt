@@ -1,6 +1,6 @@
 //! Lines, as they are written.
 ghost use Rattle.std.specs.Prelude.{◌≡◌, ◌++◌, map, codes, IfOk, OnOk};
-ghost use Rattle.survey.specs.Lines.{narrow_text, others_text, passed_text, assumed_text};
+ghost use Rattle.survey.specs.Lines.{narrow_text, others_text, passed_text, monitors_text, assumed_text};
 ghost use Rattle.survey.specs.Lines.{given_text, no_input_text, no_class_text, lacks_text};
 ghost use Rattle.survey.specs.Lines.{errors_text, exceptions_text, constants_text, touched_text, words_text};
 ghost use Rattle.survey.specs.Lines.{printed, yes_line};
@@ -124,6 +124,12 @@ fn passed_text(assumed: &Assumed) -> &'static [u8]
     if assumed.passed { b" passed" } else { b"" }
 }
 
+fn monitors_text(assumed: &Assumed) -> &'static [u8]
+    ensures { result.now ≡ monitors_text assumed.now }
+{
+    if assumed.monitors { b" monitors" } else { b"" }
+}
+
 /// Puts a word for each other class that is taken to be initialised behind a line.
 #[tactic(auto, using(crate::proofs::Walks::others_more, crate::proofs::Walks::others_end))]
 fn put_others(line: &mut Seq<u8>, others: &[Seq<u8>]) -> Result<(), AllocError>
@@ -143,6 +149,7 @@ fn assumed_text(alloc: Global, assumed: &Assumed) -> Result<Seq<u8>, AllocError>
     let mut text = Seq::from_slice(alloc, narrow_text(assumed))?;
     put_others(&mut text, assumed.others.as_slice())?;
     text.extend_from_slice(passed_text(assumed))?;
+    text.extend_from_slice(monitors_text(assumed))?;
     Ok(text)
 }
 

@@ -187,8 +187,9 @@ fn without<E: Sink>(line: &[u8], status: u8, err: &mut E) -> u8
 /// template. Behind a YES stands what was assumed: `narrow`, where parameters of type boolean, byte, char and short have the numbers
 /// of their types alone; `initialised=CLASS` for each class that is taken to be initialised before, but the method's own and those above
 /// it; `passed`, where an interface is passed over: one that no file spells, which each description that was handed in passes over too;
-/// none where a file was refused. Static initialisers have no lines. With `--strict` none of this is assumed: a template has no lines
-/// about classes and takes every int, and initialisers are refused like other methods that can't be asked. Then stands `no-input` where
+/// none where a file was refused; `monitors`, where instructions of monitors or synchronized methods are run. Static initialisers have no
+/// lines. With `--strict` none of this is assumed: a template has no lines about classes and takes every int, string constants aren't
+/// there either, and initialisers are refused like other methods that can't be asked. Then stands `no-input` where
 /// some input of it can't be given with these classes, so that no state begins it; `no-class=C` for the first type that its program names
 /// and that no object of these classes is of; and a word for each premise that its program touches: `handles-errors`,
 /// `compares-exceptions`, `constant-value`. With `--why` lines of advice follow, which begin with blanks. To `err` it puts a line where

@@ -12,12 +12,15 @@ use Rattle.tools_cli.specs.Reading.{behind_first, WereHanded, IsPut, HasNone}
 abbrev pub is_flag : List ℕ → Bool
 is_flag word = bytes_eq word (codes "--initialised") || (bytes_eq word (codes "--passed") || bytes_eq word (codes "--narrow"))
 
--- what is asked for with this flag too
+-- What is asked for with this flag too: `--initialised` asks for the lines on string constants and on monitors as well, as they are added
+-- where the program needs them.
 abbrev pub with_flag : List ℕ → Asked → Asked
 with_flag word asked = record {
   leave = record {
     initialised = bytes_eq word (codes "--initialised") || asked.leave.initialised;
     passed = bytes_eq word (codes "--passed") || asked.leave.passed;
+    strings = bytes_eq word (codes "--initialised") || asked.leave.strings;
+    monitors = bytes_eq word (codes "--initialised") || asked.leave.monitors;
   };
   narrow = bytes_eq word (codes "--narrow") || asked.narrow;
 }
@@ -29,7 +32,10 @@ asked_with asked (word ∷ words) = if is_flag word then asked_with (with_flag w
 
 -- so it is from the first flag on
 abbrev pub asked_of : List (List ℕ) → Asked
-asked_of words = asked_with (record { leave = record { initialised = false; passed = false }; narrow = false }) words
+asked_of words = asked_with (record {
+    leave = record { initialised = false; passed = false; strings = false; monitors = false };
+    narrow = false;
+}) words
 
 -- the words behind the flags
 abbrev pub behind_flags : List (List ℕ) → List (List ℕ)

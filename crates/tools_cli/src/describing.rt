@@ -74,6 +74,8 @@ fn with_flag(asked: Asked, word: &str) -> Option<Asked>
     let mut more = asked;
     if word.as_bytes() == b"--initialised" {
         more.leave.initialised = true;
+        more.leave.strings = true;
+        more.leave.monitors = true;
         return Some(more);
     }
     if word.as_bytes() == b"--passed" {
@@ -105,6 +107,8 @@ fn flagged(words: &[String]) -> Flagged<'_>
             leave: Leave {
                 initialised: false,
                 passed: false,
+                strings: false,
+                monitors: false,
             },
             narrow: false,
         },
@@ -149,26 +153,6 @@ fn printed(
             Err(fault) => Err(fault),
         },
     }
-}
-
-/// What the flags ask for that stand before the words of a class and a method, in any order, and the number of these flags.
-fn asked_by(words: &[String]) -> (Asked, usize) {
-    let mut asked = Asked {
-        leave: Leave {
-            initialised: false,
-            passed: false,
-        },
-        narrow: false,
-    };
-    for (n, word) in words.iter().enumerate() {
-        match word.as_str() {
-            "--initialised" => asked.leave.initialised = true,
-            "--passed" => asked.leave.passed = true,
-            "--narrow" => asked.narrow = true,
-            _ => return (asked, n),
-        }
-    }
-    (asked, words.len())
 }
 
 /// What is printed for the words.

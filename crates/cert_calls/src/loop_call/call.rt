@@ -159,10 +159,9 @@ fn of_files(
 ///
 /// # Errors
 ///
-/// The first fault with its place: of a class file, in order; of the description's text; of the state's text; of the classes as a world; of
-/// the method's name; that the state names another one, or says other things of the classes; of its program; a cycle of calls; a method
-/// without a typing; of the description
-/// against the program; of what the state gives to it. Want of memory.
+/// The first fault with its place: of a class file, in order; of the description's text; of the state's text; of the classes as a world;
+/// of the method's name; that the state names another one, or says other things of the classes; of its program; a cycle of calls; a
+/// method without a typing; of the description against the program; of what the state gives to it. Want of memory.
 pub fn loop_line(
     alloc: Global,
     cert: &[u8],

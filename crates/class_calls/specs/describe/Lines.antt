@@ -1,14 +1,17 @@
 -- Lines about classes that a method's program needs.
-use Rattle.std.specs.Prelude.{◌≡◌, ◌⊎◌, ℕ, Bool, List, [], ◌∷◌, ◌++◌, Some, IsTrue, ⊤}
+use Rattle.std.specs.Prelude.{◌≡◌, ◌⊎◌, ◌==◌, ◌||◌, ℕ, Bool, false, List, [], ◌∷◌, ◌++◌, Some, IsTrue, ⊤}
 use Rattle.class_read.specs.Content.{ClassContent}
-use Rattle.class_world.specs.declared.fault.LinkFault.TheVariants.{StaticInit, MissingClass}
+use Rattle.class_world.specs.code_forms.declared.fault.CodeFault.{CodeFault}
+use Rattle.class_world.specs.code_forms.declared.fault.CodeFault.TheVariants.{UnsupportedOpcode}
+use Rattle.class_world.specs.declared.fault.LinkFault.{LinkFault}
+use Rattle.class_world.specs.declared.fault.LinkFault.TheVariants.{StaticInit, MissingClass, UnsupportedType, Unresolved, Synchronized, Code}
 use Rattle.class_world.specs.declared.world.MethodRef.{MethodRef}
 use Rattle.class_world.specs.World.{World}
 use Rattle.class_world.specs.Members.{find_method}
 use Rattle.class_world.specs.Resolve.{has_body}
 use Rattle.class_program.specs.Programs.{Program}
 use Rattle.input_text.specs.declared.texts.WorldLine.{WorldLine}
-use Rattle.input_text.specs.declared.texts.WorldLine.TheVariants.{Initialised, Passed}
+use Rattle.input_text.specs.declared.texts.WorldLine.TheVariants.{Initialised, Passed, Strings, Monitors}
 use Rattle.input_steps.specs.declared.refused.Place.{Place}
 use Rattle.input_steps.specs.declared.refused.Fault.{Fault}
 use Rattle.input_steps.specs.declared.refused.Fault.TheVariants as faults
@@ -64,11 +67,39 @@ RefusesMethod lines files class name desc place fault = RefusesClasses files pla
 abbrev pub allows : Leave → WorldLine → Bool
 allows leave (Initialised class) = leave.initialised
 allows leave (Passed interface) = leave.passed
+allows leave Strings = leave.strings
+allows leave Monitors = leave.monitors
 
--- a fault asks for a line: a class would be initialised, and is initialised before; or an interface is missing, and is passed over
+-- an instruction isn't supported that is one of monitors
+abbrev pub is_of_monitors : CodeFault → Bool
+is_of_monitors (UnsupportedOpcode pc op) = (op == 194) || (op == 195)
+is_of_monitors fault = false
+
+-- a fault may be gone where string constants are there: a constant's type isn't supported without them, and a constructor with a message,
+-- of a built-in class, isn't found
+abbrev pub MayWantStrings : LinkFault → Type 0
+MayWantStrings (UnsupportedType method pc) = ⊤
+MayWantStrings (Unresolved method pc) = ⊤
+MayWantStrings fault = ⊥
+
+-- a fault is gone where monitors are there: a method is synchronized, or has one of their instructions
+abbrev pub WantsMonitors : LinkFault → Type 0
+WantsMonitors (Synchronized method) = ⊤
+WantsMonitors (Code method fault) = IsTrue (is_of_monitors fault)
+WantsMonitors fault = ⊥
+
+-- a fault asks for the line on string constants, or for that on monitors
+abbrev pub AsksForFeature : LinkFault → WorldLine → Type 0
+AsksForFeature fault Strings = MayWantStrings fault
+AsksForFeature fault Monitors = WantsMonitors fault
+AsksForFeature fault line = ⊥
+
+-- a fault asks for a line: a class would be initialised, and is initialised before; an interface is missing, and is passed over; string
+-- constants are wanted, or monitors
 abbrev pub AsksFor : Fault → WorldLine → Type 0
 AsksFor (faults.Link (StaticInit name)) (Initialised class) = class ≡ name
 AsksFor (faults.Link (MissingClass name)) (Passed interface) = interface ≡ name
+AsksFor (faults.Link fault) line = AsksForFeature fault line
 AsksFor fault line = ⊥
 
 -- a line is added behind others: there is leave for it, and the fault for which the method is refused under these asks for it

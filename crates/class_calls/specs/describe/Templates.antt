@@ -1,6 +1,6 @@
 -- Texts that describe a program's entry method and leave no input out, or, where it is asked so, only numbers that a parameter's type
 -- doesn't have.
-use Rattle.std.specs.Prelude.{◌≡◌, ℕ, Bool, List, None, Ok, ⊤}
+use Rattle.std.specs.Prelude.{◌≡◌, ℕ, Bool, List, Ok, ⊤}
 use Rattle.std.specs.List.{AllZip}
 use Rattle.jvm_values.specs.declared.types.Slot.{Slot}
 use Rattle.jvm_values.specs.declared.types.Slot.TheVariants as slots
@@ -14,8 +14,8 @@ use Rattle.input_text.specs.declared.texts.WorldLine.{WorldLine}
 use Rattle.input_desc.specs.declared.desc.Desc.{Desc}
 use Rattle.input_desc.specs.declared.desc.Input.{Input}
 use Rattle.input_desc.specs.declared.desc.Input.TheVariants.{Int, Ref}
+use Rattle.input_desc.specs.Constants.{DescribesInputs}
 use Rattle.input_desc.specs.Entries.{entry_of}
-use Rattle.input_desc.specs.Descs.{desc_fault, IsDescribed}
 use Rattle.input_desc.specs.Fitting.{FitsDescription}
 use Rattle.input_desc.specs.Narrow.{slots_in}
 use Rattle.class_calls.specs.describe.Starts.{IsStartState}
@@ -34,8 +34,7 @@ pub record IsTemplate (narrow : Bool) (lines : List WorldLine) (p : Program) (by
   pub says : SaysOf description_of bytes (Ok text)
   pub lines_are : text.world ≡ lines
   pub entry : entry_of p.world text.entry ≡ Ok p.entry
-  pub fits : desc_fault p text ≡ None
   pub desc : Desc
-  pub described : IsDescribed p text desc
+  pub described : DescribesInputs p text (Ok desc)
   pub numbers : AllZip HasNumbers (slots_in narrow p) desc.inputs
   pub whole : (state : MachineState) → IsStartState narrow p state → FitsDescription p desc state

@@ -1,5 +1,6 @@
 -- Descriptions that leave no input out.
-use Rattle.std.specs.Prelude.{◌≡◌, ℕ, ◌<◌, ◌&&◌, ◌||◌, Bool, true, false, List, [], ◌∷◌, length, slice_get, Some, None, IsTrue}
+use Rattle.std.specs.Prelude.{◌≡◌, ℕ, ◌<◌, ◌&&◌, ◌||◌, Bool, true, false, List, [], ◌∷◌, length, take}
+use Rattle.std.specs.Prelude.{slice_get, Some, None, IsTrue}
 use Rattle.std.specs.List.{list_all}
 use Rattle.std.specs.Ordering.{int_eq}
 use Rattle.jvm_values.specs.declared.types.Ty.{Ty}
@@ -69,11 +70,11 @@ ListsAll world listed slots' pairs = (i j : ℕ) (a b : Slot) → i < j → slic
 
 -- ---- the whole
 
--- a description leaves no input of some slots out: each input is open, only a receiver's null is left out, and all
--- pairs are listed
-pub record IsWhole (world : World) (receiver : Bool) (slots' : List Slot) (desc : Desc) : Type 0 where
+-- A description leaves no input of some slots out, of which the first `own` are described by its text, and the others are string constants:
+-- each input is open; of those of the text, only a receiver's null is left out, and all their pairs are listed.
+pub record IsWhole (world : World) (receiver : Bool) (own : ℕ) (slots' : List Slot) (desc : Desc) : Type 0 where
   pub count : length desc.inputs ≡ length slots'
   pub opened : first_unfit (is_open world) 0 slots' desc.inputs ≡ None
-  pub nullable : list_all is_nullable (behind receiver desc.inputs) ≡ true
-  pub same : ListsAll world Same slots' desc.same
-  pub share : ListsAll world Share slots' desc.share
+  pub nullable : list_all is_nullable (behind receiver (take own desc.inputs)) ≡ true
+  pub same : ListsAll world Same (take own slots') desc.same
+  pub share : ListsAll world Share (take own slots') desc.share

@@ -183,8 +183,8 @@ fn lines_with_next(
 
 /// The program of a method, with the lines about classes under which it is made: those that are given, and behind them each further one
 /// that is allowed and that a fault of the program asks for under those before it. A class that would be initialised is then taken to
-/// be initialised before the run, and an interface that is missing in a list of interfaces is passed over. None where no method with a
-/// body has these names. There are at most 256 class files.
+/// be initialised before the run, an interface that is missing in a list of interfaces is passed over, and string constants and monitors
+/// are there where the program has them. None where no method with a body has these names. There are at most 256 class files.
 ///
 /// # Errors
 ///

@@ -1,11 +1,12 @@
 //! A description's text, read back.
-ghost use Rattle.std.specs.Prelude.{◌≡◌, IfOk, OnOk, None, Ok};
+ghost use Rattle.std.specs.Prelude.{◌≡◌, ◌-◌, ◌≤◌, length, true, IfOk, OnOk, Ok};
 ghost use Rattle.class_world.specs.Worlds.{classes_of};
 ghost use Rattle.class_program.specs.Views.{program_of};
 ghost use Rattle.input_text.specs.Answers.{SaysOf};
 ghost use Rattle.input_text.specs.Descriptions.{description_of};
 ghost use Rattle.input_desc.specs.Entries.{entry_of};
-ghost use Rattle.input_desc.specs.Descs.{desc_fault, has_receiver, IsDescribed};
+ghost use Rattle.input_desc.specs.Constants.{constant_count, constants_are_last, filled};
+ghost use Rattle.input_desc.specs.Descs.{has_receiver, Describes};
 ghost use Rattle.input_desc.specs.Narrow.{slots_in};
 ghost use Rattle.class_calls.specs.describe.Whole.{IsWhole};
 ghost use Rattle.class_calls.specs.describe.Templates.{IsTemplate};
@@ -14,7 +15,9 @@ use crate::describe::fault::DescribeFault;
 use crate::describe::whole::is_whole;
 use crate::describe::written::text_of;
 use class_program::Program;
-use input_desc::{Desc, DescFault, DescText, entry, has_receiver, inputs_in};
+use input_desc::{
+    Desc, DescFault, DescText, constant_count, constants_are_last, entry, has_receiver, inputs_in,
+};
 use input_text::{WorldLine, are_same_lines};
 use std::alloc::Global;
 
@@ -56,37 +59,42 @@ fn described(
     }
 }
 
-/// What the text describes fits the program, and leaves no input out.
+/// What the text describes fits the program, and leaves no input out: of string constants it says nothing.
 fn fitted(
     alloc: Global,
     program: &Program<'_>,
     narrow: bool,
     said: DescText,
 ) -> Result<Desc, DescribeFault>
-    ensures described { IfOk result (λ desc. (desc_fault (program_of program.now) said ≡ None)
-        × IsDescribed (program_of program.now) said desc) }
-    ensures whole { IfOk result (λ desc. IsWhole (classes_of program.now.world) (has_receiver (program_of program.now))
-        (slots_in narrow (program_of program.now)) desc) }
+    ensures described { IfOk result (λ written. Describes (program_of program.now) (filled (program_of program.now) said) (Ok written)) }
+    ensures last { IfOk result (λ _. constants_are_last (program_of program.now) ≡ true) }
+    ensures whole { IfOk result (λ written. IsWhole (classes_of program.now.world) (has_receiver (program_of program.now))
+        (length (slots_in narrow (program_of program.now)) - constant_count (program_of program.now))
+        (slots_in narrow (program_of program.now)) written) }
 {
     let slots = inputs_in(alloc, program, narrow)?;
-    let desc = match Desc::fit(alloc, said, program) {
-        Ok(desc) => desc,
+    let own = slots.len().saturating_sub(constant_count(program));
+    let written = match Desc::written(alloc, said, program) {
+        Ok(written) => written,
         Err(fault) => return Err(unwritable(fault)),
     };
-    if is_whole(
-        &program.world,
-        has_receiver(program),
-        slots.as_slice(),
-        &desc,
-    ) {
-        Ok(desc)
+    if constants_are_last(program)
+        && is_whole(
+            &program.world,
+            has_receiver(program),
+            own,
+            slots.as_slice(),
+            &written,
+        )
+    {
+        Ok(written)
     } else {
         Err(DescribeFault::Unwritable)
     }
 }
 
 /// The text describes the program's entry method, fits the program, and leaves no input out.
-#[tactic(auto, using(crate::proofs::Wholes::is_template))]
+#[tactic(auto, using(crate::proofs::WrittenWholes::is_template))]
 fn read_back(
     alloc: Global,
     program: &Program<'_>,
@@ -108,7 +116,7 @@ fn read_back(
 /// without null, in any shape, and every two references that can be one object or lead to one. Only a receiver is never null. Where
 /// narrow parameters are asked for, those of type boolean, byte, char or short have the numbers of their types and no others, though the
 /// machine takes any int. The description has these lines about classes: form 3, or form 2 where there are none. That the program is
-/// made under them is for the caller to know: nothing here asks for it.
+/// made under them is for the caller to know: nothing here asks for it. Of string constants it says nothing, as no description does.
 ///
 /// # Errors
 ///

@@ -1,9 +1,10 @@
 //! The lines about classes without which a program isn't linked or closed.
 ghost use Rattle.std.specs.Prelude.{◌≡◌, IfOk, IfSome, IsTrue};
-ghost use Rattle.class_calls.specs.describe.Lines.{allows, AsksFor};
+ghost use Rattle.class_calls.specs.describe.Lines.{allows, is_of_monitors, MayWantStrings, WantsMonitors, AsksForFeature, AsksFor};
 
 use class_read::ClassView;
 use class_world::LinkFault;
+use class_world::code_forms::CodeFault;
 use input_steps::Fault;
 use input_text::WorldLine;
 use list_views::Seq;
@@ -16,6 +17,10 @@ pub struct Leave {
     pub initialised: bool,
     /// Those that pass an interface over.
     pub passed: bool,
+    /// That string constants are there.
+    pub strings: bool,
+    /// That monitors are there.
+    pub monitors: bool,
 }
 
 /// A line once more.
@@ -35,6 +40,8 @@ pub fn line_again(alloc: Global, line: &WorldLine) -> Result<WorldLine, AllocErr
             alloc,
             interface.as_slice(),
         )?)),
+        WorldLine::Strings => Ok(WorldLine::Strings),
+        WorldLine::Monitors => Ok(WorldLine::Monitors),
     }
 }
 
@@ -42,15 +49,15 @@ pub fn line_again(alloc: Global, line: &WorldLine) -> Result<WorldLine, AllocErr
 fn initialises(line: &WorldLine, name: &[u8]) -> bool {
     match line {
         WorldLine::Initialised(class) => class.as_slice() == name,
-        WorldLine::Passed(_) => false,
+        _ => false,
     }
 }
 
 /// Whether a line says that the interface of a name is passed over.
 fn passes(line: &WorldLine, name: &[u8]) -> bool {
     match line {
-        WorldLine::Initialised(_) => false,
         WorldLine::Passed(interface) => interface.as_slice() == name,
+        _ => false,
     }
 }
 
@@ -94,6 +101,73 @@ fn may_pass(classes: &[ClassView<'_>], lines: &[WorldLine], name: &[u8]) -> bool
     false
 }
 
+/// Whether a line says that string constants are there.
+fn has_strings(lines: &[WorldLine]) -> bool {
+    for line in lines {
+        if matches!(line, WorldLine::Strings) {
+            return true;
+        }
+    }
+    false
+}
+
+/// Whether a line says that monitors are there.
+fn has_monitors(lines: &[WorldLine]) -> bool {
+    for line in lines {
+        if matches!(line, WorldLine::Monitors) {
+            return true;
+        }
+    }
+    false
+}
+
+/// Whether an instruction isn't supported that is one of monitors.
+fn is_of_monitors(fault: &CodeFault) -> bool
+    ensures { result ≡ is_of_monitors fault.now }
+{
+    match fault {
+        CodeFault::UnsupportedOpcode { op, .. } => *op == 194 || *op == 195,
+        _ => false,
+    }
+}
+
+/// Whether a fault may be gone where string constants are there: the type of a constant isn't supported without them, and a constructor
+/// with a message, of a built-in class, isn't found.
+fn may_want_strings(fault: &LinkFault) -> bool
+    ensures { IsTrue result → MayWantStrings fault.now }
+{
+    match fault {
+        LinkFault::UnsupportedType { .. } => true,
+        LinkFault::Unresolved { .. } => true,
+        _ => false,
+    }
+}
+
+/// Whether a fault is gone where monitors are there: a method is synchronized, or has one of their instructions.
+fn wants_monitors(fault: &LinkFault) -> bool
+    ensures { IsTrue result → WantsMonitors fault.now }
+{
+    match fault {
+        LinkFault::Synchronized { .. } => true,
+        LinkFault::Code { fault, .. } => is_of_monitors(fault),
+        _ => false,
+    }
+}
+
+/// The line on string constants or on monitors that a fault asks for. None where neither helps, there is no leave for it, or the line is
+/// there already.
+fn feature_needed(leave: Leave, lines: &[WorldLine], fault: &LinkFault) -> Option<WorldLine>
+    ensures { IfSome result (λ line. IsTrue (allows leave line) × AsksForFeature fault.now line) }
+{
+    if leave.strings && may_want_strings(fault) && !has_strings(lines) {
+        return Some(WorldLine::Strings);
+    }
+    if leave.monitors && wants_monitors(fault) && !has_monitors(lines) {
+        return Some(WorldLine::Monitors);
+    }
+    None
+}
+
 /// The line that a class which would be initialised asks for.
 fn initialised_line(
     alloc: Global,
@@ -126,9 +200,10 @@ fn passed_line(
     Ok(None)
 }
 
-/// The line that a fault of linking or closing asks for: that the class which would be initialised is initialised before the run, or
-/// that the interface which is missing in a list of interfaces is passed over. None where no line helps, there is no leave for it, or
-/// it is there already.
+/// The line that a fault of linking or closing asks for: that the class which would be initialised is initialised before the run; that
+/// the interface which is missing in a list of interfaces is passed over; that string constants are there; or that monitors are. None
+/// where no line helps, there is no leave for it, or it is there already. Where the line on string constants doesn't help, the fault
+/// stays as it is, or is that the class of strings is missing.
 pub(crate) fn line_needed(
     alloc: Global,
     leave: Leave,
@@ -151,6 +226,7 @@ pub(crate) fn line_needed(
             }
             Ok(None)
         }
+        Fault::Link(fault) => Ok(feature_needed(leave, lines, fault)),
         _ => Ok(None),
     }
 }

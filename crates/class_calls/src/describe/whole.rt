@@ -1,5 +1,5 @@
 //! Whether a description leaves no input out.
-ghost use Rattle.std.specs.Prelude.{◌≡◌, ◌<◌, IfSome, IsTrue, length, true};
+ghost use Rattle.std.specs.Prelude.{◌≡◌, ◌<◌, ◌≤◌, IfSome, IsTrue, length, true};
 ghost use Rattle.std.specs.List.{list_all};
 ghost use Rattle.class_world.specs.Worlds.{classes_of};
 ghost use Rattle.input_desc.specs.Fitting.{IsListed};
@@ -148,14 +148,23 @@ fn lists_all(world: &World<'_>, listed: Listed, slots: &[Slot], pairs: &[(u32, u
     true
 }
 
-/// Whether a description of inputs leaves none out.
-pub(crate) fn is_whole(world: &World<'_>, receiver: bool, slots: &[Slot], desc: &Desc) -> bool
-    ensures { IsTrue result → IsWhole (classes_of world.now) receiver slots.now desc.now }
+/// Whether a description of inputs leaves none out, where those from the number `own` on are string constants.
+pub(crate) fn is_whole(
+    world: &World<'_>,
+    receiver: bool,
+    own: usize,
+    slots: &[Slot],
+    desc: &Desc,
+) -> bool
+    requires { own ≤ length slots.now }
+    ensures { IsTrue result → IsWhole (classes_of world.now) receiver own slots.now desc.now }
 {
     let inputs = desc.inputs.as_slice();
-    inputs.len() == slots.len()
-        && first_not_open(world, slots, inputs).is_none()
-        && are_nullable(behind(receiver, inputs))
-        && lists_all(world, Listed::Same, slots, desc.same.as_slice())
-        && lists_all(world, Listed::Share, slots, desc.share.as_slice())
+    if inputs.len() != slots.len() {
+        return false;
+    }
+    first_not_open(world, slots, inputs).is_none()
+        && are_nullable(behind(receiver, &inputs[..own]))
+        && lists_all(world, Listed::Same, &slots[..own], desc.same.as_slice())
+        && lists_all(world, Listed::Share, &slots[..own], desc.share.as_slice())
 }

@@ -2,7 +2,7 @@
 use crate::describe::inputs::{Listed, class_name, put_inputs, put_pairs};
 use crate::describe::json::{put, put_string};
 use class_program::Program;
-use input_desc::{has_receiver, inputs_in};
+use input_desc::{constant_count, has_receiver, inputs_in};
 use input_text::WorldLine;
 use jvm_values::{Slot, Types};
 use std::alloc::{AllocError, Global};
@@ -25,6 +25,8 @@ fn put_line(text: &mut Vec<u8>, line: &WorldLine) -> Result<(), AllocError> {
             class.as_slice(),
         )?,
         WorldLine::Passed(interface) => put_string(text, b"[\"passed\",\"", interface.as_slice())?,
+        WorldLine::Strings => put(text, b"[\"strings\"")?,
+        WorldLine::Monitors => put(text, b"[\"monitors\"")?,
     }
     put(text, b"]")
 }
@@ -57,7 +59,7 @@ fn put_entry(
     put_lines(text, lines)
 }
 
-/// Puts a description of a program with these inputs behind a text.
+/// Puts a description of a program with these inputs behind a text: they are all that are no string constants.
 fn put_description(
     text: &mut Vec<u8>,
     alloc: Global,
@@ -91,7 +93,7 @@ fn put_description(
 }
 
 /// The text of a description that leaves no input of a program out, if each name is UTF-8: in form 2, or in form 3 where there are lines
-/// about classes.
+/// about classes. String constants aren't described.
 pub(crate) fn text_of(
     alloc: Global,
     program: &Program<'_>,
@@ -99,7 +101,8 @@ pub(crate) fn text_of(
     narrow: bool,
 ) -> Result<Vec<u8>, AllocError> {
     let inputs = inputs_in(alloc, program, narrow)?;
+    let own = inputs.len().saturating_sub(constant_count(program));
     let mut text = Vec::new(alloc);
-    put_description(&mut text, alloc, program, lines, inputs.as_slice())?;
+    put_description(&mut text, alloc, program, lines, &inputs.as_slice()[..own])?;
     Ok(text)
 }

@@ -3,14 +3,19 @@ ghost use Rattle.std.specs.Prelude.{◌<◌, ◌^◌, IfOk, vec_len};
 
 use anyhow::{Context, Result, bail};
 use code_decode::{SpellingView, decode, name, spelling_of};
-use code_forms::{Case as SwitchCase, CodeFault, Handler, Insn, check_table};
+use code_forms::{Case as SwitchCase, CodeFault, Handler, Insn, Opcodes, check_table};
 use std::alloc::{AllocError, Global};
 use table_cases::{Case, ascii, put_count, put_numbered, said, short};
+
+/// Those instructions alone that are always read.
+fn always_read() -> Opcodes {
+    Opcodes { monitors: false }
+}
 
 /// The answer to a case of `code`: the instructions, or the fault.
 pub fn code(alloc: Global, case: &Case<'_>) -> Result<String> {
     let code = read_code(alloc, case)?;
-    match decode(alloc, code.as_slice()) {
+    match decode(alloc, always_read(), code.as_slice()) {
         Ok(insns) => Ok(insns_line(alloc, insns.as_slice())?),
         Err(fault) => fault_line(alloc, &fault),
     }
@@ -31,7 +36,7 @@ fn insns_line(alloc: Global, insns: &[(u16, Insn)]) -> Result<String, AllocError
 pub fn table(alloc: Global, case: &Case<'_>) -> Result<String> {
     let table = read_table(alloc, case.text(1)?)?;
     let code = read_code(alloc, case)?;
-    match decode(alloc, code.as_slice()) {
+    match decode(alloc, always_read(), code.as_slice()) {
         Ok(insns) => checked(alloc, insns.as_slice(), code.len() as u32, table.as_slice()),
         Err(fault) => fault_line(alloc, &fault),
     }

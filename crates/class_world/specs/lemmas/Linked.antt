@@ -11,7 +11,8 @@ use Rattle.std.proofs.lemmas.Option.{slice_get_within}
 use Rattle.class_read.specs.Content.{ClassContent}
 use Rattle.class_world.specs.declared.fault.LinkFault.{LinkFault}
 use Rattle.class_world.specs.declared.fault.LinkFault.TheVariants.{CyclicHierarchy, BadSuper}
-use Rattle.class_world.specs.World.{World, built_in, class_of, super_of, interfaces_of, supers_of, listed, is_interface_class}
+use Rattle.class_world.specs.World.{World, built_in, no_features, class_of, super_of, interfaces_of, supers_of, listed, is_interface_class}
+use Rattle.class_world.specs.declared.features.Constructors.TheVariants.{Nothing}
 use Rattle.class_world.specs.World.{is_above, is_interface, leads_up}
 use Rattle.class_world.specs.Types.{is_class_below}
 use Rattle.class_world.specs.Linking.{Rule, first_broken, duplicate_class, missing_super, cyclic_hierarchy, bad_super}
@@ -69,7 +70,7 @@ linked_from world e =
 -- ---- the hierarchy
 
 pub class_of_within : (world : World) (name : List ℕ) (i : ℕ) → class_of world name ≡ Some i → i < length world
-class_of_within world name i e = (position-Some (λ c. bytes_eq name c.name) world i (built_in [] []) e).0
+class_of_within world name i e = (position-Some (λ c. bytes_eq name c.name) world i (built_in no_features ([], [], Nothing)) e).0
 
 IsIn-append : (x : ℕ) (xs ys : List ℕ) → IsIn x (xs ++ ys) → IsIn x xs ⊎ IsIn x ys
 IsIn-append x [] ys h = inr h

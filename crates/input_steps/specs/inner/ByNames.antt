@@ -3,13 +3,13 @@ use Rattle.std.specs.Prelude.{ℕ, Bool, not, ◌&&◌, ◌++◌, List, map}
 use Rattle.std.specs.List.{filter, list_any}
 use Rattle.std.specs.Str.{bytes_eq}
 use Rattle.class_read.specs.Content.{ClassContent}
-use Rattle.class_world.specs.World.{built_in_names}
+use Rattle.class_world.specs.World.{built_in_rows}
 use Rattle.input_text.specs.declared.texts.WorldLine.{WorldLine}
 use Rattle.input_steps.specs.SetUp.{passes, past_initialiser}
 
 -- a class of this name is built in, or handed in among those of these names
 unfoldable pub is_there : List (List ℕ) → List ℕ → Bool
-is_there names name = list_any (bytes_eq name) (map (λ n. n.0) built_in_names ++ names)
+is_there names name = list_any (bytes_eq name) (map (λ n. n.0) built_in_rows ++ names)
 
 -- an interface is passed over, beside classes of these names
 abbrev pub is_passed_by : List WorldLine → List (List ℕ) → List ℕ → Bool

@@ -1,26 +1,16 @@
 -- The last steps of reading a line about classes.
-use Rattle.std.specs.Prelude.{ℕ, ◌==◌, nat_lt, List, Ok}
-use Rattle.list_views.specs.Results.{wanted, required}
-use Rattle.json_view.specs.Place.{item_pointer}
+use Rattle.std.specs.Prelude.{ℕ, nat_lt, List}
+use Rattle.list_views.specs.Results.{required}
 use Rattle.json_view.specs.Reading.{text_of}
 use Rattle.json_view.specs.declared.fault.JsonFault.TheVariants.{WrongKind}
 use Rattle.input_text.specs.Answers.{Reader}
 use Rattle.input_text.specs.Fields.{◌>>=◌, nth}
-use Rattle.input_text.specs.WorldLines.{line_named}
+use Rattle.input_text.specs.WorldLines.{line_alone, line_by}
 use Rattle.input_text.specs.declared.texts.WorldLine.{WorldLine}
-
--- a line of so many items, whose word says this of a name
-abbrev pub saying : (List ℕ → WorldLine) → ℕ → Reader WorldLine
-saying says count here = do
-  two ← required (WrongKind here.place) (count == 2)
-  name ← nth 1 text_of here
-  Ok (says name)
 
 -- a line of so many items, with this word
 abbrev pub behind_word : List ℕ → ℕ → Reader WorldLine
-behind_word word count here = do
-  says ← wanted (WrongKind (item_pointer here.place 0)) (line_named word)
-  saying says count here
+behind_word word count here = line_by (line_alone word) word count here
 
 -- a line of so many items
 abbrev pub behind_count : ℕ → Reader WorldLine

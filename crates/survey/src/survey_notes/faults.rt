@@ -154,16 +154,17 @@ fn link_advice(fault: &LinkFault) -> &'static [u8] {
                 values into the method"
         }
         LinkFault::UnsupportedType { .. } => {
-            b"a long, a float, a double, a string or a class constant stands here: use ints, or move it out of what the method calls"
+            b"a long, a float, a double or a class constant stands here, or, with --strict, a string: use ints, or move it out of what the method calls"
         }
         LinkFault::Unresolved { .. } => {
             b"a call of a method of Object, Throwable or an interface, or a field that isn't there: docs/REFUSALS.md has the causes"
         }
-        LinkFault::Native { .. } | LinkFault::Synchronized { .. } => {
-            b"native and synchronized methods aren't supported: call another one"
+        LinkFault::Native { .. } => b"native methods aren't supported: call another one",
+        LinkFault::Synchronized { .. } =>
+            b"with --strict synchronized methods aren't supported: ask without it",
+        LinkFault::Code { .. } => {
+            b"lambdas and string concatenation aren't supported, nor, with --strict, monitors: write it without them"
         }
-        LinkFault::Code { .. } =>
-            b"lambdas, string concatenation and monitors aren't supported: write it without them",
         _ => b"docs/REFUSALS.md says what to do",
     }
 }

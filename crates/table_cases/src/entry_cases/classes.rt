@@ -6,7 +6,7 @@ ghost use Rattle.table_cases.specs.entry_cases.ReadClasses.{AreRead};
 use crate::Case;
 use anyhow::{Context, Result, bail};
 use class_read::ClassView;
-use class_world::{LinkFault, World};
+use class_world::{Features, LinkFault, World};
 use std::alloc::Global;
 
 /// The contents of the class files in all fields from `first` on.
@@ -44,7 +44,7 @@ fn read_all(alloc: Global, files: &[Vec<u8>]) -> Result<Vec<ClassView<'_>>>
 
 /// The world that the classes of files give, or the first fault of linking.
 pub fn link(alloc: Global, files: &[Vec<u8>]) -> Result<Result<World<'_>, LinkFault>> {
-    Ok(World::link(alloc, read_all(alloc, files)?))
+    Ok(World::link(alloc, read_all(alloc, files)?, Features::none()))
 }
 
 /// The world that the classes of files give.

@@ -1,5 +1,6 @@
 use Rattle.std.proofs.Common.{◌≡◌, Some, sym, subst}
 use Rattle.class_program.specs.Views.{program_of}
+use Rattle.input_desc.specs.Constants.{filled}
 use Rattle.input_desc.specs.Descs.{desc_fault}
 use Rattle.input_desc.proofs.Faultless.{due_is}
 use Rattle.input_steps.specs.declared.refused.Place.TheVariants.{Description}
@@ -10,7 +11,7 @@ use Rattle.desc_steps.proofs.description.described.Goals as goal
 
 pub returns-in-Err : goal.returns-in-Err
 returns-in-Err c =
-    let wanted = desc_fault (program_of c.args.program.now) c.args.text in record {
+    let wanted = desc_fault (program_of c.args.program.now) (filled (program_of c.args.program.now) c.args.text) in record {
       described = tt;
       own = tt;
       good = tt;
