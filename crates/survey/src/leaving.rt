@@ -177,7 +177,7 @@ fn leave<O: Sink>(
 }
 
 /// Leaves one class file out, where the others can't be linked with it, and puts a line for it; whether one is left out.
-#[tactic(auto, using(crate::proofs::Leavings::none_left, crate::proofs::Went::no_memory))]
+#[tactic(auto, using(crate::proofs::Leavings::none_left, crate::proofs::Went::no_memory_at))]
 fn leave_one<O: Sink>(alloc: Global, kept: &mut Kept<'_>, out: &mut O) -> Result<bool, Stop>
     requires few { length kept.old.files.items ≤ most_classes }
     requires names { length kept.old.names.items ≡ length kept.old.files.items }
