@@ -3,10 +3,12 @@ use Rattle.std.proofs.Common.{◌≡◌, ◌∙◌, ◌⊎◌, ◌+◌, ◌≤�
 use Rattle.std.proofs.Common.{Some, Ok, Err, length, map, take, get_or, slice_get, refl, sym, ap, subst, inl, inr, arith}
 use Rattle.std.proofs.Common.{add-one}
 use Rattle.std.specs.Prelude.{Contains}
+use Rattle.std.specs.Str.{bytes_eq}
 use Rattle.std.proofs.Common.{append_assoc, append-nil, cond, codes}
 use Rattle.std.specs.Global.{Vec}
 use Rattle.std.proofs.lemmas.List.{length-map, take_all, length-append, map-append}
 use Rattle.std.proofs.lemmas.Option.{same_Some}
+use Rattle.std.proofs.lemmas.Slice.Eq.{bytes_eq-Decides}
 use Rattle.class_read.specs.Content.{ClassContent, MethodContent}
 use Rattle.input_steps.proofs.Files.{take_files_more, get_file}
 use Rattle.input_steps.specs.Classes.{AllSpell}
@@ -147,6 +149,9 @@ pub named_among : (said : DescText) (classes : List ClassContent) (i : ℕ) (cla
     → class ≡ get_or classes i class → NamesOne said class.name class.methods → NamesAmong said classes
 named_among said classes i class l e names = (class, (contains_same classes i class l e, names))
 
+pub same_bytes : (xs ys : List ℕ) (r : Bool) → r ≡ bytes_eq xs ys → xs ≡ ys → r ≡ true
+same_bytes xs ys r is same = is ∙ (bytes_eq-Decides xs ys).1 same
+
 pub other_named : (text : List ℕ) (entry : EntryName) (other : DescText) (same : Bool) → SaysOf description_of text (Ok other)
     → (other.entry ≡ entry → same ≡ true) → not same ≡ true → NamesOther text entry
 other_named text entry other true says same differs = absurd (let e : false ≡ true = differs in cc)
@@ -170,18 +175,19 @@ first_more descs k desc said l e other so_far earlier text less at = go (split_l
         same_Some desc.items text (sym there ∙ (ap (slice_get (map (λ (d : Vec ℕ). d.items) descs)) (sym here) ∙ at)) in
         subst (λ (t : List ℕ). NamesOther t said.entry) same other
 
-pub is_used : (strict : Bool) (files descs : List (Vec ℕ)) (place : ℕ) (desc : Vec ℕ) (text : List ℕ) (said : DescText) (classes : List ClassContent)
-    → place < length descs → desc ≡ get_or descs place desc → SaysOf description_of desc.items (Ok said)
+pub is_used : (strict : Bool) (files descs : List (Vec ℕ)) (place : ℕ) (desc : Vec ℕ) (bytes text : List ℕ) (said : DescText)
+    (classes : List ClassContent)
+    → place < length descs → desc ≡ get_or descs place desc → bytes ≡ desc.items → SaysOf description_of bytes (Ok said)
     → AllSpell (map (λ (file : Vec ℕ). file.items) files) classes → NamesAmong said classes
     → ComesFirst (map (λ (d : Vec ℕ). d.items) descs) place said
     → slice_get (map (λ (d : Vec ℕ). d.items) descs) place ≡ Some text → IsUsed (surveyed strict files descs) place text
-is_used strict files descs place desc text said classes l e says spelled names first at =
+is_used strict files descs place desc bytes text said classes l e read says spelled names first at =
     let there : slice_get (map (λ (d : Vec ℕ). d.items) descs) place ≡ Some desc.items =
     get_file (λ (d : Vec ℕ). d.items) descs place desc desc.items l e refl in
     let same : desc.items ≡ text = same_Some desc.items text (sym there ∙ at) in
     record {
       said = said;
-      says = subst (λ (t : List ℕ). SaysOf description_of t (Ok said)) same says;
+      says = subst (λ (t : List ℕ). SaysOf description_of t (Ok said)) (read ∙ same) says;
       classes = classes;
       spelled = spelled;
       class = names.0;

@@ -1,12 +1,18 @@
 -- What is said of one method, put together.
 use Rattle.std.proofs.Common.{◌≡◌, ◌∙◌, ℕ, zero, suc, ◌<◌, ◌≤◌, not, Bool, true, false, List, [], ◌∷◌, length, map}
 use Rattle.std.proofs.Common.{get_or, slice_get, Some, None, Ok, refl, sym, ap, arith, subst}
+use Rattle.std.specs.Prelude.{IsTrue}
 use Rattle.std.specs.Global.{Vec}
 use Rattle.std.specs.List.{AllByRecursion}
 use Rattle.std.proofs.lemmas.List.{length-map}
 use Rattle.class_base.specs.Limits.{most_classes}
+use Rattle.jvm_values.specs.declared.types.Base.TheVariants.{Class}
+use Rattle.jvm_values.specs.declared.types.Ty.{Ty}
 use Rattle.class_read.specs.Content.{ClassContent}
+use Rattle.class_world.specs.Fields.{can_be_made}
 use Rattle.class_world.specs.Linking.{IsLinkable}
+use Rattle.class_world.specs.Types.{is_sub, is_class_below}
+use Rattle.class_world.specs.World.{World}
 use Rattle.class_program.specs.Programs.{Program}
 use Rattle.input_text.specs.Answers.{SaysOf}
 use Rattle.input_text.specs.Descriptions.{description_of}
@@ -20,14 +26,14 @@ use Rattle.input_steps.proofs.OneText.{text_exact}
 use Rattle.input_desc.specs.Constants.{DescribesInputs}
 use Rattle.input_desc.specs.Entries.{entry_of}
 use Rattle.input_desc.specs.declared.desc.Desc.{Desc}
-use Rattle.desc_steps.specs.Givable.{CanBeGiven}
+use Rattle.desc_steps.specs.Givable.{HasObjects, CanBeGiven}
 use Rattle.desc_steps.specs.Headline.{AllEnd}
 use Rattle.class_calls.specs.describe.Lines.{IsMethodProgram}
 use Rattle.class_calls.specs.describe.Templates.{IsTemplate}
 use Rattle.survey.specs.Assumptions.{Shows}
 use Rattle.survey.specs.declared.assuming.Assumed.{Assumed}
 use Rattle.survey.specs.Claims.{Surveyed, NamesMethod, IsHandedIn, IsGivenText, IsOpenText}
-use Rattle.survey.specs.Lacking.{AllNamedHaveOnes, IsWarned}
+use Rattle.survey.specs.Lacking.{HasOne, AllNamedHaveOnes, IsWarned}
 use Rattle.survey.specs.inner.Wording.{SaysLines, IsUnder, IsJudged}
 use Rattle.survey.specs.declared.judging.Judged.TheVariants.{Yes}
 use Rattle.survey.specs.declared.lacking.Lacks.{Lacks}
@@ -110,6 +116,21 @@ pub judged_yes : (s : Surveyed) (class name desc text : List ℕ) (given : Bool)
 judged_yes s class name desc text given assumed lacks touched under warned = (text, (under, warned))
 
 -- ---- what is missing behind that
+
+-- an object of a class is of a type that the class is below
+pub class_given : (world : World) (class : ℕ) (ty : Ty) → can_be_made world class ≡ true
+    → is_sub world (record { dims = 0; base = Class class }) ty ≡ true
+    → (t : Ty) × (IsTrue (is_sub world t ty) × HasObjects world t)
+class_given world class ty made below = (record { dims = 0; base = Class class }, (below, λ none. made))
+
+-- there are objects of each array type
+pub array_given : (world : World) (ty : Ty) (is : Bool) → is ≡ is_sub world ty ty → 0 < ty.dims → is ≡ true
+    → (t : Ty) × (IsTrue (is_sub world t ty) × HasObjects world t)
+array_given world ty is same some e = (ty, (sym same ∙ e, λ none. absurd (omega (arith, some, none))))
+
+-- a class has objects that a class below it has
+pub one_given : (world : World) (c class : ℕ) → can_be_made world c ≡ true → is_class_below world c class ≡ true → HasOne world class
+one_given world c class made below = (c, (made, below))
 
 not_false : (b : Bool) → not b ≡ false → b ≡ true
 not_false true e = refl

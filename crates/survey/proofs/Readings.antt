@@ -94,19 +94,21 @@ module _ {S : Type 0} (taken : S → Option (List ℕ)) (faults : S → ℕ) whe
   kept_as x name content old new contents are_named =
       nothing_went taken faults IsOther (IsSettled name (Content content) old new) x (refl, (contents, are_named))
 
-  pub refused_as : (a b : S) (name : List ℕ) (content : Vec ℕ) (words : List ℕ) (kept : Kept)
-      → Went taken faults IsOther (λ lines. lines ≡ other_line Refused ((name ++ codes " class: ") ++ words) ∷ []) a b
+  pub refused_as : (a b : S) (name : List ℕ) (content : Vec ℕ) (words said : List ℕ) (kept : Kept) → said ≡ words
+      → Went taken faults IsOther (λ lines. lines ≡ other_line Refused ((name ++ codes " class: ") ++ said) ∷ []) a b
       → Went taken faults IsOther (IsSettled name (NoClass content words) kept kept) a b
-  refused_as a b name content words kept went =
-      went_as taken faults IsOther (λ lines. lines ≡ other_line Refused ((name ++ codes " class: ") ++ words) ∷ [])
-      (IsSettled name (NoClass content words) kept kept) a b (λ l e. (e, (refl, refl))) went
+  refused_as a b name content words said kept same went =
+      went_as taken faults IsOther (λ lines. lines ≡ other_line Refused ((name ++ codes " class: ") ++ said) ∷ [])
+      (IsSettled name (NoClass content words) kept kept) a b
+      (λ l e. (e ∙ ap (λ (w : List ℕ). other_line Refused ((name ++ codes " class: ") ++ w) ∷ []) same, (refl, refl))) went
 
-  pub unread_said : (a b : S) (name : List ℕ) (fault : FileFault) (kept : Kept)
-      → Went taken faults IsOther (λ lines. lines ≡ other_line Refused ((name ++ codes " read: ") ++ fault_name fault) ∷ []) a b
+  pub unread_said : (a b : S) (name : List ℕ) (fault : FileFault) (said : List ℕ) (kept : Kept) → said ≡ fault_name fault
+      → Went taken faults IsOther (λ lines. lines ≡ other_line Refused ((name ++ codes " read: ") ++ said) ∷ []) a b
       → Went taken faults IsOther (IsSettled name (Broken fault) kept kept) a b
-  unread_said a b name fault kept went =
-      went_as taken faults IsOther (λ lines. lines ≡ other_line Refused ((name ++ codes " read: ") ++ fault_name fault) ∷ [])
-      (IsSettled name (Broken fault) kept kept) a b (λ l e. (e, (refl, refl))) went
+  unread_said a b name fault said kept same went =
+      went_as taken faults IsOther (λ lines. lines ≡ other_line Refused ((name ++ codes " read: ") ++ said) ∷ [])
+      (IsSettled name (Broken fault) kept kept) a b
+      (λ l e. (e ∙ ap (λ (w : List ℕ). other_line Refused ((name ++ codes " read: ") ++ w) ∷ []) same, (refl, refl))) went
 
 settled : {F : Type 0} (files : FilesSeen F) (name : List ℕ) (read : Read) (kept_old kept_new : Kept) (old new : F)
     (lines : List (List ℕ))
@@ -247,3 +249,9 @@ few_kept f files taken faults words kept old new a b went =
     let long = are.long in
     let same = length-map words f in
     omega (arith, many, all, long, same)
+
+pub few_read : {A F S : Type 0} (f : A → List ℕ) (files : FilesSeen F) (taken : S → Option (List ℕ)) (faults : S → ℕ) (words : List A)
+    (k : ℕ) (kept : Kept) (old new : F) (a b : S) → length words ≤ k
+    → Went taken faults IsOther (HaveRead files (take k (map f words)) kept old new) a b → length kept.files.items ≤ length words
+few_read f files taken faults words k kept old new a b long went =
+    few_kept f files taken faults words kept old new a b (all_read f files taken faults words k kept old new a b long went)

@@ -131,25 +131,25 @@ module _ {S : Type 0} (taken : S → Option (List ℕ)) (faults : S → ℕ) whe
   }
 
   -- the lines of a method
-  pub went_lines : (s : Surveyed) (proved : Bool) (old new : S) (text : List ℕ) → AreLines s proved text
-      → Appends (taken old) (taken new) text → faults old ≤ faults new
+  pub went_lines : (s : Surveyed) (proved : Bool) (old new : S) (text wrote : List ℕ) → wrote ≡ text → AreLines s proved text
+      → Appends (taken old) (taken new) wrote → faults old ≤ faults new
       → Went taken faults (IsTrueLine s) (λ lines. all_proved lines ≡ proved) old new
-  went_lines s proved old new text are put counts = record {
+  went_lines s proved old new text wrote same are put counts = record {
     lines = are.lines;
-    put = subst (Appends (taken old) (taken new)) are.are put;
+    put = subst (Appends (taken old) (taken new)) (same ∙ are.are) put;
     each = are.each;
     counts = counts;
     are = are.sort;
   }
 
-  pub cut_lines : (s : Surveyed) (proved : Bool) (old new : S) (text : List ℕ) (stop : Stop) → AreLines s proved text
-      → Wrote taken faults text old new stop → Cut taken faults (IsTrueLine s) old new stop
-  cut_lines s proved old new text stop are wrote' = record {
-    text = take wrote'.prefix.0 text;
-    rest = drop wrote'.prefix.0 text;
+  pub cut_lines : (s : Surveyed) (proved : Bool) (old new : S) (text asked : List ℕ) (stop : Stop) → asked ≡ text
+      → AreLines s proved text → Wrote taken faults asked old new stop → Cut taken faults (IsTrueLine s) old new stop
+  cut_lines s proved old new text asked stop same are wrote' = record {
+    text = take wrote'.prefix.0 asked;
+    rest = drop wrote'.prefix.0 asked;
     lines = are.lines;
     put = wrote'.prefix.2;
-    are = take-append-drop wrote'.prefix.0 text ∙ are.are;
+    are = take-append-drop wrote'.prefix.0 asked ∙ (same ∙ are.are);
     each = are.each;
     stops = wrote'.stops;
   }
@@ -167,6 +167,11 @@ module _ {S : Type 0} (taken : S → Option (List ℕ)) (faults : S → ℕ) whe
   pub nothing_counted : (s : Surveyed) (all : Bool) (x : S)
       → Went taken faults (IsTrueLine s) (λ lines. all ≡ (all && all_proved lines)) x x
   nothing_counted s all x = nothing_went (IsTrueLine s) (λ lines. all ≡ (all && all_proved lines)) x (and_true all)
+
+  -- none is put so far
+  pub none_counted : (s : Surveyed) (first : Bool) (x : S) → first ≡ true
+      → Went taken faults (IsTrueLine s) (λ lines. first ≡ (true && all_proved lines)) x x
+  none_counted s first x e = nothing_went (IsTrueLine s) (λ lines. first ≡ (true && all_proved lines)) x e
 
   pub counted : (s : Surveyed) (all proved next : Bool) (a b : S) → next ≡ (all && proved)
       → Went taken faults (IsTrueLine s) (λ lines. all_proved lines ≡ proved) a b

@@ -39,6 +39,7 @@ pub(crate) struct Lacks {
 // ---- inputs
 
 /// Whether an object of the class of a number is of a type.
+#[tactic(auto, using(crate::proofs::Judgements::class_given))]
 fn is_given_by(world: &World<'_>, number: usize, ty: Ty) -> bool
     ensures { IsTrue result → (t : Ty) × (IsTrue (is_sub (classes_of world.now) t ty) × HasObjects (classes_of world.now) t) }
 {
@@ -58,6 +59,7 @@ fn is_given_by(world: &World<'_>, number: usize, ty: Ty) -> bool
 }
 
 /// Whether there is an object of a type, or of one below it.
+#[tactic(auto, using(crate::proofs::Judgements::array_given))]
 fn has_object(world: &World<'_>, ty: Ty) -> bool
     ensures { IsTrue result → (t : Ty) × (IsTrue (is_sub (classes_of world.now) t ty) × HasObjects (classes_of world.now) t) }
 {
@@ -78,7 +80,7 @@ fn can_be_given(world: &World<'_>, input: &Input) -> bool
 {
     match input {
         Input::Int(_) => true,
-        Input::Ref(ty, null, _) => *null || has_object(world, *ty),
+        Input::Ref(ty, null, _) => { if *null { true } else { has_object(world, *ty) } }
     }
 }
 
@@ -98,6 +100,7 @@ fn all_can_be_given(world: &World<'_>, inputs: &[Input]) -> bool
 // ---- classes
 
 /// Whether the class of a number can be made, and is a class or below it.
+#[tactic(auto, using(crate::proofs::Judgements::one_given))]
 fn is_one(world: &World<'_>, number: usize, class: u32) -> bool
     requires { number < length (classes_of world.now) }
     ensures { IsTrue result → HasOne (classes_of world.now) class }

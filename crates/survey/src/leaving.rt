@@ -178,7 +178,7 @@ fn leave<O: Sink>(
 }
 
 /// Leaves one class file out, where the others can't be linked with it, and puts a line for it; whether one is left out.
-#[tactic(auto, using(crate::proofs::Leavings::none_left, crate::proofs::Went::no_memory))]
+#[tactic(auto, using(crate::proofs::Leavings::none_left, crate::proofs::Went::no_memory_at))]
 fn leave_one<O: Sink>(
     alloc: Global,
     lines: &[WorldLine],
@@ -345,7 +345,7 @@ fn leave_all<O: Sink>(
 
 /// Leaves class files out until the others make a world. A line is put for each. Interfaces that no file spells are passed over, but
 /// where nothing is to be: the lines about classes that say so.
-#[tactic(auto, using(crate::proofs::Went::no_memory))]
+#[tactic(auto, using(crate::proofs::Went::no_memory_at))]
 pub(crate) fn leave_out<O: Sink>(
     alloc: Global,
     none: bool,

@@ -159,8 +159,14 @@ fn settle<'w, O: Sink>(
             Ok(()) => Ok(()),
             Err(AllocError) => Err(Stop::Memory),
         },
-        Read::NoClass(_, words) => refuse(alloc, name, b" class: ", words.as_slice(), out),
-        Read::Broken(fault) => refuse(alloc, name, b" read: ", fault.name(), out),
+        Read::NoClass(_, words) => match refuse(alloc, name, b" class: ", words.as_slice(), out) {
+            Ok(()) => Ok(()),
+            Err(stop) => Err(stop),
+        },
+        Read::Broken(fault) => match refuse(alloc, name, b" read: ", fault.name(), out) {
+            Ok(()) => Ok(()),
+            Err(stop) => Err(stop),
+        },
     }
 }
 
@@ -181,13 +187,16 @@ fn read_file<'w, F: Files, O: Sink>(
     ensures counts { F.faults files.old ≤ F.faults files.new }
 {
     match read_class(alloc, name, files) {
-        Ok(read) => settle(alloc, name, read, kept, out),
+        Ok(read) => match settle(alloc, name, read, kept, out) {
+            Ok(()) => Ok(()),
+            Err(stop) => Err(stop),
+        },
         Err(stop) => Err(stop),
     }
 }
 
 /// The class files that words name, and that spell classes. A line is put for each other one.
-#[tactic(auto, using(crate::proofs::Readings::none_read, crate::proofs::Readings::read_more, crate::proofs::Readings::all_read, crate::proofs::Went::cut_on))]
+#[tactic(auto, using(crate::proofs::Readings::none_read, crate::proofs::Readings::read_more, crate::proofs::Readings::all_read, crate::proofs::Readings::few_read, crate::proofs::Went::cut_on))]
 pub(crate) fn read_files<'w, F: Files, O: Sink>(
     alloc: Global,
     words: &'w [String],

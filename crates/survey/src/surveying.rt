@@ -65,14 +65,25 @@ fn names_among(said: &DescText, classes: &[ClassView<'_>]) -> bool
     false
 }
 
+/// Whether two texts are the same.
+#[tactic(auto, using(crate::proofs::Descs::same_bytes))]
+fn is_same(one: &[u8], other: &[u8]) -> bool
+    ensures { one.now ≡ other.now → IsTrue result }
+{
+    one == other
+}
+
 /// Whether two descriptions name one method.
-#[tactic(auto, using(crate::proofs::Descs::same_entry))]
 fn is_same_entry(one: &DescText, other: &DescText) -> bool
     ensures { one.now.entry ≡ other.now.entry → IsTrue result }
 {
-    one.entry.class.as_slice() == other.entry.class.as_slice()
-        && one.entry.method.as_slice() == other.entry.method.as_slice()
-        && one.entry.desc.as_slice() == other.entry.desc.as_slice()
+    if !is_same(one.entry.class.as_slice(), other.entry.class.as_slice()) {
+        return false;
+    }
+    if !is_same(one.entry.method.as_slice(), other.entry.method.as_slice()) {
+        return false;
+    }
+    is_same(one.entry.desc.as_slice(), other.entry.desc.as_slice())
 }
 
 /// Whether a text names another method than a description, or is none.
@@ -366,7 +377,7 @@ fn classes_of_files<'a>(alloc: Global, files: &'a [Vec<u8>]) -> Result<Vec<Class
 }
 
 /// Puts the lines of a survey of class files that can be linked, as some lines about classes say.
-#[tactic(auto, using(crate::proofs::Went::no_memory))]
+#[tactic(auto, using(crate::proofs::Went::no_memory_at))]
 pub(crate) fn survey_kept<O: Sink>(
     alloc: Global,
     names: &[&str],

@@ -293,7 +293,7 @@ fn is_asked(strict: bool, method: &MethodView<'_>) -> bool
 }
 
 /// Puts the lines of a method, where it is asked.
-#[tactic(auto, using(crate::proofs::Went::nothing_went, crate::proofs::Went::counted, crate::proofs::Went::uncounted))]
+#[tactic(auto, using(crate::proofs::Went::nothing_counted, crate::proofs::Went::counted, crate::proofs::Went::uncounted))]
 fn survey_method<O: Sink>(
     alloc: Global,
     scope: &Scope<'_, '_>,
@@ -379,7 +379,7 @@ fn survey_class<O: Sink>(
 }
 
 /// Puts the lines of the methods of classes, in their order.
-#[tactic(auto, using(crate::proofs::Went::all_counted, crate::proofs::Went::nothing_counted, crate::proofs::Walks::item_end))]
+#[tactic(auto, using(crate::proofs::Went::all_counted, crate::proofs::Went::none_counted, crate::proofs::Walks::item_end))]
 pub(crate) fn survey_classes<O: Sink>(
     alloc: Global,
     scope: &Scope<'_, '_>,

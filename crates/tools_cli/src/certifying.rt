@@ -1,5 +1,5 @@
-//! Puts a certificate once more on the output, each node with its state, so that it can be looked at; or the text of a bound beside it; or a
-//! certificate that no run of a method ends.
+//! Puts a certificate once more on the output, each node with its state, so that it can be looked at; or the text of a bound beside it; or
+//! a certificate that no run of a method ends.
 //!
 //! The words are `fill` or `bound`, the name of a file with a certificate, that of one with a description, and those of 1 to 256 class
 //! files; or `loop` and the same without a certificate.

@@ -1,5 +1,5 @@
-//! One program for the tools beside `jterm`: the first word says which of `describe`, `certs` and `survey` it is, and the words behind it are
-//! that tool's. Real files and outputs, and the words after the program's name.
+//! One program for the tools beside `jterm`: the first word says which of `describe`, `certs` and `survey` it is, and the words behind it
+//! are that tool's. Real files and outputs, and the words after the program's name.
 #![tactic(auto)]
 
 ghost use Rattle.std.specs.Prelude.{◌≡◌, map, string_bytes};
