@@ -210,5 +210,8 @@ pub(crate) fn set_up<'a>(
     ensures { IfOk result (λ entered. entered.items ≡ set_up lines.now classes.entry.items) }
 {
     let names = names_of(alloc, classes.as_slice())?;
-    all_entering(alloc, lines, names.as_slice(), classes)
+    match all_entering(alloc, lines, names.as_slice(), classes) {
+        Ok(entered) => Ok(entered),
+        Err(error) => Err(error),
+    }
 }

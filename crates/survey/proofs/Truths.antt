@@ -12,7 +12,7 @@ use Rattle.list_views.specs.FaultWords.{joined}
 use Rattle.survey.specs.Lines.{narrow_text, others_text, passed_text, assumed_text}
 use Rattle.survey.specs.Lines.{yes_line, words_text, given_text, errors_text, exceptions_text, constants_text, is_name_byte}
 use Rattle.survey.specs.Lines.{is_plain, printed, ended, text_of}
-use Rattle.survey.specs.inner.Wording.{head_text, other_line, GrowsTrue}
+use Rattle.survey.specs.inner.Wording.{head_text, other_line, are_printable, GrowsTrue}
 use Rattle.survey.specs.declared.lines.Head.{Head}
 use Rattle.survey.specs.declared.lines.Head.TheVariants.{Maybe, Refused, LeftOut, Count, Why}
 
@@ -210,9 +210,13 @@ module _ (s : Surveyed) (class name desc : List ℕ) (given : Bool) (assumed : A
   }
 
 -- the lines of a method whose every run ends
-pub yes_lined : (class name desc line text : List ℕ) (given : Bool) (assumed : Assumed) (touched : Touched) → is_plain class ≡ true
-    → is_plain name ≡ true → is_plain desc ≡ true → list_all is_plain assumed.others ≡ true
-    → line ≡ yes_line class name desc given assumed touched → ((s : Surveyed) → IsTrueLine s line → AreTrue s [] → AreTrue s text)
+pub yes_lined : (class name desc line text : List ℕ) (given : Bool) (assumed : Assumed) (touched : Touched)
+    → are_printable class name desc assumed.others ≡ true → line ≡ yes_line class name desc given assumed touched
+    → ((s : Surveyed) → IsTrueLine s line → AreTrue s [] → AreTrue s text)
     → (s : Surveyed) → IsProved s given assumed class name desc → AreTrue s text
-yes_lined class name desc line text given assumed touched c n d o e grows s proved =
-    grows s (subst (IsTrueLine s) (sym e) (yes_true s class name desc given assumed touched c n d o proved)) (nothing_true s)
+yes_lined class name desc line text given assumed touched plain e grows s proved =
+    let first = both_true_bits (is_plain class) (is_plain name && (is_plain desc && list_all is_plain assumed.others)) plain in
+    let second = both_true_bits (is_plain name) (is_plain desc && list_all is_plain assumed.others) first.1 in
+    let third = both_true_bits (is_plain desc) (list_all is_plain assumed.others) second.1 in
+    let true_line = yes_true s class name desc given assumed touched first.0 second.0 third.0 third.1 proved in
+    grows s (subst (IsTrueLine s) (sym e) true_line) (nothing_true s)

@@ -276,7 +276,7 @@ fn missing_interfaces(
 /// The lines that pass over the interfaces which are missing in lists of interfaces; none where nothing is to be passed over. An
 /// interface that is handed in is never passed over, though its file may be left out later; nor is one that a description which was
 /// handed in doesn't pass over: its method couldn't be judged under it.
-pub(crate) fn passing_lines(
+fn passing_lines(
     alloc: Global,
     none: bool,
     descs: &[Vec<u8>],
@@ -295,7 +295,7 @@ pub(crate) fn passing_lines(
 
 /// Leaves class files out until the others make a world, as some lines about classes say. A line is put for each.
 #[tactic(auto, using(crate::proofs::Telling::nothing_told, crate::proofs::Telling::told_all, crate::proofs::Telling::begun_all, crate::proofs::Kept::stay, crate::proofs::Kept::stay_on))]
-pub(crate) fn leave_out<O: Sink>(
+fn leave_out<O: Sink>(
     alloc: Global,
     words: &[String],
     lines: &[WorldLine],
@@ -316,4 +316,31 @@ pub(crate) fn leave_out<O: Sink>(
         }
     }
     Ok(())
+}
+
+/// Leaves class files out until the others make a world, and puts a line for each; the lines about classes under which they make it.
+/// There are none in a strict survey, nor where a class file was refused, which may have spelled an interface that is missing.
+#[tactic(auto, using(crate::proofs::Telling::nothing_begun, crate::proofs::Kept::stay))]
+pub(crate) fn leave_unlinked<O: Sink>(
+    alloc: Global,
+    words: &[String],
+    strict: bool,
+    descs: &[Vec<u8>],
+    kept: &mut Kept,
+    out: &mut O,
+) -> Result<Seq<WorldLine>, Stop>
+    requires { length kept.old.files.items ≤ most_classes }
+    ensures told { IfOk result (λ lines. (s : Surveyed) → Tells O.taken s out.old out.new) }
+    ensures begun { OnErr result ((s : Surveyed) → BeginsToTell O.taken s out.old out.new) }
+    ensures stay { StayRead (map (λ file. file.items) kept.old.files.items) (map (λ file. file.items) kept.new.files.items) }
+    ensures few { length kept.new.files.items ≤ most_classes }
+{
+    let none = strict || kept.refused > 0;
+    match passing_lines(alloc, none, descs, kept.files.as_slice()) {
+        Ok(lines) => match leave_out(alloc, words, lines.as_slice(), kept, out) {
+            Ok(()) => Ok(lines),
+            Err(stop) => Err(stop),
+        },
+        Err(stop) => Err(stop),
+    }
 }

@@ -5,7 +5,7 @@ ghost use Rattle.survey.specs.Outside.{AreSome, HasSurveyed};
 ghost use Rattle.survey.specs.Words.{is_strict, class_words, desc_words};
 
 use crate::failure::Stop;
-use crate::leaving::{leave_out, passing_lines};
+use crate::leaving::leave_unlinked;
 use crate::reading::{read_descs, read_files};
 use crate::surveying::survey_kept;
 use crate::words::Asked;
@@ -36,17 +36,8 @@ fn survey_described<F: Files, O: Sink>(
         Ok(kept) => kept,
         Err(stop) => return Err(stop),
     };
-    let lines = match passing_lines(
-        alloc,
-        asked.strict || kept.refused > 0,
-        descs,
-        kept.files.as_slice(),
-    ) {
-        Ok(lines) => lines,
-        Err(stop) => return Err(stop),
-    };
-    match leave_out(alloc, asked.classes, lines.as_slice(), &mut kept, out) {
-        Ok(()) => match survey_kept(alloc, asked, descs, &kept, lines.as_slice(), out) {
+    match leave_unlinked(alloc, asked.classes, asked.strict, descs, &mut kept, out) {
+        Ok(lines) => match survey_kept(alloc, asked, descs, &kept, lines.as_slice(), out) {
             Ok(status) => Ok(status),
             Err(stop) => Err(stop),
         },

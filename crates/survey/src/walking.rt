@@ -5,7 +5,7 @@ ghost use Rattle.class_base.specs.Limits.{most_classes};
 ghost use Rattle.class_read.specs.View.{method_content};
 ghost use Rattle.survey.specs.Claims.{Surveyed, AreTrue, IsProved, IsProvedSo, is_asked, IsProvedMethod, IsProvedClass};
 ghost use Rattle.survey.specs.Outside.{Tells, BeginsToTell};
-ghost use Rattle.survey.specs.inner.Wording.{surveyed, IsJudged};
+ghost use Rattle.survey.specs.inner.Wording.{surveyed, are_printable, IsJudged};
 
 use crate::assuming::Assumed;
 use crate::failure::Stop;
@@ -98,6 +98,16 @@ struct MethodLines {
     text: Seq<u8>,
 }
 
+/// Whether all names that stand in a method's line can stand there as they are.
+fn are_printable(method: &MethodWords<'_>, assumed: &Assumed) -> bool
+    ensures { result ≡ are_printable method.now.class.now method.now.name.now method.now.desc.now assumed.now.others }
+{
+    is_plain(method.class)
+        && is_plain(method.name)
+        && is_plain(method.desc)
+        && are_plain(assumed.others.as_slice())
+}
+
 /// The lines of a method whose every run ends.
 #[tactic(auto, using(crate::proofs::Truths::yes_lined))]
 fn yes_lines(
@@ -111,11 +121,7 @@ fn yes_lines(
         method.now.desc.now
         → AreTrue s lines.text) }
 {
-    if is_plain(method.class)
-        && is_plain(method.name)
-        && is_plain(method.desc)
-        && are_plain(assumed.others.as_slice())
-    {
+    if are_printable(method, assumed) {
         let line = yes_line(alloc, method, given, assumed, touched)?;
         let mut text = Seq::new(alloc);
         add_line(&mut text, line.as_slice())?;

@@ -129,6 +129,7 @@ fn passed_line(
 /// The line that a fault of linking or closing asks for: that the class which would be initialised is initialised before the run, or
 /// that the interface which is missing in a list of interfaces is passed over. None where no line helps, there is no leave for it, or
 /// it is there already.
+#[tactic(auto, using(crate::proofs::Answered::asked_initialised, crate::proofs::Answered::asked_passed))]
 pub(crate) fn line_needed(
     alloc: Global,
     leave: Leave,

@@ -1,9 +1,10 @@
 -- Words for inner calls.
-use Rattle.std.specs.Prelude.{◌≡◌, ◌⊎◌, ℕ, Bool, List, [], ◌∷◌, ◌++◌, map, Some, codes}
+use Rattle.std.specs.Prelude.{◌≡◌, ◌⊎◌, ◌&&◌, ℕ, Bool, List, [], ◌∷◌, ◌++◌, map, Some, codes}
 use Rattle.std.specs.Global.{Vec}
+use Rattle.std.specs.List.{list_all}
 use Rattle.survey.specs.Claims.{Surveyed, IsProved, AreTrue}
 use Rattle.io_ports.specs.Told.{Told, IsContent}
-use Rattle.survey.specs.Lines.{printed}
+use Rattle.survey.specs.Lines.{is_plain, printed}
 use Rattle.survey.specs.Outside.{AreSome}
 use Rattle.survey.specs.declared.lines.Head.{Head}
 use Rattle.survey.specs.declared.lines.Head.TheVariants.{Maybe, Refused, LeftOut, Count, Why}
@@ -19,6 +20,10 @@ surveyed strict files descs = record {
   files = map (λ (file : Vec ℕ). file.items) files;
   descs = map (λ (desc : Vec ℕ). desc.items) descs;
 }
+
+-- all names that stand in a line which begins with `YES` stand there as they are
+abbrev pub are_printable : List ℕ → List ℕ → List ℕ → List (List ℕ) → Bool
+are_printable class name desc others = is_plain class && (is_plain name && (is_plain desc && list_all is_plain others))
 
 -- what a line begins with that claims nothing
 abbrev pub head_text : Head → List ℕ
