@@ -1,5 +1,5 @@
 -- What is answered for class files, put together.
-use Rattle.std.proofs.Common.{◌≡◌, ◌∙◌, ◌≤◌, ◌⊎◌, inl, inr, ℕ, false, List, [], ◌∷◌, ◌++◌, length, map}
+use Rattle.std.proofs.Common.{◌≡◌, ◌∙◌, ◌≤◌, inl, inr, ℕ, true, false, List, [], ◌∷◌, ◌++◌, length, map}
 use Rattle.std.proofs.Common.{Some, None, refl, sym, ap, subst, arith}
 use Rattle.std.proofs.Common.{append_assoc, append-nil}
 use Rattle.std.specs.Prelude.{slice_get, IsTrue}
@@ -9,6 +9,8 @@ use Rattle.std.proofs.lemmas.Bool.{false≢true}
 use Rattle.std.proofs.lemmas.List.{length-map}
 use Rattle.class_base.specs.Limits.{most_classes}
 use Rattle.class_read.specs.Content.{ClassContent}
+use Rattle.class_world.specs.declared.fault.LinkFault.{LinkFault}
+use Rattle.class_world.specs.declared.fault.LinkFault.TheVariants.{StaticInit, MissingClass}
 use Rattle.class_world.specs.declared.world.MethodRef.{MethodRef}
 use Rattle.class_world.specs.Linking.{IsLinkable}
 use Rattle.class_world.specs.World.{World}
@@ -16,9 +18,10 @@ use Rattle.class_world.specs.Members.{find_method}
 use Rattle.class_world.specs.Resolve.{has_body}
 use Rattle.class_program.specs.Programs.{Program}
 use Rattle.input_text.specs.declared.texts.WorldLine.{WorldLine}
-use Rattle.input_text.specs.declared.texts.WorldLine.TheVariants.{Initialised, Passed}
+use Rattle.input_text.specs.declared.texts.WorldLine.TheVariants.{Initialised, Passed, Strings, Monitors}
 use Rattle.input_steps.specs.declared.refused.Place.{Place}
 use Rattle.input_steps.specs.declared.refused.Fault.{Fault}
+use Rattle.input_steps.specs.declared.refused.Fault.TheVariants as faults
 use Rattle.input_steps.specs.declared.refused.Refused.{Refused}
 use Rattle.input_steps.specs.declared.refused.Refused.TheVariants.{At, Memory}
 use Rattle.input_steps.specs.Steps.{IsCaused}
@@ -31,8 +34,9 @@ use Rattle.class_calls.specs.declared.describe.lines.Leave.{Leave}
 use Rattle.class_calls.specs.declared.describe.methods.MethodNames.{MethodNames}
 use Rattle.class_calls.specs.describe.Methods.{method_lines, Names, IsNamed, IsFirstNamed}
 use Rattle.class_calls.specs.describe.Templates.{IsTemplate}
-use Rattle.class_calls.specs.describe.Lines.{IsMethodProgram, HasNone, HasNoMethod, RefusesMethod, allows, AsksFor, IsAdded, AreAdded}
+use Rattle.class_calls.specs.describe.Lines.{IsMethodProgram, HasNone, HasNoMethod, RefusesMethod, allows, AsksForFeature, AsksFor, IsAdded, AreAdded}
 use Rattle.class_calls.specs.describe.Lines.{AreNeeded, Under}
+use Rattle.class_calls.specs.describe.inner.Asking.{IsAskedBy, IsOneOf}
 use Rattle.class_calls.specs.describe.Calls.{ListsMethods, Describes}
 
 pub is_named_one : (class : ClassContent) (word : List ℕ) (names : MethodNames) → names.class.now ≡ class.name
@@ -73,29 +77,27 @@ pub without_method : (world : World) (class name desc : List ℕ) → find_metho
     → HasNone world class name desc
 without_method world class name desc none other f b = absurd (let no : None ≡ Some other = sym none ∙ f in cc)
 
--- classes that files spell make a world as some lines say
-abbrev pub IsMade : List WorldLine → List (List ℕ) → World → Type 0
-IsMade lines files world = (classes : List ClassContent) × (AllSpell files classes × IsWorldOf (set_up lines classes) world)
-
 module _ (lines : List WorldLine) (files : List (List ℕ)) (class name desc : List ℕ) where
-  pub is_method_program : (world : World) (entry : MethodRef) (p : Program) → IsMade lines files world
-      → find_method world class name desc ≡ Some entry → IsProgramOf world entry p → IsMethodProgram lines files class name desc p
-  is_method_program world entry p made found program = record {
-    classes = made.0;
-    spelled = made.1.0;
+  pub is_method_program : (classes : List ClassContent) (world : World) (entry : MethodRef) (p : Program) → AllSpell files classes
+      → IsWorldOf (set_up lines classes) world → find_method world class name desc ≡ Some entry → IsProgramOf world entry p
+      → IsMethodProgram lines files class name desc p
+  is_method_program classes world entry p spelled makes found program = record {
+    classes = classes;
+    spelled = spelled;
     world = world;
-    makes = made.1.1;
+    makes = makes;
     entry = entry;
     found = found;
     program = program;
   }
 
-  pub has_no_method : (world : World) → IsMade lines files world → HasNone world class name desc → HasNoMethod lines files class name desc
-  has_no_method world made none =
-      record { classes = made.0; spelled = made.1.0; world = world; makes = made.1.1; none = none }
+  pub has_no_method : (classes : List ClassContent) (world : World) → AllSpell files classes → IsWorldOf (set_up lines classes) world
+      → HasNone world class name desc → HasNoMethod lines files class name desc
+  has_no_method classes world spelled makes none =
+      record { classes = classes; spelled = spelled; world = world; makes = makes; none = none }
 
-  pub at_files : (refused : Refused) → IsCaused (RefusesClasses files) refused → IsCaused (RefusesMethod lines files class name desc)
-      refused
+  pub at_files : (refused : Refused) → IsCaused (RefusesClasses files) refused
+      → IsCaused (RefusesMethod lines files class name desc) refused
   at_files (At place fault) h = inl h
   at_files Memory h = tt
 
@@ -104,25 +106,53 @@ module _ (lines : List WorldLine) (files : List (List ℕ)) (class name desc : L
   at_world classes (At place fault) spelled h = inr (classes, (spelled, inl h))
   at_world classes Memory spelled h = tt
 
-  pub at_entry : (world : World) (entry : MethodRef) (refused : Refused) → IsMade lines files world
-      → find_method world class name desc ≡ Some entry → IsCaused (RefusesProgram world entry) refused
-      → IsCaused (RefusesMethod lines files class name desc) refused
-  at_entry world entry (At place fault) made found h = inr (
-    made.0,
+  pub at_entry : (classes : List ClassContent) (world : World) (entry : MethodRef) (refused : Refused) → AllSpell files classes
+      → IsWorldOf (set_up lines classes) world → find_method world class name desc ≡ Some entry
+      → IsCaused (RefusesProgram world entry) refused → IsCaused (RefusesMethod lines files class name desc) refused
+  at_entry classes world entry (At place fault) spelled makes found h = inr (
+    classes,
     (
-      made.1.0,
+      spelled,
       inr (record {
         world = world;
-        makes = made.1.1;
+        makes = makes;
         entry = entry;
         found = found;
         refused = h;
       }),
     ),
   )
-  at_entry world entry Memory made found h = tt
+  at_entry classes world entry Memory spelled makes found h = tt
 
 -- ---- lines that are added
+
+pub asked_initialised : (leave : Leave) (fault : Fault) (name : List ℕ) (line : WorldLine) → fault ≡ faults.Link (StaticInit name)
+    → leave.initialised ≡ true → line ≡ Initialised name → IsTrue (allows leave line) × AsksFor fault line
+asked_initialised leave fault name line is allowed e =
+    subst (λ (l : WorldLine). IsTrue (allows leave l) × AsksFor fault l) (sym e)
+    (allowed, subst (λ (f : Fault). AsksFor f (Initialised name)) (sym is) refl)
+
+pub asked_passed : (leave : Leave) (fault : Fault) (name : List ℕ) (line : WorldLine) → fault ≡ faults.Link (MissingClass name)
+    → leave.passed ≡ true → line ≡ Passed name → IsTrue (allows leave line) × AsksFor fault line
+asked_passed leave fault name line is allowed e =
+    subst (λ (l : WorldLine). IsTrue (allows leave l) × AsksFor fault l) (sym e)
+    (allowed, subst (λ (f : Fault). AsksFor f (Passed name)) (sym is) refl)
+
+-- a line on string constants or on monitors: it is asked for by another fault than those of the lines with names
+feature_asks : (fault : LinkFault) (line : WorldLine) → AsksForFeature fault line → AsksFor (faults.Link fault) line
+feature_asks (StaticInit name) (Initialised class) h = absurd h
+feature_asks (StaticInit name) (Passed interface) h = h
+feature_asks (StaticInit name) Strings h = h
+feature_asks (StaticInit name) Monitors h = h
+feature_asks (MissingClass name) (Initialised class) h = h
+feature_asks (MissingClass name) (Passed interface) h = absurd h
+feature_asks (MissingClass name) Strings h = h
+feature_asks (MissingClass name) Monitors h = h
+feature_asks fault line h = h
+
+pub asked_feature : (leave : Leave) (fault : Fault) (link : LinkFault) (line : WorldLine) → fault ≡ faults.Link link
+    → IsTrue (allows leave line) × AsksForFeature link line → IsTrue (allows leave line) × AsksFor fault line
+asked_feature leave fault link line is h = (h.0, subst (λ (f : Fault). AsksFor f line) (sym is) (feature_asks link line h.1))
 
 module _ (leave : Leave) (files : List (List ℕ)) (class name desc : List ℕ) where
   added_more : (before more : List WorldLine) (line : WorldLine) → AreAdded leave files class name desc before more
@@ -151,13 +181,12 @@ module _ (leave : Leave) (files : List (List ℕ)) (class name desc : List ℕ) 
         }));
   }
 
-  pub needed_more : (before more : List WorldLine) (line : WorldLine) (refused : Refused) (place : Place) (fault : Fault)
-      (first : List WorldLine) → refused ≡ At place fault → IsCaused (RefusesMethod before files class name desc) refused
-      → AreNeeded leave files class name desc first before → IsTrue (allows leave line) × AsksFor fault line
-      → more ≡ before ++ line ∷ [] → AreNeeded leave files class name desc first more
-  needed_more before more line refused place fault first is caused h asked push =
-      one_added before more line place fault first h
-      (subst (λ (r : Refused). IsCaused (RefusesMethod before files class name desc) r) is caused) asked push
+  pub needed_more : (before more : List WorldLine) (line : WorldLine) (refused : Refused) (first : List WorldLine)
+      → AreNeeded leave files class name desc first before → IsCaused (RefusesMethod before files class name desc) refused
+      → IsAskedBy leave refused line → more ≡ before ++ line ∷ [] → AreNeeded leave files class name desc first more
+  needed_more before more line (At place fault) first h caused asked push =
+      one_added before more line place fault first h caused asked push
+  needed_more before more line Memory first h caused asked push = absurd asked
 
   pub needed_first : (first lines : List WorldLine) → lines ≡ first → AreNeeded leave files class name desc first lines
   needed_first first lines e = record { more = []; behind = e ∙ sym (append-nil first); added = tt }
@@ -167,24 +196,28 @@ module _ (leave : Leave) (files : List (List ℕ)) (class name desc : List ℕ) 
       → Under leave files class name desc first (λ (ls : List WorldLine). HasNoMethod ls files class name desc)
   none_under first lines needed none = (lines, (needed, none))
 
-  pub refused_under : (first lines : List WorldLine) (refused : Refused) → AreNeeded leave files class name desc first lines
-      → IsCaused (RefusesMethod lines files class name desc) refused
+  pub refused_under : (first lines : List WorldLine) (refused other : Refused) → AreNeeded leave files class name desc first lines
+      → IsCaused (RefusesMethod lines files class name desc) refused → IsCaused (IsOneOf refused (RefusesClasses files)) other
       → IsCaused (λ place fault. Under leave files class name desc first
-      (λ (ls : List WorldLine). RefusesMethod ls files class name desc place fault)) refused
-  refused_under first lines (At place fault) needed h = (lines, (needed, h))
-  refused_under first lines Memory needed h = tt
+      (λ (ls : List WorldLine). RefusesMethod ls files class name desc place fault)) other
+  refused_under first lines refused (At place fault) needed h (inl same) =
+      (lines, (needed, subst (λ (r : Refused). IsCaused (RefusesMethod lines files class name desc) r) same h))
+  refused_under first lines refused (At place fault) needed h (inr broken) = (lines, (needed, inl broken))
+  refused_under first lines refused Memory needed h one = tt
 
   -- without leave nothing is added
-  none_added : (before more : List WorldLine) → leave.initialised ≡ false → leave.passed ≡ false
-      → AreAdded leave files class name desc before more → more ≡ []
-  none_added before [] i p h = refl
-  none_added before (Initialised name' ∷ more) i p h = absurd (false≢true (sym i ∙ h.0.allowed))
-  none_added before (Passed name' ∷ more) i p h = absurd (false≢true (sym p ∙ h.0.allowed))
+  none_added : (before more : List WorldLine) → leave.initialised ≡ false → leave.passed ≡ false → leave.strings ≡ false
+      → leave.monitors ≡ false → AreAdded leave files class name desc before more → more ≡ []
+  none_added before [] i p s m h = refl
+  none_added before (Initialised name' ∷ more) i p s m h = absurd (false≢true (sym i ∙ h.0.allowed))
+  none_added before (Passed name' ∷ more) i p s m h = absurd (false≢true (sym p ∙ h.0.allowed))
+  none_added before (Strings ∷ more) i p s m h = absurd (false≢true (sym s ∙ h.0.allowed))
+  none_added before (Monitors ∷ more) i p s m h = absurd (false≢true (sym m ∙ h.0.allowed))
 
-  pub as_given : (first lines : List WorldLine) → leave.initialised ≡ false → leave.passed ≡ false
-      → AreNeeded leave files class name desc first lines → lines ≡ first
-  as_given first lines i p h =
-      h.behind ∙ (ap (λ ls. first ++ ls) (none_added first h.more i p h.added) ∙ append-nil first)
+  pub as_given : (first lines : List WorldLine) → leave.initialised ≡ false → leave.passed ≡ false → leave.strings ≡ false
+      → leave.monitors ≡ false → AreNeeded leave files class name desc first lines → lines ≡ first
+  as_given first lines i p s m h =
+      h.behind ∙ (ap (λ ls. first ++ ls) (none_added first h.more i p s m h.added) ∙ append-nil first)
 
 pub files_described : (asked : Asked) (files : List (List ℕ)) (classes : List ClassContent) (word text : List ℕ) (names : MethodNames)
     (lines : List WorldLine) (p : Program) → AllSpell files classes → IsFirstNamed classes word names

@@ -15,9 +15,9 @@ use Rattle.input_steps.specs.Classes.{AllSpell, IsWorldOf}
 use Rattle.input_steps.specs.SetUp.{set_up}
 
 -- Class files and a description name this program and this description of its inputs. The files spell classes. The description says a
--- text; as its lines say, the classes enter the program's world, which they link and make. The text's method is the program's entry.
--- The program is closed: it has the methods that the entry reaches, itself first, and the static fields that these name. The text has
--- no fault against it, and says this, with what is so of string constants.
+-- text. The classes, as its lines let them enter the world (`set_up`), link and make the program's world. The text's method is the
+-- program's entry. The program is closed: it has the methods that the entry reaches, itself first, and the static fields that these
+-- name. The text has no fault against it, and says this, with what is so of string constants.
 pub record NameProgram (files : List (List ℕ)) (desc : List ℕ) (program : Program) (described : Desc) : Type 0 where
   pub classes : List ClassContent
   pub spelled : AllSpell files classes

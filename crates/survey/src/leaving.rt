@@ -321,7 +321,7 @@ fn passing_lines(
 
 /// Leaves class files out until the others make a world, as some lines about classes say. A line is put for each.
 #[tactic(auto, using(crate::proofs::Leavings::none_left, crate::proofs::Leavings::left_on, crate::proofs::Went::cut_on))]
-fn leave_all<O: Sink>(
+fn leave_out<O: Sink>(
     alloc: Global,
     lines: &[WorldLine],
     kept: &mut Kept<'_>,
@@ -346,7 +346,7 @@ fn leave_all<O: Sink>(
 /// Leaves class files out until the others make a world. A line is put for each. Interfaces that no file spells are passed over, but
 /// where nothing is to be: the lines about classes that say so.
 #[tactic(auto, using(crate::proofs::Went::no_memory_at))]
-pub(crate) fn leave_out<O: Sink>(
+pub(crate) fn leave_unlinked<O: Sink>(
     alloc: Global,
     none: bool,
     descs: &[Vec<u8>],
@@ -363,7 +363,7 @@ pub(crate) fn leave_out<O: Sink>(
         Ok(lines) => lines,
         Err(stop) => return Err(stop),
     };
-    match leave_all(alloc, lines.as_slice(), kept, out) {
+    match leave_out(alloc, lines.as_slice(), kept, out) {
         Ok(()) => Ok(lines),
         Err(stop) => Err(stop),
     }

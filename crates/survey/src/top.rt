@@ -7,7 +7,7 @@ ghost use Rattle.survey.specs.inner.Putting.{stop_status};
 ghost use Rattle.survey.specs.inner.Running.{HasRun, HasBroken};
 
 use crate::failure::Stop;
-use crate::leaving::leave_out;
+use crate::leaving::leave_unlinked;
 use crate::reading::{Kept, read_descs, read_files};
 use crate::surveying::{FileCounts, survey_kept};
 use crate::words::Asked;
@@ -62,7 +62,7 @@ fn survey_described<F: Files, O: Sink>(
         Err(stop) => return Err(stop),
     };
     let refused = refused_of(asked, &kept);
-    match leave_out(alloc, asked.strict || refused > 0, descs, &mut kept, out) {
+    match leave_unlinked(alloc, asked.strict || refused > 0, descs, &mut kept, out) {
         Ok(lines) => match survey_kept(
             alloc,
             asked.descs.as_slice(),

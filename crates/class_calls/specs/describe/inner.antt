@@ -1,2 +1,3 @@
 -- Words of private calls.
+pub mod Asking
 pub mod Rows

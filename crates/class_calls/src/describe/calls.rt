@@ -1,16 +1,15 @@
 //! From class files to the list of a class's methods, or to a description of one of them.
-ghost use Rattle.std.specs.Prelude.{◌≡◌, ◌≤◌, ℕ, List, [], length, map, Some, None, IfOk, IfErr, IfSome, IsTrue};
-ghost use Rattle.class_read.specs.Content.{ClassContent};
+ghost use Rattle.std.specs.Prelude.{◌≡◌, ◌≤◌, [], length, map, Some, None, IfOk, IfErr, IfSome, IsTrue};
 ghost use Rattle.class_world.specs.Members.{find_method};
 ghost use Rattle.class_world.specs.Resolve.{has_body};
 ghost use Rattle.class_world.specs.Worlds.{classes_of};
 ghost use Rattle.class_program.specs.Views.{program_of};
 ghost use Rattle.class_base.specs.Limits.{most_classes};
 ghost use Rattle.input_steps.specs.Steps.{IsCaused};
-ghost use Rattle.input_steps.specs.Classes.{AllSpell, IsWorldOf, RefusesClasses};
-ghost use Rattle.input_steps.specs.SetUp.{set_up};
+ghost use Rattle.input_steps.specs.Classes.{RefusesClasses};
 ghost use Rattle.class_calls.specs.describe.Lines.{IsMethodProgram, HasNone, HasNoMethod, RefusesMethod, allows, AsksFor};
 ghost use Rattle.class_calls.specs.describe.Lines.{AreNeeded, Under};
+ghost use Rattle.class_calls.specs.describe.inner.Asking.{IsAskedBy, IsOneOf};
 ghost use Rattle.class_calls.specs.describe.Calls.{ListsMethods, Describes};
 
 use crate::describe::checked::template;
@@ -62,35 +61,8 @@ fn entry_in(world: &World<'_>, names: &MethodNames<'_>) -> Option<MethodRef>
     }
 }
 
-/// The program of an entry of a world that classes make as some lines say.
-#[tactic(auto, using(crate::proofs::Answered::is_method_program, crate::proofs::Answered::has_no_method, crate::proofs::Answered::at_entry))]
-fn program_in<'a>(
-    alloc: Global,
-    files: &'a [Vec<u8>],
-    lines: &[WorldLine],
-    names: &MethodNames<'_>,
-    world: World<'a>,
-) -> Result<Option<Program<'a>>, Refused>
-    requires { (classes : List ClassContent) × (AllSpell (map (λ file. file.items) files.now) classes
-        × IsWorldOf (set_up lines.now classes) (classes_of world)) }
-    ensures program { IfOk result (λ found. IfSome found (λ program. IsMethodProgram lines.now (map (λ file. file.items) files.now)
-        names.now.class.now names.now.name.now names.now.desc.now (program_of program))) }
-    ensures none { IfOk result (λ found. found ≡ None → HasNoMethod lines.now (map (λ file. file.items) files.now) names.now.class.now
-        names.now.name.now names.now.desc.now) }
-    ensures refused { IfErr result (IsCaused (RefusesMethod lines.now (map (λ file. file.items) files.now) names.now.class.now
-        names.now.name.now names.now.desc.now)) }
-{
-    match entry_in(&world, names) {
-        Some(entry) => match close(alloc, world, entry) {
-            Ok(program) => Ok(Some(program)),
-            Err(refused) => Err(refused),
-        },
-        None => Ok(None),
-    }
-}
-
 /// The program of a method, in the world that classes make as some lines say; None where no method with a body has these names.
-#[tactic(auto, using(crate::proofs::Answered::few_classes, crate::proofs::Answered::classes_link, crate::proofs::Answered::at_files, crate::proofs::Answered::at_world))]
+#[tactic(auto, using(crate::proofs::Answered::few_classes, crate::proofs::Answered::classes_link, crate::proofs::Answered::is_method_program, crate::proofs::Answered::has_no_method, crate::proofs::Answered::at_files, crate::proofs::Answered::at_world, crate::proofs::Answered::at_entry))]
 fn program_at<'a>(
     alloc: Global,
     files: &'a [Vec<u8>],
@@ -113,7 +85,13 @@ fn program_at<'a>(
         Ok(world) => world,
         Err(refused) => return Err(refused),
     };
-    program_in(alloc, files, lines, names, world)
+    match entry_in(&world, names) {
+        Some(entry) => match close(alloc, world, entry) {
+            Ok(program) => Ok(Some(program)),
+            Err(refused) => Err(refused),
+        },
+        None => Ok(None),
+    }
 }
 
 /// The line that a fault asks for, beside those that are there.
@@ -149,35 +127,25 @@ fn lines_again(alloc: Global, lines: &[WorldLine]) -> Result<Seq<WorldLine>, All
     Ok(again)
 }
 
-/// The lines with one more, which a fault asks for that is there under them; else the fault.
-#[tactic(auto, using(crate::proofs::Answered::needed_more, crate::proofs::Answered::at_files))]
-fn lines_with_next(
+/// The line that a refusal asks for, beside those that are there; else why there is none.
+fn line_for(
     alloc: Global,
     files: &[Vec<u8>],
     leave: Leave,
-    mut lines: Seq<WorldLine>,
+    lines: &[WorldLine],
     refused: Refused,
-) -> Result<Seq<WorldLine>, Refused>
+) -> Result<WorldLine, Refused>
     requires { length files.now ≤ most_classes }
-    ensures needed { (class name desc : List ℕ) (first : List WorldLine)
-        → IsCaused (RefusesMethod lines.entry (map (λ file. file.items) files.now) class name desc) refused.entry
-        → AreNeeded leave (map (λ file. file.items) files.now) class name desc first lines.entry
-        → IfOk result (AreNeeded leave (map (λ file. file.items) files.now) class name desc first) }
-    ensures refused { (class name desc : List ℕ)
-        → IsCaused (RefusesMethod lines.entry (map (λ file. file.items) files.now) class name desc) refused.entry
-        → IfErr result (IsCaused (RefusesMethod lines.entry (map (λ file. file.items) files.now) class name desc)) }
+    ensures asked { IfOk result (IsAskedBy leave refused.entry) }
+    ensures refused { IfErr result (IsCaused (IsOneOf refused.entry (RefusesClasses (map (λ file. file.items) files.now)))) }
 {
-    let (place, fault) = match refused {
-        Refused::At { place, fault } => (place, fault),
-        Refused::Memory => return Err(Refused::Memory),
-    };
-    match next_line(alloc, files, leave, lines.as_slice(), &fault) {
-        Ok(Some(line)) => {
-            lines.push(line)?;
-            Ok(lines)
-        }
-        Ok(None) => Err(Refused::At { place, fault }),
-        Err(refused) => Err(refused),
+    match refused {
+        Refused::At { place, fault } => match next_line(alloc, files, leave, lines, &fault) {
+            Ok(Some(line)) => Ok(line),
+            Ok(None) => Err(Refused::At { place, fault }),
+            Err(other) => Err(other),
+        },
+        Refused::Memory => Err(Refused::Memory),
     }
 }
 
@@ -189,7 +157,7 @@ fn lines_with_next(
 /// # Errors
 ///
 /// The fault of the files, of linking or of closing that no line helps against; want of memory.
-#[tactic(auto, using(crate::proofs::Answered::needed_first, crate::proofs::Answered::none_under, crate::proofs::Answered::refused_under))]
+#[tactic(auto, using(crate::proofs::Answered::needed_first, crate::proofs::Answered::needed_more, crate::proofs::Answered::none_under, crate::proofs::Answered::refused_under))]
 pub fn program_under<'a>(
     alloc: Global,
     files: &'a [Vec<u8>],
@@ -215,9 +183,9 @@ pub fn program_under<'a>(
         match program_at(alloc, files, lines.as_slice(), names) {
             Ok(Some(program)) => return Ok(Some(UnderLines { lines, program })),
             Ok(None) => return Ok(None),
-            Err(refused) => match lines_with_next(alloc, files, leave, lines, refused) {
-                Ok(more) => lines = more,
-                Err(refused) => return Err(refused),
+            Err(refused) => match line_for(alloc, files, leave, lines.as_slice(), refused) {
+                Ok(line) => lines.push(line)?,
+                Err(other) => return Err(other),
             },
         }
     }

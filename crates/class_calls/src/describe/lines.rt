@@ -204,6 +204,7 @@ fn passed_line(
 /// the interface which is missing in a list of interfaces is passed over; that string constants are there; or that monitors are. None
 /// where no line helps, there is no leave for it, or it is there already. Where the line on string constants doesn't help, the fault
 /// stays as it is, or is that the class of strings is missing.
+#[tactic(auto, using(crate::proofs::Answered::asked_initialised, crate::proofs::Answered::asked_passed, crate::proofs::Answered::asked_feature))]
 pub(crate) fn line_needed(
     alloc: Global,
     leave: Leave,

@@ -1,7 +1,7 @@
 use Rattle.std.proofs.Common.{◌≡◌, ◌≤◌, length}
 use Rattle.survey.specs.inner.Keeping.{Leaves}
 use Rattle.survey.specs.inner.Putting.{IsOther, Went}
-use Rattle.survey.proofs.leaving.leave_all.Given as goal
+use Rattle.survey.proofs.leaving.leave_out.Given as goal
 
 -- which files were left out
 abbrev pub invariant-loop-round : goal.invariant-loop-round

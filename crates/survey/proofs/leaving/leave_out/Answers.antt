@@ -2,7 +2,7 @@ use Rattle.std.proofs.Common.{arith}
 use Rattle.survey.specs.inner.Putting.{IsOther}
 use Rattle.survey.proofs.Leavings.{left_on}
 use Rattle.survey.proofs.Went.{cut_on}
-use Rattle.survey.proofs.leaving.leave_all.Goals as goal
+use Rattle.survey.proofs.leaving.leave_out.Goals as goal
 
 pub returns-in-Ok-false-clause-told : goal.returns-in-Ok-false-clause-told
 returns-in-Ok-false-clause-told g c = left_on g.O.Sink.taken g.O.Sink.faults c.args.kept.now c.loop-round.kept c.leave_one.new.kept
