@@ -16,7 +16,7 @@ use Rattle.input_steps.specs.declared.refused.Place.{Place}
 use Rattle.input_steps.specs.declared.refused.Fault.{Fault}
 use Rattle.input_steps.specs.declared.refused.Fault.TheVariants as faults
 use Rattle.input_steps.specs.Classes.{AllSpell, IsWorldOf, RefusesClasses, RefusesWorld}
-use Rattle.input_steps.specs.SetUp.{set_up}
+use Rattle.input_steps.specs.SetUp.{SetUp, set_up}
 use Rattle.input_steps.specs.Programs.{IsProgramOf, RefusesProgram}
 use Rattle.class_calls.specs.declared.describe.lines.Leave.{Leave}
 
@@ -46,10 +46,10 @@ pub record HasNoMethod (lines : List WorldLine) (files : List (List ℕ)) (class
   pub makes : IsWorldOf (set_up lines classes) world
   pub none : HasNone world class name desc
 
--- classes that make a world are refused for the first rule that the program of a method breaks
-pub record RefusesEntry (classes : List ClassContent) (class name desc : List ℕ) (place : Place) (fault : Fault) : Type 0 where
+-- classes that are set up, and make a world, are refused for the first rule that the program of a method breaks
+pub record RefusesEntry (given : SetUp) (class name desc : List ℕ) (place : Place) (fault : Fault) : Type 0 where
   pub world : World
-  pub makes : IsWorldOf classes world
+  pub makes : IsWorldOf given world
   pub entry : MethodRef
   pub found : find_method world class name desc ≡ Some entry
   pub refused : RefusesProgram world entry place fault
