@@ -80,7 +80,7 @@ accepted_ends ended cert desc files (Ok outcome) bytes a accepts =
     let p = r.program in
     let closed = r.named.closed in
     let world = world_good files r.named.text.world r.named.classes p.world (recursion_from_All IsBytes files bytes) r.named.spelled
-        r.named.linked in
+    r.named.linked in
     let small = methods_small p.world p.entry p.methods world closed.made in
     let is = r.named.is_described in
     let written = own_desc p (filled p r.named.text) is.0 closed (few_params p.methods small) is.1.0 is.1.1 in

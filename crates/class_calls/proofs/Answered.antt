@@ -34,7 +34,8 @@ use Rattle.class_calls.specs.declared.describe.lines.Leave.{Leave}
 use Rattle.class_calls.specs.declared.describe.methods.MethodNames.{MethodNames}
 use Rattle.class_calls.specs.describe.Methods.{method_lines, Names, IsNamed, IsFirstNamed}
 use Rattle.class_calls.specs.describe.Templates.{IsTemplate}
-use Rattle.class_calls.specs.describe.Lines.{IsMethodProgram, HasNone, HasNoMethod, RefusesMethod, allows, AsksForFeature, AsksFor, IsAdded, AreAdded}
+use Rattle.class_calls.specs.describe.Lines.{IsMethodProgram, HasNone, HasNoMethod, RefusesMethod, allows, AsksForFeature, AsksFor}
+use Rattle.class_calls.specs.describe.Lines.{IsAdded, AreAdded}
 use Rattle.class_calls.specs.describe.Lines.{AreNeeded, Under}
 use Rattle.class_calls.specs.describe.inner.Asking.{IsAskedBy, IsOneOf}
 use Rattle.class_calls.specs.describe.Calls.{ListsMethods, Describes}

@@ -6,7 +6,8 @@ use Rattle.std.specs.Str.{bytes_eq}
 use Rattle.class_calls.specs.declared.command_rows.table.Request.{Request}
 use Rattle.class_calls.specs.declared.command_rows.table.Request.TheVariants as requests
 use Rattle.class_calls.specs.declared.command_rows.table.Command.{Command}
-use Rattle.class_calls.specs.declared.command_rows.table.Command.TheVariants.{Prove, Check, Run, Asm, Generate, Migrate, Bound, Loop, Its, Throws}
+use Rattle.class_calls.specs.declared.command_rows.table.Command.TheVariants.{Prove, Check, Run, Asm, Generate, Migrate, Bound}
+use Rattle.class_calls.specs.declared.command_rows.table.Command.TheVariants.{Loop, Its, Throws}
 use Rattle.class_calls.specs.declared.command_rows.row.NumberRange.{NumberRange}
 use Rattle.class_calls.specs.declared.command_rows.row.NumberWord.TheVariants.{Absent, Needed, Optional}
 use Rattle.class_calls.specs.command_rows.Rows.{commands, row_of, request_of, command_of, number_of, IsInRange}

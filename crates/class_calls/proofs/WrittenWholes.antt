@@ -51,7 +51,8 @@ use Rattle.class_calls.specs.describe.Starts.{HoldsConstant, IsStartState}
 use Rattle.class_calls.specs.describe.Whole.{is_open, IsWhole}
 use Rattle.class_calls.specs.describe.Templates.{HasNumbers, IsTemplate}
 use Rattle.class_calls.proofs.Pairs.{swapped}
-use Rattle.class_calls.proofs.Wholes.{IsOpenAt, AreObjectsFrom, fit_each, nulls_fit, received_more, same_listed, share_listed, as_many, has_numbers}
+use Rattle.class_calls.proofs.Wholes.{IsOpenAt, AreObjectsFrom, fit_each, nulls_fit, received_more, same_listed, share_listed}
+use Rattle.class_calls.proofs.Wholes.{as_many, has_numbers}
 
 -- ---- lists
 
@@ -193,7 +194,8 @@ module _ (narrow : Bool) (p : Program) (text : DescText) (written : Desc) (state
 
   fit_inputs : AllZip (FitsInput types heap) written.inputs given
   fit_inputs =
-      let opened = all_fitting (is_open p.world) (IsOpenAt p.world) (λ slot input e. e) 0 wanted written.inputs whole.count whole.opened in
+      let opened = all_fitting (is_open p.world) (IsOpenAt p.world) (λ slot input e. e) 0 wanted written.inputs whole.count
+      whole.opened in
       let nulls = nulls_fit (has_receiver p) own written.inputs given (whole.count ∙ sym as_long) whole.nullable
       (λ e. received_more start.args state.statics (start.receiver e)) objects in
       fit_each p.world heap wanted written.inputs given laws opened nulls held
@@ -207,7 +209,8 @@ module _ (narrow : Bool) (p : Program) (text : DescText) (written : Desc) (state
       ref_of types heap written.inputs n o input.0 value input.1.0 input.1.1 e
 
   erased : (n o : ℕ) (r : IsRefOf types heap written.inputs n o) → erase p.world r.said ≡ r.said
-  erased n o r = erased_inputs p.world (slots_of p) (text.params ++ text.statics) written.inputs n r.said r.null r.shape is.inputs_are r.at
+  erased n o r = erased_inputs p.world (slots_of p) (text.params ++ text.statics) written.inputs n r.said r.null r.shape
+      is.inputs_are r.at
 
   -- a pair of an input that is no string constant and of one that is
   across : (related : Input → Input → Bool) (i j : ℕ) (a b : Input) → i < own → own ≤ j → slice_get written.inputs i ≡ Some a

@@ -147,9 +147,12 @@ module _ (world : World) (class index : ℕ) (table : List (List ℕ)) (slots : 
 
   here : Tables → (c : ClassContent) × (slice_get world class ≡ Some c) × (index < length c.fields)
   here t =
-      let s = slice_get-get_or world class (built_in no_features ([], [], Nothing)) t.within in
-      (get_or world class (built_in no_features ([], [], Nothing)), s, subst
-            (λ (o : Option ClassContent). IfSome o (λ c. index < length c.fields)) s t.there)
+      let s = slice_get-get_or world class (built_in no_features ([], [], Nothing)) t.within in (
+        get_or world class (built_in no_features ([], [], Nothing)),
+        s,
+        subst
+            (λ (o : Option ClassContent). IfSome o (λ c. index < length c.fields)) s t.there,
+      )
 
   row_of : Tables → (c : ClassContent) → slice_get world class ≡ Some c → (row : List ℕ) → row ≡ get_or table class row
       → row ≡ values_to (kept_before world c.fields) (length c.fields + 1)

@@ -56,7 +56,7 @@ pub linked_is : (features : Features) (given : List ClassContent) (all world : W
 unfolding is_linked
 linked_is features given all world e s n h =
     let whole : is_linked (world_with features given) ≡ true = and_from _ _ (ap is_none (link_none features given all world e s n h))
-        (rooted features given) in
+    (rooted features given) in
     subst (λ (w : World). is_linked w ≡ true) (sym (s ∙ e)) whole
 
 pub world_is : (features : Features) (given : List ClassContent) (all world : World) → all ≡ world_with features given → world ≡ all

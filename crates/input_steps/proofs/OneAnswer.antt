@@ -138,7 +138,7 @@ pub world_exact : (given : SetUp) → IsExact (IsWorldOf given) (RefusesWorld gi
 world_exact given = record {
   one = λ a b h k. h.world_is ∙ sym k.world_is;
   apart = λ world place fault h r. none_some (link_fault (world_with given.0 given.1)) r.cause (ap link_fault (sym h.world_is)
-        ∙ h.links) r.holds;
+      ∙ h.links) r.holds;
   named = at_one {C = LinkFault} (λ fault. places.Link) faults.Link (λ fault. link_fault (world_with given.0 given.1) ≡ Some fault)
       (λ x y e f. one_answer (link_fault (world_with given.0 given.1)) x y e f);
 }

@@ -63,7 +63,8 @@ texts_step f before found more n e m =
     ∙ sym (texts_append before (filter is_utf8 (filter_map f (range_with_len 0 n))) (filter is_utf8 (option_to_list (f n))))
     ∙ ap (λ (texts : List (List ℕ)). with_texts before texts)
     (sym (filter-append is_utf8 (filter_map f (range_with_len 0 n)) (option_to_list (f n)))
-    ∙ ap (filter is_utf8) (statics_step f [] (filter_map f (range_with_len 0 n)) (filter_map f (range_with_len 0 n) ++ option_to_list (f n))
+    ∙ ap (filter is_utf8)
+    (statics_step f [] (filter_map f (range_with_len 0 n)) (filter_map f (range_with_len 0 n) ++ option_to_list (f n))
     n (f n) refl refl refl))
 
 -- the texts of one class more
@@ -149,7 +150,7 @@ room_links : (c : ClassContent) → IsLinkable c → (texts : List (List ℕ)) �
     → IsLinkable (record c { fields = c.fields ++ map constant_field texts })
 room_links c h texts apart room =
     let parts = and_parts (not (list_any (λ f. bytes_eq f.desc constant_desc) c.fields))
-        (nat_lt (length c.fields + length texts) 65536) room in
+    (nat_lt (length c.fields + length texts) 65536) room in
     let few = and_parts (nat_lt (length c.fields) 65536) (nat_lt (length c.methods) 65536) h.few in
     let long : length (c.fields ++ map constant_field texts) ≡ length c.fields + length texts =
     length-append c.fields (map constant_field texts) ∙ ap (λ (n : ℕ). length c.fields + n) (length_mapped constant_field texts) in

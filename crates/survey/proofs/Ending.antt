@@ -139,7 +139,8 @@ module _ {F S : Type 0} (files : FilesSeen F) (taken : S → Option (List ℕ)) 
           → AllByRecursion (IsTrueLine told)
           ((x.lines ++ y.lines) ++ (z.are.desc_lines ++ (z.are.method_lines ++ count_line strict z.are.counts ∷ [])))
       all_true x y z =
-          all_both (IsTrueLine told) (x.lines ++ y.lines) (z.are.desc_lines ++ (z.are.method_lines ++ count_line strict z.are.counts ∷ []))
+          all_both (IsTrueLine told) (x.lines ++ y.lines)
+          (z.are.desc_lines ++ (z.are.method_lines ++ count_line strict z.are.counts ∷ []))
           (all_both (IsTrueLine told) x.lines y.lines (all_as IsOther (IsTrueLine told) x.lines (others_true told) x.each)
           (all_as IsOther (IsTrueLine told) y.lines (others_true told) y.each))
           (subst (AllByRecursion (IsTrueLine told)) z.are.are z.each)
@@ -155,7 +156,8 @@ module _ {F S : Type 0} (files : FilesSeen F) (taken : S → Option (List ℕ)) 
       → HasRun files taken faults strict names descs contents files_old files_new a d status
   runs_so many refused status counts a b c d used named same is_used is_named few own left none first second third =
       let whole : Went taken faults (IsTrueLine told) (IsTail told named counts status) c d = subst
-      (λ (u : List (Vec ℕ)). Went taken faults (IsTrueLine (surveyed strict u given)) (IsTail (surveyed strict u given) named counts status) c d)
+      (λ (u : List (Vec ℕ)). Went taken faults (IsTrueLine (surveyed strict u given))
+      (IsTail (surveyed strict u given) named counts status) c d)
       is_used third in
       let last : Went taken faults (IsTrueLine told) (IsTail told descs counts status) c d = subst
       (λ (n : List (List ℕ)). Went taken faults (IsTrueLine told) (IsTail told n counts status) c d) is_named whole in
@@ -186,7 +188,8 @@ module _ {F S : Type 0} (files : FilesSeen F) (taken : S → Option (List ℕ)) 
       (subst (λ (u : List (Vec ℕ)). Cut taken faults (IsTrueLine (surveyed strict u given)) c d stop) is_used third)
 
 -- it stopped before anything was surveyed
-pub breaks_early : {F S : Type 0} (files : FilesSeen F) (taken : S → Option (List ℕ)) (faults : S → ℕ) (strict : Bool) (names contents : List (List ℕ))
+pub breaks_early : {F S : Type 0} (files : FilesSeen F) (taken : S → Option (List ℕ)) (faults : S → ℕ) (strict : Bool)
+    (names contents : List (List ℕ))
     (files_old files_new : F) (a b : S) (stop : Stop) → Cut taken faults IsOther a b stop
     → HasBroken files taken faults strict names contents files_old files_new a b stop
 breaks_early files taken faults strict names contents files_old files_new a b stop cut = record {
@@ -197,11 +200,13 @@ breaks_early files taken faults strict names contents files_old files_new a b st
   cut = cut_true taken faults (nothing strict) a b stop cut;
 }
 
-pub breaks_later : {F S : Type 0} (files : FilesSeen F) (taken : S → Option (List ℕ)) (faults : S → ℕ) (strict : Bool) (names contents : List (List ℕ))
+pub breaks_later : {F S : Type 0} (files : FilesSeen F) (taken : S → Option (List ℕ)) (faults : S → ℕ) (strict : Bool)
+    (names contents : List (List ℕ))
     (Are : List (List ℕ) → Type 0) (files_old files_new : F) (a b c : S) (stop : Stop) → Went taken faults IsOther Are a b
     → Cut taken faults IsOther b c stop → HasBroken files taken faults strict names contents files_old files_new a c stop
 breaks_later files taken faults strict names contents Are files_old files_new a b c stop went cut =
-    breaks_early files taken faults strict names contents files_old files_new a c stop (cut_on taken faults IsOther Are a b c stop went cut)
+    breaks_early files taken faults strict names contents files_old files_new a c stop
+    (cut_on taken faults IsOther Are a b c stop went cut)
 
 -- ---- the whole
 
@@ -359,7 +364,8 @@ module _ {F S : Type 0} (files : FilesSeen F) (taken : S → Option (List ℕ)) 
 
   -- ---- with the words
 
-  never_four : (status : ℕ) (old new : F) (a b : S) → HasSurveyed files taken faults strict names descs old new a b status → status ≡ 4 → ⊥
+  never_four : (status : ℕ) (old new : F) (a b : S) → HasSurveyed files taken faults strict names descs old new a b status
+      → status ≡ 4 → ⊥
   never_four status old new a b h four = go h.known
     where
       go : IsDone status ⊎ ((status ≡ 5) ⊎ ((status ≡ 6) ⊎ (status ≡ 7))) → ⊥

@@ -93,10 +93,10 @@ pub record IsWhole {S : Type 0} (taken : S → Option (List ℕ)) (names descs :
 abbrev pub IsDone : ℕ → Type 0
 IsDone status = (status ≡ 0) ⊎ ((status ≡ 1) ⊎ (status ≡ 3))
 
--- What a call puts whose words name class files and descriptions, and ask that nothing be taken to be so, or don't. The output took the beginning of a text of whole lines, of which each
--- that begins with YES is true of what is surveyed. Nothing is, or what was read. Statuses 0, 1 and 3 are those of a whole survey. Status
--- 5 comes where a description was not read, and status 6 where the count of the sink's faults rose. There is no other but 7, which is
--- that of want of memory.
+-- What a call puts whose words name class files and descriptions, and ask that nothing be taken to be so, or don't. The output took the
+-- beginning of a text of whole lines, of which each that begins with YES is true of what is surveyed. Nothing is, or what was read.
+-- Statuses 0, 1 and 3 are those of a whole survey. Status 5 comes where a description was not read, and status 6 where the count of the
+-- sink's faults rose. There is no other but 7, which is that of want of memory.
 pub record HasSurveyed {F S : Type 0} (files : FilesSeen F) (taken : S → Option (List ℕ)) (out_faults : S → ℕ)
     (strict : Bool) (names descs : List (List ℕ)) (files_old files_new : F) (old new : S) (status : ℕ) : Type 0 where
   pub s : Surveyed

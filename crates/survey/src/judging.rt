@@ -484,14 +484,7 @@ fn judged_under(
     let lines = under.lines.as_slice();
     let assumed = assumed_of(alloc, &under.program.world, method.class, lines, narrow)?;
     match template(alloc, &under.program, lines, narrow) {
-        Ok(text) => judged_as_open(
-            alloc,
-            scope,
-            method,
-            under,
-            assumed,
-            text.as_slice(),
-        ),
+        Ok(text) => judged_as_open(alloc, scope, method, under, assumed, text.as_slice()),
         Err(DescribeFault::Memory) => Err(Refused::Memory),
         Err(_) => Ok(refused_for(alloc, method, b" description: Unwritable")?),
     }
@@ -550,9 +543,10 @@ fn judged_by_template(
     }
 }
 
-/// What is said of a method: by the first description that was handed in and names it (a second one is refused), else by its
-/// template. Where nothing is said of it, each further class that the method's program would initialise is taken to be initialised before, and parameters of type boolean,
-/// byte, char and short have the numbers of their types; a strict survey assumes neither, and passes no interface over.
+/// What is said of a method: by the first description that was handed in and names it (a second one is refused), else by its template.
+/// Where nothing is said of it, each further class that the method's program would initialise is taken to be initialised before, string
+/// constants and monitors are there where it has them, and parameters of type boolean, byte, char and short have the numbers of their
+/// types; a strict survey assumes none of this, and passes no interface over.
 ///
 /// # Errors
 ///

@@ -202,7 +202,8 @@ fn put_all_lost<O: Sink>(
     requires few { length names.now ≤ most_classes }
     requires same { length names.now ≡ length scope.now.descs.now }
     ensures told { IfOk result (λ count. Went O.taken O.faults IsOther
-        (AreDescsTold (surveyed scope.now.strict scope.now.files.now scope.now.descs.now) (map (λ name. name.now) names.now) count) out.old out.new) }
+        (AreDescsTold (surveyed scope.now.strict scope.now.files.now scope.now.descs.now) (map (λ name. name.now) names.now) count)
+        out.old out.new) }
     ensures begun { IfErr result (Cut O.taken O.faults IsOther out.old out.new) }
     ensures few { IfOk result (λ count. count ≤ most_classes) }
 {
@@ -343,9 +344,12 @@ fn survey_scope<O: Sink>(
     requires refused { counts.refused ≤ most_classes }
     requires files { counts.files ≡ length scope.now.files.now }
     requires spelled { AllSpell (map (λ file. file.items) scope.now.files.now) scope.now.classes.now }
-    ensures told { IfOk result (λ status. Went O.taken O.faults (IsTrueLine (surveyed scope.now.strict scope.now.files.now scope.now.descs.now))
-        (IsTail (surveyed scope.now.strict scope.now.files.now scope.now.descs.now) (map (λ name. name.now) names.now) counts status) out.old out.new) }
-    ensures begun { IfErr result (Cut O.taken O.faults (IsTrueLine (surveyed scope.now.strict scope.now.files.now scope.now.descs.now)) out.old
+    ensures told { IfOk result
+        (λ status. Went O.taken O.faults (IsTrueLine (surveyed scope.now.strict scope.now.files.now scope.now.descs.now))
+        (IsTail (surveyed scope.now.strict scope.now.files.now scope.now.descs.now) (map (λ name. name.now) names.now) counts status)
+        out.old out.new) }
+    ensures begun { IfErr result
+        (Cut O.taken O.faults (IsTrueLine (surveyed scope.now.strict scope.now.files.now scope.now.descs.now)) out.old
         out.new) }
 {
     let lost = match put_all_lost(alloc, names, scope, out) {

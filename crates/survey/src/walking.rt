@@ -249,7 +249,8 @@ fn method_lines(
     method: &MethodWords<'_>,
 ) -> Result<MethodLines, AllocError>
     requires { length scope.now.files.now ≤ most_classes }
-    ensures text { IfOk result (λ lines. AreLines (surveyed scope.now.strict scope.now.files.now scope.now.descs.now) (is_yes lines.sort) lines.text) }
+    ensures text { IfOk result (λ lines. AreLines (surveyed scope.now.strict scope.now.files.now scope.now.descs.now)
+        (is_yes lines.sort) lines.text) }
     ensures proved { IfOk result (λ lines. is_yes lines.sort ≡ true
         → IsProvedSo (surveyed scope.now.strict scope.now.files.now scope.now.descs.now) method.now.class.now method.now.name.now
         method.now.desc.now) }
@@ -269,9 +270,11 @@ fn survey_words<O: Sink>(
     out: &mut O,
 ) -> Result<(Sort, bool), Stop>
     requires { length scope.now.files.now ≤ most_classes }
-    ensures told { IfOk result (λ sort. Went O.taken O.faults (IsTrueLine (surveyed scope.now.strict scope.now.files.now scope.now.descs.now))
+    ensures told { IfOk result
+        (λ sort. Went O.taken O.faults (IsTrueLine (surveyed scope.now.strict scope.now.files.now scope.now.descs.now))
         (λ lines. all_proved lines ≡ is_yes sort.0) out.old out.new) }
-    ensures begun { IfErr result (Cut O.taken O.faults (IsTrueLine (surveyed scope.now.strict scope.now.files.now scope.now.descs.now)) out.old out.new) }
+    ensures begun { IfErr result
+        (Cut O.taken O.faults (IsTrueLine (surveyed scope.now.strict scope.now.files.now scope.now.descs.now)) out.old out.new) }
     ensures proved { IfOk result (λ sort. is_yes sort.0 ≡ true
         → IsProvedSo (surveyed scope.now.strict scope.now.files.now scope.now.descs.now) method.now.class.now method.now.name.now
         method.now.desc.now) }
@@ -303,9 +306,11 @@ fn survey_method<O: Sink>(
     tally: Tally,
 ) -> Result<Tally, Stop>
     requires { length scope.now.files.now ≤ most_classes }
-    ensures told { IfOk result (λ t. Went O.taken O.faults (IsTrueLine (surveyed scope.now.strict scope.now.files.now scope.now.descs.now))
+    ensures told { IfOk result
+        (λ t. Went O.taken O.faults (IsTrueLine (surveyed scope.now.strict scope.now.files.now scope.now.descs.now))
         (λ lines. t.all ≡ (tally.all && all_proved lines)) out.old out.new) }
-    ensures begun { IfErr result (Cut O.taken O.faults (IsTrueLine (surveyed scope.now.strict scope.now.files.now scope.now.descs.now)) out.old out.new) }
+    ensures begun { IfErr result
+        (Cut O.taken O.faults (IsTrueLine (surveyed scope.now.strict scope.now.files.now scope.now.descs.now)) out.old out.new) }
     ensures proved { IfOk result (λ t. IsTrue t.all
         → IsProvedMethod (surveyed scope.now.strict scope.now.files.now scope.now.descs.now) class.now (method_content method.now)) }
 {
@@ -334,11 +339,14 @@ fn survey_methods<O: Sink>(
     tally: Tally,
 ) -> Result<Tally, Stop>
     requires { length scope.now.files.now ≤ most_classes }
-    ensures told { IfOk result (λ t. Went O.taken O.faults (IsTrueLine (surveyed scope.now.strict scope.now.files.now scope.now.descs.now))
+    ensures told { IfOk result
+        (λ t. Went O.taken O.faults (IsTrueLine (surveyed scope.now.strict scope.now.files.now scope.now.descs.now))
         (λ lines. t.all ≡ (tally.all && all_proved lines)) out.old out.new) }
-    ensures begun { IfErr result (Cut O.taken O.faults (IsTrueLine (surveyed scope.now.strict scope.now.files.now scope.now.descs.now)) out.old out.new) }
+    ensures begun { IfErr result
+        (Cut O.taken O.faults (IsTrueLine (surveyed scope.now.strict scope.now.files.now scope.now.descs.now)) out.old out.new) }
     ensures proved { IfOk result (λ t. IsTrue t.all
-        → AllByRecursion (IsProvedMethod (surveyed scope.now.strict scope.now.files.now scope.now.descs.now) class.now) (map method_content methods.now)) }
+        → AllByRecursion (IsProvedMethod (surveyed scope.now.strict scope.now.files.now scope.now.descs.now) class.now)
+        (map method_content methods.now)) }
 {
     let mut so_far = tally;
     for method in methods {
@@ -359,9 +367,11 @@ fn survey_class<O: Sink>(
     tally: Tally,
 ) -> Result<Tally, Stop>
     requires { length scope.now.files.now ≤ most_classes }
-    ensures told { IfOk result (λ t. Went O.taken O.faults (IsTrueLine (surveyed scope.now.strict scope.now.files.now scope.now.descs.now))
+    ensures told { IfOk result
+        (λ t. Went O.taken O.faults (IsTrueLine (surveyed scope.now.strict scope.now.files.now scope.now.descs.now))
         (λ lines. t.all ≡ (tally.all && all_proved lines)) out.old out.new) }
-    ensures begun { IfErr result (Cut O.taken O.faults (IsTrueLine (surveyed scope.now.strict scope.now.files.now scope.now.descs.now)) out.old out.new) }
+    ensures begun { IfErr result
+        (Cut O.taken O.faults (IsTrueLine (surveyed scope.now.strict scope.now.files.now scope.now.descs.now)) out.old out.new) }
     ensures proved { IfOk result (λ t. IsTrue t.all
         → IsProvedClass (surveyed scope.now.strict scope.now.files.now scope.now.descs.now) class.now) }
 {
@@ -386,9 +396,11 @@ pub(crate) fn survey_classes<O: Sink>(
     out: &mut O,
 ) -> Result<Tally, Stop>
     requires { length scope.now.files.now ≤ most_classes }
-    ensures told { IfOk result (λ t. Went O.taken O.faults (IsTrueLine (surveyed scope.now.strict scope.now.files.now scope.now.descs.now))
+    ensures told { IfOk result
+        (λ t. Went O.taken O.faults (IsTrueLine (surveyed scope.now.strict scope.now.files.now scope.now.descs.now))
         (λ lines. t.all ≡ all_proved lines) out.old out.new) }
-    ensures begun { IfErr result (Cut O.taken O.faults (IsTrueLine (surveyed scope.now.strict scope.now.files.now scope.now.descs.now)) out.old out.new) }
+    ensures begun { IfErr result
+        (Cut O.taken O.faults (IsTrueLine (surveyed scope.now.strict scope.now.files.now scope.now.descs.now)) out.old out.new) }
     ensures proved { IfOk result (λ t. IsTrue t.all
         → AllByRecursion (IsProvedClass (surveyed scope.now.strict scope.now.files.now scope.now.descs.now)) scope.now.classes.now) }
 {

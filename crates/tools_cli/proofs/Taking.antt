@@ -69,7 +69,8 @@ few_names f names contents same few = omega (arith, same, few)
 
 -- the lines of the first class's methods
 pub lists : {W : Type 0} (text : W → List ℕ) (words : List W) (class : W) (behind : List W) (asked : Asked) (contents : List (List ℕ))
-    (out : List ℕ) → words ≡ class ∷ behind → length behind ≡ 0 → ListsMethods contents out → IsDescription asked (map text words) contents out
+    (out : List ℕ) → words ≡ class ∷ behind → length behind ≡ 0 → ListsMethods contents out
+    → IsDescription asked (map text words) contents out
 lists text words class [] asked contents out is none lists' =
     subst (λ (w : List W). IsDescription asked (map text w) contents out) (sym is) lists'
 lists text words class (method ∷ behind) asked contents out is none lists' = absurd (omega (arith, none))
@@ -95,7 +96,8 @@ is_output files asked words names named contents given old new text same is_name
 
 -- with the flags
 pub output_of : {F : Type 0} (files : FilesSeen F) (words behind : List (List ℕ)) (asked : Asked) (old new : F) (text : List ℕ)
-    → asked ≡ asked_of words → behind ≡ behind_flags words → IsOutputAs files asked behind old new text → IsOutput files words old new text
+    → asked ≡ asked_of words → behind ≡ behind_flags words → IsOutputAs files asked behind old new text
+    → IsOutput files words old new text
 output_of files words behind asked old new text flags rest is =
     subst (λ (a : Asked). IsOutputAs files a (behind_flags words) old new text) flags
     (subst (λ (w : List (List ℕ)). IsOutputAs files asked w old new text) rest is)

@@ -33,8 +33,8 @@ asked_with asked (word ∷ words) = if is_flag word then asked_with (with_flag w
 -- so it is from the first flag on
 abbrev pub asked_of : List (List ℕ) → Asked
 asked_of words = asked_with (record {
-    leave = record { initialised = false; passed = false; strings = false; monitors = false };
-    narrow = false;
+  leave = record { initialised = false; passed = false; strings = false; monitors = false };
+  narrow = false;
 }) words
 
 -- the words behind the flags

@@ -5,7 +5,8 @@ use Rattle.term_graph.specs.Limits.{most_nodes}
 use Rattle.class_calls.specs.declared.command_rows.table.Request.{Request}
 use Rattle.class_calls.specs.declared.command_rows.table.Request.TheVariants as requests
 use Rattle.class_calls.specs.declared.command_rows.table.Command.{Command}
-use Rattle.class_calls.specs.declared.command_rows.table.Command.TheVariants.{Prove, Check, Run, Asm, Generate, Migrate, Bound, Loop, Its, Throws}
+use Rattle.class_calls.specs.declared.command_rows.table.Command.TheVariants.{Prove, Check, Run, Asm, Generate, Migrate, Bound}
+use Rattle.class_calls.specs.declared.command_rows.table.Command.TheVariants.{Loop, Its, Throws}
 use Rattle.class_calls.specs.declared.command_rows.row.FileWord.{FileWord}
 use Rattle.class_calls.specs.declared.command_rows.row.FileWord.TheVariants.{Cert, Desc, State, Listing, Rules, Bounds, Class}
 use Rattle.class_calls.specs.declared.command_rows.row.NumberRange.{NumberRange}

@@ -4,7 +4,8 @@ use Rattle.class_read.specs.Content.{ClassContent}
 use Rattle.class_world.specs.code_forms.declared.fault.CodeFault.{CodeFault}
 use Rattle.class_world.specs.code_forms.declared.fault.CodeFault.TheVariants.{UnsupportedOpcode}
 use Rattle.class_world.specs.declared.fault.LinkFault.{LinkFault}
-use Rattle.class_world.specs.declared.fault.LinkFault.TheVariants.{StaticInit, MissingClass, UnsupportedType, Unresolved, Synchronized, Code}
+use Rattle.class_world.specs.declared.fault.LinkFault.TheVariants.{StaticInit, MissingClass, UnsupportedType, Unresolved}
+use Rattle.class_world.specs.declared.fault.LinkFault.TheVariants.{Synchronized, Code}
 use Rattle.class_world.specs.declared.world.MethodRef.{MethodRef}
 use Rattle.class_world.specs.World.{World}
 use Rattle.class_world.specs.Members.{find_method}

@@ -11,7 +11,8 @@ returns-in-Err-clause-begun g c = cut_on g.O.Sink.taken g.O.Sink.faults IsOther 
 
 pub loop-n-preserved : goal.loop-n-preserved
 loop-n-preserved g c = record {
-  told = told_more g.O.Sink.taken g.O.Sink.faults (surveyed c.args.scope.now.strict c.args.scope.now.files.now c.args.scope.now.descs.now) (λ name. name.now)
+  told = told_more g.O.Sink.taken g.O.Sink.faults
+      (surveyed c.args.scope.now.strict c.args.scope.now.files.now c.args.scope.now.descs.now) (λ name. name.now)
       c.args.names.now c.loop-n.n c.loop-n.lost c.counted.result c.word_at.result c.word_at.result.now c.in-Ok.is_lost
       c.args.out.now c.loop-n.out c.put_lost.new.out (omega arith) c.word_at.ensures refl c.counted.ensures c.loop-n.invariant.told
       c.in-Ok.ensures.told;

@@ -8,6 +8,7 @@ use Rattle.survey.proofs.surveying.put_all_lost.Given as goal
 abbrev pub invariant-loop-n : goal.invariant-loop-n
 invariant-loop-n g l = record {
   told : Went g.O.Sink.taken g.O.Sink.faults IsOther
-      (AreDescsToldTo (surveyed l.scope.strict l.scope.files.now l.scope.descs.now) (map (λ name. name.now) l.names) l.n l.lost) l.initial.out l.out;
+      (AreDescsToldTo (surveyed l.scope.strict l.scope.files.now l.scope.descs.now) (map (λ name. name.now) l.names) l.n l.lost)
+      l.initial.out l.out;
   few : l.lost ≤ l.n;
 }

@@ -7,7 +7,8 @@ use Rattle.survey.proofs.surveying.survey_scope.Goals as goal
 
 pub returns-in-Ok-put_counts-clause-told : goal.returns-in-Ok-put_counts-clause-told
 returns-in-Ok-put_counts-clause-told g c =
-    is_tail g.O.Sink.taken g.O.Sink.faults c.args.scope.now.strict c.args.scope.now.files.now c.args.scope.now.descs.now (map (λ name. name.now) c.args.names.now)
+    is_tail g.O.Sink.taken g.O.Sink.faults c.args.scope.now.strict c.args.scope.now.files.now c.args.scope.now.descs.now
+    (map (λ name. name.now) c.args.names.now)
     c.args.scope.now.classes.now c.args.counts
     (record {
       yes = c.in-Ok-survey_classes.tally.yes;
@@ -25,12 +26,14 @@ returns-in-Ok-put_counts-clause-told g c =
 
 pub returns-in-Err-clause-begun : goal.returns-in-Err-clause-begun
 returns-in-Err-clause-begun g c =
-    cut_true g.O.Sink.taken g.O.Sink.faults (surveyed c.args.scope.now.strict c.args.scope.now.files.now c.args.scope.now.descs.now) c.args.out.now
+    cut_true g.O.Sink.taken g.O.Sink.faults
+    (surveyed c.args.scope.now.strict c.args.scope.now.files.now c.args.scope.now.descs.now) c.args.out.now
     c.put_all_lost.new.out c.in-Err.stop c.in-Err.ensures.begun
 
 pub returns-in-Err-survey_classes-clause-begun : goal.returns-in-Err-survey_classes-clause-begun
 returns-in-Err-survey_classes-clause-begun g c =
-    cut_behind g.O.Sink.taken g.O.Sink.faults (surveyed c.args.scope.now.strict c.args.scope.now.files.now c.args.scope.now.descs.now) _ c.args.out.now
+    cut_behind g.O.Sink.taken g.O.Sink.faults
+    (surveyed c.args.scope.now.strict c.args.scope.now.files.now c.args.scope.now.descs.now) _ c.args.out.now
     c.put_all_lost.new.out c.survey_classes.new.out c.in-Err-survey_classes.stop c.in-Ok.ensures.told
     c.in-Err-survey_classes.ensures.begun
 

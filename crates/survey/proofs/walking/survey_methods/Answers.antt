@@ -8,7 +8,8 @@ use Rattle.survey.proofs.walking.survey_methods.Goals as goal
 
 pub returns-in-Err-clause-begun : goal.returns-in-Err-clause-begun
 returns-in-Err-clause-begun g c =
-    cut_on g.O.Sink.taken g.O.Sink.faults (IsTrueLine (surveyed c.args.scope.now.strict c.args.scope.now.files.now c.args.scope.now.descs.now)) _ c.args.out.now
+    cut_on g.O.Sink.taken g.O.Sink.faults
+    (IsTrueLine (surveyed c.args.scope.now.strict c.args.scope.now.files.now c.args.scope.now.descs.now)) _ c.args.out.now
     c.loop-method.out c.survey_method.new.out _ c.loop-method.invariant.told c.in-Err.ensures.begun
 
 pub loop-method-preserved : goal.loop-method-preserved

@@ -6,13 +6,29 @@ pub at-kept-requires : goal.at-kept-requires
 at-kept-requires c =
     let w = c.args.self.now in
     kept_long w.roster.classes c.args.class c.args.index w.index.kept w.slots
-    (record { kept = w.indexed.kept; laid_out = w.laid_out; few = w.few; count = w.count; within = c.requires.class; there = c.requires.index })
+    (record {
+      kept = w.indexed.kept;
+      laid_out = w.laid_out;
+      few = w.few;
+      count = w.count;
+      within = c.requires.class;
+      there =
+          c.requires.index;
+    })
 
 pub at-requires : goal.at-requires
 at-requires c =
     let w = c.args.self.now in
     slots_long w.roster.classes c.args.class c.args.index w.index.kept w.slots
-    (record { kept = w.indexed.kept; laid_out = w.laid_out; few = w.few; count = w.count; within = c.requires.class; there = c.requires.index })
+    (record {
+      kept = w.indexed.kept;
+      laid_out = w.laid_out;
+      few = w.few;
+      count = w.count;
+      within = c.requires.class;
+      there =
+          c.requires.index;
+    })
 
 pub overflow_sub-len : goal.overflow_sub-len
 overflow_sub-len c =

@@ -14,13 +14,13 @@ enrol-requires c = enrol_fits c.args.features c.args.classes.items c.in_ok-with_
 pub returns-in_err-roster-clause-fault : goal.returns-in_err-roster-clause-fault
 returns-in_err-roster-clause-fault c = passed_on _ _ _ c.from_residual-in_err-roster.ensures.1
     (link_first c.args.features c.args.classes.items c.in_ok-with_built_ins.field-0 _ c.in_ok-with_built_ins.ensures
-          c.in_err-roster.ensures.fault)
+    c.in_err-roster.ensures.fault)
 
 pub returns-in_err-above-clause-fault : goal.returns-in_err-above-clause-fault
 returns-in_err-above-clause-fault c =
     passed_on _ _ _ c.from_residual-in_err-above.ensures.1
     (link_later c.args.features c.args.classes.items c.in_ok-with_built_ins.field-0 c.in_ok-roster.roster.classes _
-          c.in_ok-with_built_ins.ensures
+    c.in_ok-with_built_ins.ensures
     c.in_ok-roster.ensures.classes c.in_ok-roster.ensures.fault c.in_err-above.ensures.fault)
 
 pub invariant_of-result-clause-known : goal.invariant_of-result-clause-known
