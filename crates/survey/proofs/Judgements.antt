@@ -19,9 +19,9 @@ use Rattle.class_program.specs.Programs.{Program}
 use Rattle.input_steps.specs.Classes.{AllSpell, IsWorldOf}
 use Rattle.input_steps.specs.Programs.{IsProgramOf}
 use Rattle.input_steps.proofs.Files.{spell_length, spell_read}
-use Rattle.desc_steps.specs.Headline.{AllEnd}
+use Rattle.prove_call.specs.DescStepsHeadline.{AllEnd}
 use Rattle.class_calls.specs.describe.Templates.{IsTemplate}
-use Rattle.desc_steps.specs.Givable.{HasObjects, CanBeGiven}
+use Rattle.prove_call.specs.DescStepsGivable.{HasObjects, CanBeGiven}
 use Rattle.input_desc.specs.Descs.{desc_fault, IsDescribed}
 use Rattle.input_desc.specs.Entries.{entry_of}
 use Rattle.input_desc.specs.declared.desc.Desc.{Desc}

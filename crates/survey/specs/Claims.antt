@@ -13,7 +13,7 @@ use Rattle.input_text.specs.declared.fault.DescFault.TheVariants.{Memory}
 use Rattle.input_text.specs.declared.texts.DescText.{DescText}
 use Rattle.input_text.specs.declared.texts.EntryName.{EntryName}
 use Rattle.input_steps.specs.Classes.{AllSpell, IsWorldOf}
-use Rattle.desc_steps.specs.Headline.{AllEnd}
+use Rattle.prove_call.specs.DescStepsHeadline.{AllEnd}
 use Rattle.class_calls.specs.describe.Calls.{DescribesEntry}
 use Rattle.survey.specs.declared.lacking.Lacks.{Lacks}
 use Rattle.survey.specs.declared.survey_notes.touching.Touched.{Touched}

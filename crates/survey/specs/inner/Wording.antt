@@ -9,7 +9,7 @@ use Rattle.class_world.specs.Members.{find_method}
 use Rattle.class_program.specs.Programs.{Program}
 use Rattle.input_steps.specs.Classes.{AllSpell, IsWorldOf}
 use Rattle.input_steps.specs.Programs.{IsProgramOf}
-use Rattle.desc_steps.specs.Headline.{AllEnd}
+use Rattle.prove_call.specs.DescStepsHeadline.{AllEnd}
 use Rattle.survey.specs.Claims.{Surveyed, IsTextOf, IsTrueLine}
 use Rattle.survey.specs.Lacking.{IsWarned}
 use Rattle.survey.specs.Lines.{printed, is_unproved, text_of}
