@@ -13,8 +13,8 @@ use Rattle.abs_cells.specs.declared.cells.Cell.{Cell}
 use Rattle.abs_cells.specs.AbstractStates.{AbstractFrame, AbstractState}
 use Rattle.abs_cells.specs.Cells.{ids_in, cell_in, cell_at, HasCell, AreEqual, Share}
 use Rattle.abs_cells.specs.Sound.{AreIdsRising, given_ids, ids_of_frame}
-use Rattle.abs_expand.proofs.AbsReachSame.{state_same, pairs_same}
-use Rattle.abs_expand.specs.AbsReachReached.{named_steps, positions, IsReached}
+use Rattle.abs_reach.proofs.Same.{state_same, pairs_same}
+use Rattle.abs_reach.specs.Reached.{named_steps, positions, IsReached}
 use Rattle.abs_expand.specs.AbsHeapGiven.{IsPair, IsGiven}
 use Rattle.abs_expand.specs.TermGraphGraphs.{GraphChild}
 use Rattle.abs_expand.specs.Children.{IsLean}

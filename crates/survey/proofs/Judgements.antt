@@ -26,8 +26,8 @@ use Rattle.input_steps.proofs.OneText.{text_exact}
 use Rattle.input_desc.specs.Constants.{DescribesInputs}
 use Rattle.input_desc.specs.Entries.{entry_of}
 use Rattle.input_desc.specs.declared.desc.Desc.{Desc}
-use Rattle.desc_steps.specs.Givable.{HasObjects, CanBeGiven}
-use Rattle.desc_steps.specs.Headline.{AllEnd}
+use Rattle.prove_call.specs.DescStepsGivable.{HasObjects, CanBeGiven}
+use Rattle.prove_call.specs.DescStepsHeadline.{AllEnd}
 use Rattle.class_calls.specs.describe.Lines.{IsMethodProgram}
 use Rattle.class_calls.specs.describe.Templates.{IsTemplate}
 use Rattle.survey.specs.Assumptions.{Shows}

@@ -13,7 +13,7 @@ use Rattle.input_text.specs.declared.texts.DescText.{DescText}
 use Rattle.input_text.specs.declared.texts.EntryName.{EntryName}
 use Rattle.input_text.specs.declared.texts.WorldLine.{WorldLine}
 use Rattle.input_steps.specs.Classes.{AllSpell}
-use Rattle.desc_steps.specs.Headline.{AllEnd}
+use Rattle.prove_call.specs.DescStepsHeadline.{AllEnd}
 use Rattle.class_calls.specs.describe.Lines.{IsMethodProgram}
 use Rattle.class_calls.specs.describe.Templates.{IsTemplate}
 use Rattle.survey.specs.declared.assuming.Assumed.{Assumed}

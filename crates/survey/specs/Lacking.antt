@@ -17,8 +17,8 @@ use Rattle.class_program.specs.declared.program.CatchRange.{CatchRange}
 use Rattle.class_program.specs.declared.program.Method.{Method}
 use Rattle.class_program.specs.Programs.{Program}
 use Rattle.input_desc.specs.declared.desc.Desc.{Desc}
-use Rattle.desc_steps.specs.Givable.{CanBeGiven}
-use Rattle.desc_steps.specs.Headline.{NameProgram}
+use Rattle.prove_call.specs.DescStepsGivable.{CanBeGiven}
+use Rattle.prove_call.specs.DescStepsHeadline.{NameProgram}
 use Rattle.survey.specs.declared.lacking.Lacks.{Lacks}
 
 -- ---- classes of a type

@@ -11,7 +11,7 @@ ghost use Rattle.input_desc.specs.Constants.{DescribesInputs};
 ghost use Rattle.input_desc.specs.Entries.{entry_of};
 ghost use Rattle.input_text.specs.Answers.{SaysOf};
 ghost use Rattle.input_text.specs.Descriptions.{description_of};
-ghost use Rattle.desc_steps.specs.Givable.{HasObjects, CanBeGiven};
+ghost use Rattle.prove_call.specs.DescStepsGivable.{HasObjects, CanBeGiven};
 ghost use Rattle.survey.specs.Lacking.{HasOne, BaseHasOne, SlotHasOne, ResultHasOne, PassedHaveOnes, CallHasOnes, FieldHasOnes};
 ghost use Rattle.survey.specs.Lacking.{OpHasOnes, CaughtHasOne, MethodHasOnes, AllNamedHaveOnes, IsWarned};
 ghost use Rattle.class_calls.specs.describe.Lines.{IsMethodProgram};

@@ -11,7 +11,7 @@ use Rattle.class_calls.specs.describe.Calls.{ListsMethods, Describes}
 use Rattle.check_call.specs.FillAnswers.{Answers}
 use Rattle.check_call.specs.declared.outcome.Outcome.{Outcome}
 use Rattle.survey.specs.Outside.{FilesSeen, EndsSurvey}
-use Rattle.survey.specs.Words.{are_survey, class_words, desc_words}
+use Rattle.survey.specs.Words.{are_survey, is_strict, class_words, desc_words}
 use Rattle.survey.specs.inner.Keeping.{DescRead, DescsRead}
 use Rattle.survey.proofs.Descs.{none_read, desc_more, descs_all}
 use Rattle.tools_cli.specs.Reading.{behind_first, WereHanded, IsPut, IsWithout, HasNone}
@@ -60,10 +60,9 @@ files_named f text words class behind start mid new name rest is none pushed nam
     ∙ (ap (λ (n : List ℕ). n ∷ rest) named ∙ (ap (λ (r : List (List ℕ)). text class ∷ r) left
     ∙ ap (λ (w : List W). file_words (map text w)) (sym is))))
 
-pub few_names : {A B : Type 0} (f : A → List ℕ) (names : List A) (contents : List B) → length contents ≡ length names
-    → length names ≤ 256
+pub few_names : {A B : Type 0} (names : List A) (contents : List B) → length contents ≡ length names → length names ≤ 256
     → length contents ≤ 256
-few_names f names contents same few = omega (arith, same, few)
+few_names names contents same few = omega (arith, same, few)
 
 -- ---- outputs
 
@@ -79,8 +78,8 @@ lists text words class (method ∷ behind) asked contents out is none lists' = a
 pub templates : {W : Type 0} (text : W → List ℕ) (words : List W) (class : W) (behind : List W) (method : W) (rest : List W)
     (word : List ℕ) (asked : Asked) (contents : List (List ℕ)) (out : List ℕ) → words ≡ class ∷ behind → behind ≡ method ∷ rest
     → word ≡ text method → Describes asked contents word out → IsDescription asked (map text words) contents out
-templates text words class behind method rest word asked contents out is then named describes' =
-    subst (λ (w : List W). IsDescription asked (map text w) contents out) (sym (is ∙ ap (λ (b : List W). class ∷ b) then))
+templates text words class behind method rest word asked contents out is next named describes' =
+    subst (λ (w : List W). IsDescription asked (map text w) contents out) (sym (is ∙ ap (λ (b : List W). class ∷ b) next))
     (subst (λ (w : List ℕ). Describes asked contents w out) named describes')
 
 pub is_output : {F : Type 0} (files : FilesSeen F) (asked : Asked) (words names named contents given : List (List ℕ)) (old new : F)
@@ -117,13 +116,17 @@ is_certified f files command start words names named contents given old new outc
 
 -- ---- which outcome
 
-if_so : {A B : Type 0} (b : Bool) → b ≡ true → A → MatchBool b A B
-if_so true e x = x
-if_so false e x = absurd (let f : false ≡ true = e in cc)
+if_so : (A B : Type 0) (b : Bool) → b ≡ true → A → MatchBool b A B
+if_so A B true e x = x
+if_so A B false e x = absurd (let f : false ≡ true = e in cc)
 
-if_not : {A B : Type 0} (b : Bool) → b ≡ false → B → MatchBool b A B
-if_not true e x = absurd (let f : true ≡ false = e in cc)
-if_not false e x = x
+if_not : (A B : Type 0) (b : Bool) → b ≡ false → B → MatchBool b A B
+if_not A B true e x = absurd (let f : true ≡ false = e in cc)
+if_not A B false e x = x
+
+-- of `bound` and `loop` nothing else is claimed
+abbrev IsOther : List ℕ → Type 0
+IsOther command = (bytes_eq command (codes "bound") ≡ true) ⊎ (bytes_eq command (codes "loop") ≡ true)
 
 pub is_filled : (contents : List (Vec ℕ)) (cert desc : Vec ℕ) (outcome : Outcome) → 2 ≤ length contents
     → cert ≡ get_or contents 0 cert → desc ≡ get_or contents 1 desc
@@ -138,12 +141,14 @@ is_filled (c ∷ d ∷ classes) cert desc outcome many first second answers =
 
 pub fills : (command : List ℕ) (contents : List (List ℕ)) (made : Result Outcome Refused) → bytes_eq command (codes "fill") ≡ true
     → IfOk made (IsFilled contents) → IfOk made (IsOutcomeOf command contents)
-fills command contents (Ok outcome) is filled = if_so (bytes_eq command (codes "fill")) is filled
+fills command contents (Ok outcome) is filled =
+    if_so (IsFilled contents outcome) (IsOther command) (bytes_eq command (codes "fill")) is filled
 fills command contents (Err refused) is filled = tt
 
 pub finds : (command : List ℕ) (contents : List (List ℕ)) (made : Result Outcome Refused) → bytes_eq command (codes "fill") ≡ false
     → (bytes_eq command (codes "bound") ≡ true) ⊎ (bytes_eq command (codes "loop") ≡ true) → IfOk made (IsOutcomeOf command contents)
-finds command contents (Ok outcome) is other = if_not (bytes_eq command (codes "fill")) is other
+finds command contents (Ok outcome) is other =
+    if_not (IsFilled contents outcome) (IsOther command) (bytes_eq command (codes "fill")) is other
 finds command contents (Err refused) is other = tt
 
 -- ---- how a tool ends
@@ -192,36 +197,52 @@ module _ {W F S : Type 0} (text : W → List ℕ) (files : FilesSeen F) (taken :
   said : (word : List ℕ) (answer : Bool) → tool ≡ text first → bytes_eq tool word ≡ answer → bytes_eq (text first) word ≡ answer
   said word answer named is = ap (λ (t : List ℕ). bytes_eq t word) (sym named) ∙ is
 
+  abbrev Describing : Type 0
+  Describing = EndsDescribing files taken faults (map text rest) files_old files_new old new status
+
+  abbrev Certifying : Type 0
+  Certifying = EndsCertifying files taken faults (map text rest) files_old files_new old new status
+
+  abbrev Surveying : Type 0
+  Surveying = EndsSurvey files taken faults (are_survey (map text rest)) (is_strict (map text rest)) (class_words (map text rest))
+      (desc_words (map text rest)) files_old files_new old new status
+
+  abbrev Third : Type 0
+  Third = MatchBool (bytes_eq (text first) (codes "survey")) Surveying (HasNone old new status)
+
+  abbrev Second : Type 0
+  Second = MatchBool (bytes_eq (text first) (codes "certs")) Certifying Third
+
   pub describes : words ≡ first ∷ rest → tool ≡ text first → bytes_eq tool (codes "describe") ≡ true
       → EndsDescribing files taken faults (map text rest) files_old files_new old new status
       → EndsTool files taken faults (map text words) files_old files_new old new status
   describes is named one ends = behind is
-      (if_so (bytes_eq (text first) (codes "describe")) (said (codes "describe") true named one) ends)
+      (if_so Describing Second (bytes_eq (text first) (codes "describe")) (said (codes "describe") true named one) ends)
 
   pub certifies : words ≡ first ∷ rest → tool ≡ text first → bytes_eq tool (codes "describe") ≡ false
       → bytes_eq tool (codes "certs") ≡ true → EndsCertifying files taken faults (map text rest) files_old files_new old new status
       → EndsTool files taken faults (map text words) files_old files_new old new status
   certifies is named one two ends = behind is
-      (if_not (bytes_eq (text first) (codes "describe")) (said (codes "describe") false named one)
-      (if_so (bytes_eq (text first) (codes "certs")) (said (codes "certs") true named two) ends))
+      (if_not Describing Second (bytes_eq (text first) (codes "describe")) (said (codes "describe") false named one)
+      (if_so Certifying Third (bytes_eq (text first) (codes "certs")) (said (codes "certs") true named two) ends))
 
   pub surveys : words ≡ first ∷ rest → tool ≡ text first → bytes_eq tool (codes "describe") ≡ false
       → bytes_eq tool (codes "certs") ≡ false → bytes_eq tool (codes "survey") ≡ true
-      → EndsSurvey files taken faults (are_survey (map text rest)) (class_words (map text rest)) (desc_words (map text rest)) files_old
-      files_new old new status
+      → EndsSurvey files taken faults (are_survey (map text rest)) (is_strict (map text rest)) (class_words (map text rest))
+      (desc_words (map text rest)) files_old files_new old new status
       → EndsTool files taken faults (map text words) files_old files_new old new status
   surveys is named one two three ends = behind is
-      (if_not (bytes_eq (text first) (codes "describe")) (said (codes "describe") false named one)
-      (if_not (bytes_eq (text first) (codes "certs")) (said (codes "certs") false named two)
-      (if_so (bytes_eq (text first) (codes "survey")) (said (codes "survey") true named three) ends)))
+      (if_not Describing Second (bytes_eq (text first) (codes "describe")) (said (codes "describe") false named one)
+      (if_not Certifying Third (bytes_eq (text first) (codes "certs")) (said (codes "certs") false named two)
+      (if_so Surveying (HasNone old new status) (bytes_eq (text first) (codes "survey")) (said (codes "survey") true named three) ends)))
 
   pub no_tool : words ≡ first ∷ rest → tool ≡ text first → bytes_eq tool (codes "describe") ≡ false
       → bytes_eq tool (codes "certs") ≡ false → bytes_eq tool (codes "survey") ≡ false → HasNone old new status
       → EndsTool files taken faults (map text words) files_old files_new old new status
   no_tool is named one two three none = behind is
-      (if_not (bytes_eq (text first) (codes "describe")) (said (codes "describe") false named one)
-      (if_not (bytes_eq (text first) (codes "certs")) (said (codes "certs") false named two)
-      (if_not (bytes_eq (text first) (codes "survey")) (said (codes "survey") false named three) none)))
+      (if_not Describing Second (bytes_eq (text first) (codes "describe")) (said (codes "describe") false named one)
+      (if_not Certifying Third (bytes_eq (text first) (codes "certs")) (said (codes "certs") false named two)
+      (if_not Surveying (HasNone old new status) (bytes_eq (text first) (codes "survey")) (said (codes "survey") false named three) none)))
 
 pub none_said : {S : Type 0} (x : S) (status : ℕ) → status ≡ 4 → HasNone x x status
 none_said x status is = record { same = refl; known = inr (inl is) }

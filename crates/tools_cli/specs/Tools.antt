@@ -2,7 +2,7 @@
 use Rattle.std.specs.Prelude.{◌≡◌, ◌⊎◌, ℕ, List, [], ◌∷◌, Option, MatchBool, codes}
 use Rattle.std.specs.Str.{bytes_eq}
 use Rattle.survey.specs.Outside.{FilesSeen, EndsSurvey}
-use Rattle.survey.specs.Words.{are_survey, class_words, desc_words}
+use Rattle.survey.specs.Words.{are_survey, is_strict, class_words, desc_words}
 use Rattle.tools_cli.specs.Describing.{EndsDescribing}
 use Rattle.tools_cli.specs.Certifying.{EndsCertifying}
 use Rattle.tools_cli.specs.Reading.{HasNone}
@@ -14,5 +14,6 @@ EndsTool files taken faults (tool ∷ words) files_old files_new old new status 
     MatchBool (bytes_eq tool (codes "describe")) (EndsDescribing files taken faults words files_old files_new old new status)
     (MatchBool (bytes_eq tool (codes "certs")) (EndsCertifying files taken faults words files_old files_new old new status)
     (MatchBool (bytes_eq tool (codes "survey"))
-    (EndsSurvey files taken faults (are_survey words) (class_words words) (desc_words words) files_old files_new old new status)
+    (EndsSurvey files taken faults (are_survey words) (is_strict words) (class_words words) (desc_words words) files_old files_new old new
+    status)
     (HasNone old new status)))

@@ -6,7 +6,7 @@ use Rattle.input_text.specs.Answers.{SaysOf}
 use Rattle.input_text.specs.Descriptions.{description_of}
 use Rattle.input_text.specs.declared.texts.DescText.{DescText}
 use Rattle.input_text.specs.declared.texts.WorldLine.{WorldLine}
-use Rattle.desc_steps.specs.Headline.{AllEnd}
+use Rattle.prove_call.specs.DescStepsHeadline.{AllEnd}
 use Rattle.survey.specs.Claims.{Surveyed, IsTextOf, IsTrueLine}
 use Rattle.survey.specs.Lacking.{IsWarned}
 use Rattle.survey.specs.Lines.{printed, is_unproved, text_of}

@@ -1,7 +1,7 @@
 use Rattle.std.proofs.Common.{drop}
 use Rattle.std.specs.List.{AllByRecursion}
 use Rattle.class_world.specs.Worlds.{classes_of}
-use Rattle.desc_steps.specs.Givable.{CanBeGiven}
+use Rattle.prove_call.specs.DescStepsGivable.{CanBeGiven}
 use Rattle.survey.proofs.lacking.all_can_be_given.Given as goal
 
 -- it holds of those so far
