@@ -124,7 +124,7 @@ is_found opcodes code (Err e) fits short given = tt
 
 spelled_again : (opcodes : Opcodes) (pc : ℕ) (xs : Insns) (bytes : List ℕ) → Spells pc xs bytes → AreOf opcodes xs
     → insns_from opcodes 0 pc bytes ≡ Ok xs
-unfolding insns_from
+unfolding insns_from read_at
 spelled_again opcodes pc [] bytes h taken = subst (λ (b : List ℕ). insns_from opcodes 0 pc b ≡ Ok []) (sym h) refl
 spelled_again opcodes pc (x ∷ xs) bytes h taken =
     let padding = h.0 in

@@ -22,6 +22,7 @@ Insns = List (ℕ × Insn)
 -- what is read is of an opcode that is
 pub read_parts : (opcodes : Opcodes) (pc op : ℕ) (bytes : List ℕ) (x : Insn × List ℕ) → read_at opcodes pc op bytes ≡ Ok x
     → (is_read opcodes op ≡ true) × (insn_at pc op bytes ≡ Ok x)
+unfolding read_at
 read_parts opcodes pc op bytes x = go (is_read opcodes op)
   where
     go : (b : Bool) → cond b (insn_at pc op bytes) (Err (UnsupportedOpcode pc op)) ≡ Ok x → (b ≡ true) × (insn_at pc op bytes ≡ Ok x)

@@ -63,7 +63,7 @@ AreOf opcodes insns = AllByRecursion (λ x. IsTrue (is_read opcodes (first_byte 
 -- ---- reading a whole code, with the first fault
 
 -- the instruction at a place, whose opcode is given, and the bytes after it; an opcode that isn't read is unsupported
-abbrev pub read_at : Opcodes → ℕ → ℕ → List ℕ → Result (Insn × List ℕ) CodeFault
+unfoldable pub read_at : Opcodes → ℕ → ℕ → List ℕ → Result (Insn × List ℕ) CodeFault
 read_at opcodes pc op bytes = if is_read opcodes op then insn_at pc op bytes else Err (UnsupportedOpcode pc op)
 
 -- the instructions of a code from a place on, where the given number of bytes is passed over first

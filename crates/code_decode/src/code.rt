@@ -13,6 +13,7 @@ use code_forms::{Case, CodeFault, Insn, Opcodes, Starts};
 use std::alloc::Global;
 
 /// The instruction at `pc` whose opcode is `op`, where that is read, and the bytes after it. `bytes` begin behind the opcode.
+#[tactic(auto, unfolding(crate::specs::Codes::read_at))]
 fn read_at(
     alloc: Global,
     opcodes: Opcodes,
