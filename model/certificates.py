@@ -4,6 +4,7 @@ Reads again: crates/term_graph/specs/Graphs, crates/descent/specs/Steps, crates/
 crates/graph_check/specs/Good, crates/cert_check/specs/Valid.
 Certificates that can't be read are not understood here.
 """
+import facts
 import proof as proof_check
 from paths import *
 
@@ -67,8 +68,8 @@ def fill(program, typing, nodes):
     return [(states[i], nodes[i][1]) for i in range(n)]
 
 
-def check_cert(program, typing, root, nodes, cuts, proof, extra=None):
-    """ACCEPTED, or the first item that fails and why."""
+def check_cert(program, typing, root, nodes, cuts, proof, listed=None):
+    """ACCEPTED, or the first item that fails and why. In form 3 `listed` has the facts, and the ways in which they are shown."""
     world = program.world
     n = len(nodes)
     rk = written(world, root)
@@ -116,8 +117,16 @@ def check_cert(program, typing, root, nodes, cuts, proof, extra=None):
         return 'REFUSED item %d: Uncut node=%d' % (3 + n, e.args[0])
     except TooManyPaths:
         return 'REFUSED item %d: TooManyPaths' % (3 + n)
+    first = 4 + n
+    if listed is not None:
+        ints = {c: {i: x[1:3] for i, x in nodes[c][0].cells.items() if x[0] == 'int'} for c in cuts}
+        g = facts.fault(ints, listed[0], rules, listed[1])
+        if g is not None:
+            return 'REFUSED item %d: %s' % (first, g)
+        rules = facts.with_facts(rules, listed[0])
+        first += 1
     g = proof_check.check(rules, proof)
     if g == 'OK':
         return 'ACCEPTED'
     c, st = g.rsplit(' step=', 1)
-    return 'REFUSED item %d: %s' % (4 + n + int(st), c)
+    return 'REFUSED item %d: %s' % (first + int(st), c)

@@ -1,0 +1,10 @@
+pub mod Terms
+pub mod Writing
+pub mod Chained
+pub mod Fitting
+pub mod Sums
+pub mod Leaving
+pub mod Extremes
+pub mod Telling
+pub mod Keeping
+pub mod Roots
