@@ -6,6 +6,7 @@ pub mod Cells
 pub mod States
 pub mod Ways
 pub mod Steps
+pub mod FactLists
 pub mod Certificates
 pub mod Marks
 pub mod Faults

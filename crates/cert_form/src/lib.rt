@@ -5,6 +5,7 @@ mod cells;
 pub mod cert_limits;
 pub mod cert_write;
 mod certs;
+mod fact_lists;
 mod fault;
 mod fault_text;
 mod limits;

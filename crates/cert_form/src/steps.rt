@@ -72,7 +72,7 @@ fn multipliers(alloc: Global, view: &View<'_, '_>) -> Result<Seq<(u32, i64)>, Ce
 
 /// Entry `n` of a list as a list of multipliers.
 #[tactic(auto, unfolding(crate::specs::Fields::nth))]
-fn nth_multipliers(
+pub(crate) fn nth_multipliers(
     alloc: Global,
     view: &View<'_, '_>,
     n: usize,
@@ -201,7 +201,11 @@ impl Said<()> for (u16, i64) {
 
 /// Entry `n` of a list as a list of multiples.
 #[tactic(auto, unfolding(crate::specs::Steps::multiples_of, crate::specs::Fields::nth))]
-fn nth_multiples(alloc: Global, view: &View<'_, '_>, n: usize) -> Result<Seq<(u16, i64)>, CertFault>
+pub(crate) fn nth_multiples(
+    alloc: Global,
+    view: &View<'_, '_>,
+    n: usize,
+) -> Result<Seq<(u16, i64)>, CertFault>
     requires { n < item_count (located view.now).value }
     ensures { Says result (nth n multiples_of (located view.now)) }
 {
