@@ -18,3 +18,4 @@ pub mod Sizes
 pub mod Terms
 pub mod Told
 pub mod Walking
+pub mod ReadBack

@@ -4,5 +4,6 @@ pub mod Bounds
 pub mod Laws
 pub mod Answers
 pub mod Lines
+pub mod Said
 pub mod ValidParts
 pub mod inner

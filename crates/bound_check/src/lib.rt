@@ -2,7 +2,8 @@
 //! lines.
 //!
 //! The definitions: `specs/Parts`, `specs/Entries` (the first fault of entries), `specs/Bounds` (the bound and its value), `specs/Laws`
-//! (what a check is to answer, and what a bound promises), `specs/Answers` (the same for bytes), `specs/Lines`.
+//! (what a check is to answer, and what a bound promises), `specs/Answers` (the same for bytes), `specs/Lines`, `specs/Said` (what the
+//! lines say).
 #![tactic(auto)]
 
 mod bound;
@@ -24,7 +25,7 @@ pub use causes::cause_text;
 pub use certified::{checked_bound, valid_parts};
 pub use checking::check_bound;
 pub use fault::BoundFault;
-pub use laws::bounds_hold;
+pub use laws::{bounds_hold, lines_are_read_back};
 pub use lines::bound_lines;
 pub use parts::given_sets;
 pub use refusal::BoundRefusal;

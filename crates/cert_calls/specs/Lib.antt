@@ -1,3 +1,4 @@
+pub mod CertCases
 pub mod throws_call
 pub mod loop_call
 pub mod bound_call

@@ -26,5 +26,6 @@ pub mod GoodCalls
 pub mod GoodStatics
 pub mod GoodOps
 pub mod GoodPrograms
+pub mod FewParams
 pub mod GoodInstructions
 pub mod InWidth

@@ -15,6 +15,7 @@ pub mod HiddenFields
 pub mod Seeking
 pub mod Counting
 pub mod ShortCodes
+pub mod Descriptors
 pub mod Below
 pub mod Prefixes
 pub mod Found

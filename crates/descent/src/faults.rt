@@ -52,7 +52,7 @@ pub enum StepFault {
     /// The step breaks a rule.
     At {
         /// The step.
-        step: u32,
+        step: u64,
         /// The rule that it breaks first.
         fault: DescentFault,
     },

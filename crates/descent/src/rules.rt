@@ -6,11 +6,11 @@ use list_views::Seq;
 #[derive(Clone, Copy, PartialEq, Eq)]
 pub struct Place {
     /// The frame, the bottom one being 0.
-    pub frame: u32,
+    pub frame: usize,
     /// Whether it is a stack entry; else it is a local.
     pub stack: bool,
     /// The number of the stack entry, from the bottom, or of the local.
-    pub index: u32,
+    pub index: usize,
 }
 
 /// The int or the size that an id has at an end of a rule, as a sum over the rule's variables.

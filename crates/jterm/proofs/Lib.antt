@@ -12,6 +12,7 @@ pub mod Checking
 pub mod Answering
 pub mod OneAnswer
 pub mod Deciding
+pub mod Handing
 pub mod Headlines
 pub mod Making
 pub mod Migrating

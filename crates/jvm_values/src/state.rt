@@ -22,7 +22,7 @@ pub enum Mode {
     /// The top frame's instruction runs next.
     Normal,
     /// The object of this number is thrown and not yet caught.
-    Throwing(u32),
+    Throwing(usize),
 }
 
 /// A state of the machine.

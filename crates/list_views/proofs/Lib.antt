@@ -10,3 +10,4 @@ pub mod Steps
 pub mod Truths
 pub mod Zipped
 pub mod SameBytes
+pub mod ReadBack

@@ -89,7 +89,8 @@ fn sum_in(
     ensures found { IfOk result (λ found. IfSome found (λ form. LowersBy IsMoved rules.now form)) }
     ensures none { IfOk result (λ found. found ≡ None → NoInts rules.now) }
 {
-    match sum_of_two(table, places.len())? {
+    let found = sum_of_two(table, places.len());
+    match found {
         Some(form) => Ok(Some(two_terms(alloc, rules, places, table, &form)?)),
         None => Ok(None),
     }
@@ -107,7 +108,8 @@ fn ints_in(
     ensures found { IfOk result (λ found. IfSome found (λ form. LowersBy IsMoved rules.now form)) }
     ensures none { IfOk result (λ found. found ≡ None → NoInts rules.now) }
 {
-    match one_int(table, places.len())? {
+    let found = one_int(table, places.len());
+    match found {
         Some(form) => Ok(Some(one_term(alloc, rules, places, table, &form)?)),
         None => sum_in(alloc, rules, places, table),
     }
@@ -134,7 +136,8 @@ fn size_in(
     ensures found { IfOk result (λ found. IfSome found (λ place. RanksSize rules.now place)) }
     ensures none { IfOk result (λ found. found ≡ None → NoSize rules.now) }
 {
-    match first_falling(table, table, places.len())? {
+    let found = first_falling(table, table, places.len());
+    match found {
         Some(one) => Ok(Some(place_at(places, one))),
         None => Ok(None),
     }
@@ -165,7 +168,8 @@ fn steps_in(
     ensures found { IfOk result (λ found. IfSome found (λ place. StepwiseRanks rules.now negative place)) }
     ensures none { IfOk result (λ found. found ≡ None → NoSteps rules.now negative) }
 {
-    match first_falling(weak, strict, places.len())? {
+    let found = first_falling(weak, strict, places.len());
+    match found {
         Some(one) => Ok(Some(place_at(places, one))),
         None => Ok(None),
     }

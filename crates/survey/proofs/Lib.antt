@@ -1,7 +1,13 @@
 pub mod Asking
+pub mod Descs
 pub mod Ending
+pub mod Fating
 pub mod Judgements
-pub mod Kept
-pub mod Telling
+pub mod Lackings
+pub mod Leavings
+pub mod Naming
+pub mod Readings
+pub mod Tails
 pub mod Truths
 pub mod Walks
+pub mod Went

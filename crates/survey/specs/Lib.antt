@@ -1,5 +1,7 @@
-pub mod Claims
 pub mod Lines
-pub mod Outside
+pub mod Lacking
+pub mod Claims
+pub mod Fates
 pub mod Words
+pub mod Outside
 pub mod inner

@@ -1,5 +1,6 @@
 //! Why a survey ends before its end.
-ghost use Rattle.std.specs.Prelude.{◌≢◌};
+ghost use Rattle.std.specs.Prelude.{◌≡◌};
+ghost use Rattle.survey.specs.inner.Putting.{stop_status};
 
 use io_ports::FileFault;
 use std::alloc::{AllocError, AllocFailed};
@@ -30,7 +31,7 @@ impl<T: Drop> From<AllocFailed<T>> for Stop {
 impl Stop {
     /// The status that a survey ends with.
     pub(crate) fn status(self) -> u8
-        ensures { result ≢ 0 }
+        ensures { result ≡ stop_status self }
     {
         match self {
             Stop::Unread(_, _) => 5,

@@ -1,17 +1,29 @@
 //! The files that the words name.
-ghost use Rattle.std.specs.Prelude.{◌≡◌, ◌≤◌, ◌<◌, ◌∷◌, ◌++◌, [], length, map, slice_index_or, string_bytes, IfOk, OnOk, OnErr};
-ghost use Rattle.io_ports.specs.Told.{IsContent};
-ghost use Rattle.survey.specs.Claims.{Surveyed};
-ghost use Rattle.survey.specs.Outside.{AreSome, Tells, BeginsToTell};
-ghost use Rattle.survey.specs.inner.Wording.{IsRead, GrowsRead};
+ghost use Rattle.std.specs.Prelude.{◌≡◌, ◌≤◌, ◌<◌, ◌++◌, ◌∷◌, [], length, map, slice_index_or, string_bytes};
+ghost use Rattle.std.specs.Prelude.{IfOk, IfErr, IfSome, IfNone, OnOk};
+ghost use Rattle.std.specs.List.{AllByRecursion};
+ghost use Rattle.list_views.specs.Shown.{shown};
+ghost use Rattle.class_base.specs.Limits.{most_classes};
+ghost use Rattle.class_read.specs.Content.{ClassContent};
+ghost use Rattle.class_read.specs.Rules.{Spells};
+ghost use Rattle.input_steps.specs.Classes.{AllSpell};
+ghost use Rattle.survey.specs.Fates.{SpellsClass};
+ghost use Rattle.survey.specs.inner.Wording.{other_line};
+ghost use Rattle.survey.specs.inner.Keeping.{contents_of, names_of, HaveRead, HasRead, IsReadAs, IsTested, IsSettled};
+ghost use Rattle.survey.specs.inner.Keeping.{DescRead, DescsRead, StoppedReading, StoppedReadingAt};
+ghost use Rattle.survey.specs.inner.Putting.{IsOther, Went, Cut};
+ghost use Rattle.survey.specs.declared.failure.Stop.TheVariants.{Memory};
+ghost use Rattle.survey.specs.declared.lines.Head.TheVariants.{Refused};
 
 use crate::failure::Stop;
 use crate::lines::Head;
 use crate::putting::put_other;
 use class_base::MOST_FILE_BYTES;
 use class_read::{ClassFault, ClassView};
+use input_steps::{Refused, read_classes};
 use io_ports::{FileFault, Files, Sink};
 use list_views::Seq;
+use list_views::shown::shown;
 use std::alloc::{AllocError, Global};
 
 /// What a read gives.
@@ -19,69 +31,92 @@ use std::alloc::{AllocError, Global};
 pub(crate) enum Read {
     /// The content of a class file that spells a class.
     Content(Vec<u8>),
-    /// Why there is none, in words.
-    Broken(Seq<u8>),
+    /// The content spells no class, for this fault.
+    NoClass(Vec<u8>, Seq<u8>),
+    /// There is none, for this cause.
+    Broken(FileFault),
 }
 
 /// The class files that are surveyed.
 #[derive(Drop)]
-pub(crate) struct Kept {
+pub(crate) struct Kept<'w> {
     /// Their contents.
     pub(crate) files: Vec<Vec<u8>>,
-    /// The places of the words that name them.
-    pub(crate) places: Vec<usize>,
-    /// How many were refused.
-    pub(crate) refused: usize,
-    /// How many were left out.
-    pub(crate) left_out: usize,
+    /// The words that name them.
+    pub(crate) names: Vec<&'w str>,
 }
 
-/// A file's name, and words behind it.
+/// A file's name as lines show it, and words behind it.
 pub(crate) fn named(
     alloc: Global,
     name: &[u8],
     place: &[u8],
     words: &[u8],
-) -> Result<Seq<u8>, AllocError> {
-    let mut line = Seq::from_slice(alloc, name)?;
+) -> Result<Seq<u8>, AllocError>
+    ensures { IfOk result (λ line. line ≡ (shown name.now ++ place.now) ++ words.now) }
+{
+    let mut line = shown(alloc, name)?;
     line.extend_from_slice(place)?;
     line.extend_from_slice(words)?;
     Ok(line)
 }
 
 /// Why a content spells no class, in words; None where it spells one.
-fn class_fault(alloc: Global, content: &[u8]) -> Result<Option<Seq<u8>>, AllocError> {
+#[tactic(auto, using(crate::proofs::Readings::no_class, crate::proofs::Readings::a_class))]
+fn class_fault(alloc: Global, content: &[u8]) -> Result<Option<Seq<u8>>, AllocError>
+    ensures class { IfOk result (λ found. IfNone found (SpellsClass content.now)) }
+    ensures none { IfOk result (λ found. IfSome found (λ words. (class : ClassContent) → Spells content.now class → ⊥)) }
+{
     match ClassView::read(alloc, content) {
-        Ok(_) => Ok(None),
+        Ok(_class) => Ok(None),
         Err(ClassFault::Memory) => Err(AllocError),
         Err(fault) => Ok(Some(fault.text(alloc)?)),
     }
 }
 
-/// What becomes of a content: it is kept where it spells a class.
-fn tested(alloc: Global, name: &str, content: Vec<u8>) -> Result<Read, AllocError>
-    ensures { IfOk result (IsRead (λ bytes. bytes ≡ content.items)) }
+/// The classes that files spell, each of which spells one.
+#[tactic(auto, using(crate::proofs::Readings::spelled_none))]
+pub(crate) fn spelled_classes<'a>(
+    alloc: Global,
+    files: &'a [Vec<u8>],
+) -> Result<Vec<ClassView<'a>>, AllocError>
+    requires few { length files.now ≤ most_classes }
+    requires spelled { AllByRecursion SpellsClass (map (λ file. file.items) files.now) }
+    ensures { IfOk result (λ classes. AllSpell (map (λ file. file.items) files.now) classes.items) }
+{
+    match read_classes(alloc, files) {
+        Ok(classes) => Ok(classes),
+        Err(Refused::At { .. }) => unreachable!(),
+        Err(Refused::Memory) => Err(AllocError),
+    }
+}
+
+/// What a content is: that of a class or of none.
+fn tested(alloc: Global, content: Vec<u8>) -> Result<Read, AllocError>
+    ensures { IfOk result (IsTested content.items) }
 {
     match class_fault(alloc, content.as_slice())? {
         None => Ok(Read::Content(content)),
-        Some(words) => Ok(Read::Broken(named(
-            alloc,
-            name.as_bytes(),
-            b" class: ",
-            words.as_slice(),
-        )?)),
+        Some(words) => Ok(Read::NoClass(content, words)),
     }
 }
 
 /// What is read under a name that is a class file's.
+#[tactic(auto, using(crate::proofs::Readings::read_as, crate::proofs::Readings::unread_as))]
 fn read_class<F: Files>(alloc: Global, name: &str, files: &mut F) -> Result<Read, Stop>
-    ensures content { IfOk result (IsRead (IsContent (F.held files.old name.now))) }
+    ensures read { IfOk result (IsReadAs (record { held = F.held; handed = F.handed; faults = F.faults }) name.now files.old
+        files.new) }
+    ensures stopped { IfErr result (λ stop. stop ≡ Memory) }
     ensures held { F.held files.new ≡ F.held files.old }
+    ensures counts { F.faults files.old ≤ F.faults files.new }
 {
     match files.read(alloc, name, MOST_FILE_BYTES) {
-        Ok(content) => Ok(tested(alloc, name, content)?),
+        Ok(content) => match tested(alloc, content) {
+            Ok(read) => Ok(read),
+            Err(AllocError) => Err(Stop::Memory),
+        },
         Err(FileFault::Memory) => Err(Stop::Memory),
-        Err(fault) => Ok(Read::Broken(named(alloc, name.as_bytes(), b" read: ", fault.name())?)),
+        Err(fault) => Ok(Read::Broken(fault)),
     }
 }
 
@@ -93,47 +128,89 @@ fn push_content(contents: &mut Vec<Vec<u8>>, content: Vec<u8>) -> Result<(), All
     Ok(())
 }
 
-/// Keeps a class file, which the word at a place names.
-fn keep(kept: &mut Kept, place: usize, content: Vec<u8>) -> Result<(), AllocError>
-    ensures { OnOk result (kept.new.files.items ≡ kept.old.files.items ++ content ∷ []) }
+/// Keeps a class file, which a word names.
+#[tactic(auto, using(crate::proofs::Readings::grown))]
+fn keep<'w>(kept: &mut Kept<'w>, name: &'w str, content: Vec<u8>) -> Result<(), AllocError>
+    ensures files { OnOk result (contents_of kept.new ≡ contents_of kept.old ++ content.items ∷ []) }
+    ensures names { OnOk result (names_of kept.new ≡ names_of kept.old ++ name.now ∷ []) }
 {
-    kept.places.push(place)?;
+    kept.names.push(name)?;
     kept.files.push(content)?;
     Ok(())
 }
 
-/// Puts the line of a file that isn't kept.
-#[tactic(auto)]
-fn refuse<O: Sink>(alloc: Global, line: &[u8], kept: &mut Kept, out: &mut O) -> Result<(), Stop>
-    ensures told { OnOk result ((s : Surveyed) → Tells O.taken s out.old out.new) }
-    ensures begun { OnErr result ((s : Surveyed) → BeginsToTell O.taken s out.old out.new) }
-    ensures same { kept.new.files.items ≡ kept.old.files.items }
+/// What stands behind the head of a line for a file that isn't kept.
+fn broken_line(alloc: Global, name: &str, place: &[u8], words: &[u8]) -> Result<Seq<u8>, AllocError>
+    ensures { IfOk result (λ line. line ≡ (shown name.now ++ place.now) ++ words.now) }
 {
-    kept.refused = kept.refused.saturating_add(1);
-    put_other(alloc, out, Head::Refused, line)
+    named(alloc, name.as_bytes(), place, words)
 }
 
-/// Reads the class file of a word at a place: it is kept, or a line is put for it.
-#[tactic(auto, using(crate::proofs::Telling::nothing_told, crate::proofs::Telling::nothing_begun, crate::proofs::Kept::grows_by, crate::proofs::Kept::grows_not))]
-fn read_file<F: Files, O: Sink>(
+/// Puts the line of a file that isn't kept.
+#[tactic(auto, using(crate::proofs::Went::no_memory))]
+fn refuse<O: Sink>(
     alloc: Global,
     name: &str,
-    place: usize,
-    files: &mut F,
-    kept: &mut Kept,
+    place: &[u8],
+    words: &[u8],
     out: &mut O,
 ) -> Result<(), Stop>
-    ensures told { OnOk result ((s : Surveyed) → Tells O.taken s out.old out.new) }
-    ensures begun { OnErr result ((s : Surveyed) → BeginsToTell O.taken s out.old out.new) }
-    ensures grows { OnOk result (GrowsRead (F.held files.old name.now) kept.old.files.items kept.new.files.items) }
-    ensures held { F.held files.new ≡ F.held files.old }
+    ensures told { OnOk result (Went O.taken O.faults IsOther
+        (λ lines. lines ≡ other_line Refused ((shown name.now ++ place.now) ++ words.now) ∷ []) out.old out.new) }
+    ensures begun { IfErr result (Cut O.taken O.faults IsOther out.old out.new) }
 {
-    match read_class(alloc, name, files) {
-        Ok(Read::Content(content)) => match keep(kept, place, content) {
+    match broken_line(alloc, name, place, words) {
+        Ok(line) => put_other(alloc, out, Head::Refused, line.as_slice()),
+        Err(AllocError) => Err(Stop::Memory),
+    }
+}
+
+/// Keeps a class file, or puts a line for one that isn't kept.
+#[tactic(auto, using(crate::proofs::Readings::kept_as, crate::proofs::Readings::refused_as, crate::proofs::Readings::unread_said, crate::proofs::Went::no_memory))]
+fn settle<'w, O: Sink>(
+    alloc: Global,
+    name: &'w str,
+    read: Read,
+    kept: &mut Kept<'w>,
+    out: &mut O,
+) -> Result<(), Stop>
+    ensures told { OnOk result (Went O.taken O.faults IsOther (IsSettled name.now read kept.old kept.new) out.old out.new) }
+    ensures begun { IfErr result (Cut O.taken O.faults IsOther out.old out.new) }
+{
+    match read {
+        Read::Content(content) => match keep(kept, name, content) {
             Ok(()) => Ok(()),
             Err(AllocError) => Err(Stop::Memory),
         },
-        Ok(Read::Broken(line)) => match refuse(alloc, line.as_slice(), kept, out) {
+        Read::NoClass(_, words) => match refuse(alloc, name, b" class: ", words.as_slice(), out) {
+            Ok(()) => Ok(()),
+            Err(stop) => Err(stop),
+        },
+        Read::Broken(fault) => match refuse(alloc, name, b" read: ", fault.name(), out) {
+            Ok(()) => Ok(()),
+            Err(stop) => Err(stop),
+        },
+    }
+}
+
+/// Reads the class file of a word: it is kept, or a line is put for it.
+#[tactic(auto, using(crate::proofs::Readings::settled_read, crate::proofs::Went::no_memory_at))]
+fn read_file<'w, F: Files, O: Sink>(
+    alloc: Global,
+    name: &'w str,
+    files: &mut F,
+    kept: &mut Kept<'w>,
+    out: &mut O,
+) -> Result<(), Stop>
+    ensures told { OnOk result (Went O.taken O.faults IsOther
+        (HasRead (record { held = F.held; handed = F.handed; faults = F.faults }) name.now kept.old kept.new files.old files.new)
+        out.old out.new) }
+    ensures begun { IfErr result (Cut O.taken O.faults IsOther out.old out.new) }
+    ensures held { F.held files.new ≡ F.held files.old }
+    ensures counts { F.faults files.old ≤ F.faults files.new }
+{
+    match read_class(alloc, name, files) {
+        Ok(read) => match settle(alloc, name, read, kept, out) {
             Ok(()) => Ok(()),
             Err(stop) => Err(stop),
         },
@@ -142,28 +219,28 @@ fn read_file<F: Files, O: Sink>(
 }
 
 /// The class files that words name, and that spell classes. A line is put for each other one.
-#[tactic(auto, using(crate::proofs::Telling::nothing_told, crate::proofs::Telling::told_all, crate::proofs::Telling::begun_all, crate::proofs::Kept::some_grown, crate::proofs::Kept::grown_few, crate::proofs::Kept::some_all))]
-pub(crate) fn read_files<F: Files, O: Sink>(
+#[tactic(auto, using(crate::proofs::Readings::none_read, crate::proofs::Readings::read_more, crate::proofs::Readings::all_read, crate::proofs::Readings::few_read, crate::proofs::Readings::spelled_read, crate::proofs::Went::cut_on))]
+pub(crate) fn read_files<'w, F: Files, O: Sink>(
     alloc: Global,
-    words: &[String],
+    words: &'w [String],
     files: &mut F,
     out: &mut O,
-) -> Result<Kept, Stop>
-    ensures told { IfOk result (λ kept. (s : Surveyed) → Tells O.taken s out.old out.new) }
-    ensures begun { OnErr result ((s : Surveyed) → BeginsToTell O.taken s out.old out.new) }
-    ensures some { IfOk result (λ kept. AreSome (F.held files.old) (map string_bytes words.now)
-        (map (λ file. file.items) kept.files.items)) }
-    ensures held { IfOk result (λ kept. F.held files.new ≡ F.held files.old) }
+) -> Result<Kept<'w>, Stop>
+    ensures told { IfOk result (λ kept. Went O.taken O.faults IsOther
+        (HaveRead (record { held = F.held; handed = F.handed; faults = F.faults }) (map string_bytes words.now) kept files.old files.new)
+        out.old out.new) }
+    ensures begun { IfErr result (Cut O.taken O.faults IsOther out.old out.new) }
+    ensures held { F.held files.new ≡ F.held files.old }
+    ensures counts { F.faults files.old ≤ F.faults files.new }
     ensures few { IfOk result (λ kept. length kept.files.items ≤ length words.now) }
+    ensures spelled { IfOk result (λ kept. AllByRecursion SpellsClass (contents_of kept)) }
 {
     let mut kept = Kept {
         files: Vec::new(alloc),
-        places: Vec::new(alloc),
-        refused: 0,
-        left_out: 0,
+        names: Vec::new(alloc),
     };
-    for (place, word) in words.iter().enumerate() {
-        match read_file(alloc, word.as_str(), place, files, &mut kept, out) {
+    for word in words {
+        match read_file(alloc, word.as_str(), files, &mut kept, out) {
             Ok(()) => {}
             Err(stop) => return Err(stop),
         }
@@ -172,7 +249,6 @@ pub(crate) fn read_files<F: Files, O: Sink>(
 }
 
 /// Reads the description of a word at a place.
-#[tactic(auto, using(crate::proofs::Kept::grows_by))]
 fn read_desc<F: Files>(
     alloc: Global,
     name: &str,
@@ -180,8 +256,12 @@ fn read_desc<F: Files>(
     files: &mut F,
     descs: &mut Vec<Vec<u8>>,
 ) -> Result<(), Stop>
-    ensures grows { OnOk result (GrowsRead (F.held files.old name.now) descs.old.items descs.new.items) }
+    ensures read { OnOk result (DescRead (record { held = F.held; handed = F.handed; faults = F.faults }) name.now descs.old.items
+        descs.new.items files.old files.new) }
+    ensures stopped { IfErr result (StoppedReadingAt (record { held = F.held; handed = F.handed; faults = F.faults }) name.now place
+        files.old files.new) }
     ensures held { F.held files.new ≡ F.held files.old }
+    ensures counts { F.faults files.old ≤ F.faults files.new }
 {
     match files.read(alloc, name, MOST_FILE_BYTES) {
         Ok(content) => match push_content(descs, content) {
@@ -194,7 +274,7 @@ fn read_desc<F: Files>(
 }
 
 /// The word at a place.
-fn word_at<'a>(words: &[&'a str], place: usize) -> &'a str
+pub(crate) fn word_at<'a>(words: &[&'a str], place: usize) -> &'a str
     requires { place < length words.now }
     ensures { result ≡ slice_index_or words.now place result }
 {
@@ -202,15 +282,19 @@ fn word_at<'a>(words: &[&'a str], place: usize) -> &'a str
 }
 
 /// The descriptions that words name.
-#[tactic(auto, using(crate::proofs::Kept::some_grown, crate::proofs::Kept::some_all))]
+#[tactic(auto, using(crate::proofs::Descs::desc_more, crate::proofs::Descs::descs_all, crate::proofs::Descs::stopped_at))]
 pub(crate) fn read_descs<F: Files>(
     alloc: Global,
     words: &[&str],
     files: &mut F,
 ) -> Result<Vec<Vec<u8>>, Stop>
-    ensures some { IfOk result (λ descs. AreSome (F.held files.old) (map (λ name. name.now) words.now)
-        (map (λ desc. desc.items) descs.items)) }
+    ensures read { IfOk result (λ descs. DescsRead (record { held = F.held; handed = F.handed; faults = F.faults })
+        (map (λ name. name.now) words.now) (map (λ desc. desc.items) descs.items) files.old files.new) }
+    ensures stopped { IfErr result (StoppedReading (record { held = F.held; handed = F.handed; faults = F.faults })
+        (map (λ name. name.now) words.now) files.old files.new) }
+    ensures many { IfOk result (λ descs. length descs.items ≡ length words.now) }
     ensures held { F.held files.new ≡ F.held files.old }
+    ensures counts { F.faults files.old ≤ F.faults files.new }
 {
     let mut descs = Vec::new(alloc);
     for place in 0..words.len() {

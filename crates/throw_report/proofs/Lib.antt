@@ -6,3 +6,4 @@ pub mod Thrown
 pub mod LastSteps
 pub mod Walking
 pub mod Checked
+pub mod ReadBack

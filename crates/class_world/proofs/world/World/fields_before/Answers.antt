@@ -6,13 +6,13 @@ pub at-kept-requires : goal.at-kept-requires
 at-kept-requires c =
     let w = c.args.self.now in
     kept_long w.roster.classes c.args.class c.args.index w.index.kept w.slots
-    (record { kept = w.indexed.kept; laid_out = w.laid_out; placed = w.placed; within = c.requires.class; there = c.requires.index })
+    (record { kept = w.indexed.kept; laid_out = w.laid_out; few = w.few; count = w.count; within = c.requires.class; there = c.requires.index })
 
 pub at-requires : goal.at-requires
 at-requires c =
     let w = c.args.self.now in
     slots_long w.roster.classes c.args.class c.args.index w.index.kept w.slots
-    (record { kept = w.indexed.kept; laid_out = w.laid_out; placed = w.placed; within = c.requires.class; there = c.requires.index })
+    (record { kept = w.indexed.kept; laid_out = w.laid_out; few = w.few; count = w.count; within = c.requires.class; there = c.requires.index })
 
 pub overflow_sub-len : goal.overflow_sub-len
 overflow_sub-len c =
@@ -21,7 +21,8 @@ overflow_sub-len c =
     (record {
       kept = w.indexed.kept;
       laid_out = w.laid_out;
-      placed = w.placed;
+      few = w.few;
+      count = w.count;
       within = c.requires.class;
       there =
           c.requires.index;
@@ -35,7 +36,8 @@ at-requires-2 c =
     (record {
       kept = w.indexed.kept;
       laid_out = w.laid_out;
-      placed = w.placed;
+      few = w.few;
+      count = w.count;
       within = c.requires.class;
       there =
           c.requires.index;
@@ -49,7 +51,8 @@ at-requires-3 c =
     (record {
       kept = w.indexed.kept;
       laid_out = w.laid_out;
-      placed = w.placed;
+      few = w.few;
+      count = w.count;
       within = c.requires.class;
       there =
           c.requires.index;
@@ -63,7 +66,8 @@ overflow_sub-result c =
     (record {
       kept = w.indexed.kept;
       laid_out = w.laid_out;
-      placed = w.placed;
+      few = w.few;
+      count = w.count;
       within = c.requires.class;
       there =
           c.requires.index;
@@ -78,7 +82,8 @@ overflow_add-result c =
     (record {
       kept = w.indexed.kept;
       laid_out = w.laid_out;
-      placed = w.placed;
+      few = w.few;
+      count = w.count;
       within = c.requires.class;
       there =
           c.requires.index;
@@ -93,7 +98,8 @@ overflow_cast-result c =
     (record {
       kept = w.indexed.kept;
       laid_out = w.laid_out;
-      placed = w.placed;
+      few = w.few;
+      count = w.count;
       within = c.requires.class;
       there =
           c.requires.index;
@@ -108,7 +114,8 @@ returns c =
     (record {
       kept = w.indexed.kept;
       laid_out = w.laid_out;
-      placed = w.placed;
+      few = w.few;
+      count = w.count;
       within = c.requires.class;
       there =
           c.requires.index;

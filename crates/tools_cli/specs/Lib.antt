@@ -1,0 +1,5 @@
+pub mod Reading
+pub mod Describing
+pub mod Certifying
+pub mod Tools
+pub mod inner

@@ -1,0 +1,2 @@
+-- Words of private calls.
+pub mod Outputs

@@ -1,0 +1,6 @@
+class Drain {
+    static void all(Source source) {
+        while (source.next() != 0) {
+        }
+    }
+}

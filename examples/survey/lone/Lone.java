@@ -1,0 +1,8 @@
+abstract class Lone {
+    int left;
+
+    void go() {
+        while (left == 0) {
+        }
+    }
+}
