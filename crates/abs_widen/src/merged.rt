@@ -122,7 +122,7 @@ pub(crate) fn merged_cells<T: Types, P: Pairs>(
     for n in 0..pairs.len() {
         let found = merged_cell(alloc, types, a, b, pairs, pairs[n], marks)?;
         let Some(cell) = found else {
-            unreachable!();
+            return Err(AllocError);
         };
         cells.push((n as Id, cell))?;
     }

@@ -18,4 +18,3 @@ pub mod Sizes
 pub mod Terms
 pub mod Told
 pub mod Walking
-pub mod ReadBack

@@ -117,8 +117,7 @@ abbrev pub ints_worth : Meaning → List (ℕ × ℤ) → ℤ
 ints_worth meaning [] = pos 0
 ints_worth meaning (entry ∷ rest) = entry.1 *ℤ number_of (meaning entry.0) +ℤ ints_worth meaning rest
 
--- a sum of multiples of sizes is a number, where each class weighs so much. A size is that of the value's term, in which an object stands
--- once for each path that leads to it: it is no count of objects where they are shared
+-- a sum of multiples of sizes is a number, where each class weighs so much
 pub data SizesWorth (weigh : ℕ → ℤ) (state : MachineState) (meaning : Meaning) : List (ℕ × ℤ) → ℤ → Type 0 where
   none : SizesWorth weigh state meaning [] (pos 0)
   more : (entry : ℕ × ℤ) (rest : List (ℕ × ℤ)) (size sum : ℤ) → Weighs weigh state.heap (meaning entry.0) size

@@ -4,6 +4,5 @@ pub mod Bounds
 pub mod Laws
 pub mod Answers
 pub mod Lines
-pub mod Said
 pub mod ValidParts
 pub mod inner

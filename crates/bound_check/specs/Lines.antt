@@ -1,10 +1,8 @@
--- A bound in words, and why a text is none. A class's name can hold any bytes, so it stands as lines show names, without blanks and
--- newlines: no name makes a number or a line of its own, and the lines are read back.
+-- A bound in words, and why a text is none.
 use Rattle.std.specs.Prelude.{ℕ, ℤ, nat_lt, Bool, if◌then◌else◌, List, [], ◌∷◌, ◌++◌, length, codes}
 use Rattle.std.specs.List.{flat_map}
 use Rattle.std.specs.Fmt.{decimal, signed_decimal}
 use Rattle.list_views.specs.FaultWords.{joined, number_field}
-use Rattle.list_views.specs.Shown.{shown}
 use Rattle.json_view.specs.Faults.{fault_text as json_text}
 use Rattle.lin_core.specs.declared.faults.LinFault.{LinFault}
 use Rattle.lin_core.specs.declared.faults.LinFault.TheVariants as lin
@@ -23,10 +21,10 @@ use Rattle.bound_check.specs.declared.refusal.BoundRefusal.TheVariants.{NoText, 
 abbrev pub multiple_text : List ℕ → ℕ × ℤ → List ℕ
 multiple_text word multiple = joined (codes " " ∷ word ∷ codes " " ∷ decimal multiple.0 ∷ codes " " ∷ signed_decimal multiple.1 ∷ [])
 
--- the weight of a class in words: ` weight CLASS W`, by the class's name as lines show it; nothing where the number is no class's
+-- the weight of a class in words: ` weight CLASS W`, where the number is that of a class
 abbrev pub weight_text : World → ℕ × ℤ → List ℕ
 weight_text world weight = if nat_lt weight.0 (length world)
-    then joined (codes " weight " ∷ shown (class_name world weight.0) ∷ codes " " ∷ signed_decimal weight.1 ∷ []) else []
+    then joined (codes " weight " ∷ class_name world weight.0 ∷ codes " " ∷ signed_decimal weight.1 ∷ []) else []
 
 -- a form in words: its constant, and then its ints, sizes and weights
 abbrev pub form_text : World → RootForm → List ℕ

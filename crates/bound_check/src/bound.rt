@@ -2,8 +2,7 @@
 use list_views::Seq;
 
 /// A form over the inputs: a constant, multiples of ints and multiples of sizes, where classes have the listed weights. Inputs are
-/// numbered from 0, the parameters before the static fields. The size of an input is what the classes weigh of the objects on all paths
-/// from it: an object counts once for each path that leads to it.
+/// numbered from 0, the parameters before the static fields.
 #[derive(Drop)]
 pub struct RootForm {
     /// The constant.

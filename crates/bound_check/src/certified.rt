@@ -4,10 +4,8 @@ ghost use Rattle.abs_cells.specs.Sound.{IsWellFormed};
 ghost use Rattle.class_program.specs.Views.{program_of};
 ghost use Rattle.code_verify.specs.Typings.{IsTypingOf, typing_at};
 ghost use Rattle.descent.specs.Conditions.{AreRules, AreSteps};
-ghost use Rattle.descent.specs.Steps.{IsEarly};
 ghost use Rattle.cert_check.specs.Parts.{case_of};
 ghost use Rattle.cert_check.specs.inner.PartChecks.{proof_refusal};
-ghost use Rattle.path_rules.specs.Paths.{IsCut};
 ghost use Rattle.bound_text.specs.Limits.{AreLimited};
 ghost use Rattle.bound_check.specs.Answers.{Bounded, OwnRunsBounded};
 ghost use Rattle.bound_check.specs.ValidParts.{PartsOr};
@@ -30,12 +28,11 @@ use term_graph::{Links, NodeSource};
 
 /// What is said of the fault of the proof of a graph of so many nodes.
 fn proof_refusal(nodes: u32, fault: StepFault) -> Refusal
-    requires { IsEarly fault }
     ensures { result ≡ proof_refusal nodes fault }
 {
     match fault {
         StepFault::At { step, fault } => Refusal::Item {
-            item: 4 + u64::from(nodes) + step,
+            item: 4 + u64::from(nodes) + u64::from(step),
             cause: Cause::Proof(fault),
         },
         StepFault::Memory => Refusal::Memory,
@@ -103,7 +100,6 @@ fn of_text<P: Pairs, S: NodeSource<P>>(
 ) -> Result<Result<Bound, BoundRefusal>, AllocError>
     requires root { IsWellFormed root.now }
     requires cuts { All (λ cut. cut < length (S.graph source.old)) cuts.now }
-    requires cut { IsCut (S.graph source.old) cuts.now }
     requires few { length (S.graph source.old) ≤ 2 ^ 32 - 16 }
     requires rules { AreRules rules.now }
     requires steps { AreSteps proof.now.steps }
@@ -142,7 +138,6 @@ fn of_bytes<P: Pairs, S: NodeSource<P>>(
 ) -> Result<Result<Bound, BoundRefusal>, AllocError>
     requires root { IsWellFormed root.now }
     requires cuts { All (λ cut. cut < length (S.graph source.old)) cuts.now }
-    requires cut { IsCut (S.graph source.old) cuts.now }
     requires few { length (S.graph source.old) ≤ 2 ^ 32 - 16 }
     requires rules { AreRules rules.now }
     requires steps { AreSteps proof.now.steps }

@@ -2,7 +2,6 @@
 ghost use Rattle.std.specs.Prelude.{◌≡◌, ◌≤◌, ◌<◌, ◌^◌, ◌-◌, All, IfOk, length};
 ghost use Rattle.abs_cells.specs.Sound.{IsWellFormed};
 ghost use Rattle.descent.specs.Conditions.{AreRules, AreSteps};
-ghost use Rattle.path_rules.specs.Paths.{IsCut};
 ghost use Rattle.bound_text.specs.Limits.{AreLimited};
 ghost use Rattle.bound_check.specs.Entries.{bound_fault};
 ghost use Rattle.bound_check.specs.Bounds.{IsBound};
@@ -54,7 +53,6 @@ fn bound_of<P: Pairs, S: NodeSource<P>>(
 ) -> Result<Bound, AllocError>
     requires root { IsWellFormed root.now }
     requires cuts { All (λ cut. cut < length (S.graph source.old)) cuts.now }
-    requires cut { IsCut (S.graph source.old) cuts.now }
     requires few { length (S.graph source.old) ≤ 2 ^ 32 - 16 }
     requires step_count { length steps.now ≤ 4294967295 }
     ensures bound { IfOk result
@@ -100,7 +98,6 @@ pub fn check_bound<P: Pairs, S: NodeSource<P>>(
 ) -> Result<Bound, BoundFault>
     requires root { IsWellFormed root.now }
     requires cuts { All (λ cut. cut < length (S.graph source.old)) cuts.now }
-    requires cut { IsCut (S.graph source.old) cuts.now }
     requires few { length (S.graph source.old) ≤ 2 ^ 32 - 16 }
     requires rules { AreRules rules.now }
     requires steps { AreSteps proof.now.steps }

@@ -1,6 +1,5 @@
-//! What bounds promise of runs, and that their lines are read back. The laws are calls that do nothing when they run.
+//! What bounds promise of runs. The law is a call that does nothing when it runs.
 ghost use Rattle.bound_check.specs.Laws.{BoundsHold};
-ghost use Rattle.bound_check.specs.Said.{LinesAreReadBack};
 
 use cert_check::graph_check::graphs_hold_runs;
 use cert_check::plan_links::links_fit;
@@ -25,9 +24,3 @@ pub fn bounds_hold()
     graphs_hold_runs();
     terms_fill_patterns();
 }
-
-/// The lines of a bound are read back, whatever bytes the names of classes hold: bounds with the same lines have the same steps, the
-/// same constant and the same terms, with the same names of classes.
-pub fn lines_are_read_back()
-    ensures { LinesAreReadBack }
-{}

@@ -2,8 +2,7 @@
 //! lines.
 //!
 //! The definitions: `specs/Parts`, `specs/Entries` (the first fault of entries), `specs/Bounds` (the bound and its value), `specs/Laws`
-//! (what a check is to answer, and what a bound promises), `specs/Answers` (the same for bytes), `specs/Lines`, `specs/Said` (what the
-//! lines say).
+//! (what a check is to answer, and what a bound promises), `specs/Answers` (the same for bytes), `specs/Lines`.
 #![tactic(auto)]
 
 mod bound;
@@ -25,7 +24,7 @@ pub use causes::cause_text;
 pub use certified::{checked_bound, valid_parts};
 pub use checking::check_bound;
 pub use fault::BoundFault;
-pub use laws::{bounds_hold, lines_are_read_back};
+pub use laws::bounds_hold;
 pub use lines::bound_lines;
 pub use parts::given_sets;
 pub use refusal::BoundRefusal;

@@ -11,7 +11,6 @@ use class_world::World;
 use jvm_values::Types;
 use list_views::Seq;
 use list_views::fault_words::joined;
-use list_views::shown::shown;
 use std::alloc::{AllocError, Global};
 
 /// A number in digits.
@@ -80,10 +79,14 @@ fn weight_text(
 {
     if class < world.classes() {
         let weight = signed_digits(alloc, weight)?;
-        let name = shown(alloc, class_name(world, class))?;
         joined(
             alloc,
-            &[b" weight ", name.as_slice(), b" ", weight.as_slice()],
+            &[
+                b" weight ",
+                class_name(world, class),
+                b" ",
+                weight.as_slice(),
+            ],
         )
     } else {
         Ok(Seq::new(alloc))
@@ -153,8 +156,7 @@ fn first_lines(alloc: Global, steps: u64, constant: u64) -> Result<Seq<u8>, Allo
 }
 
 /// A bound in words: the lines `steps L` and `const C`, and then for each rank step a line `term K F`, where `F` is the form's constant
-/// and then ` int I C`, ` size I C` and ` weight CLASS W` for its multiples and weights. Each line ends with a newline. In names
-/// blanks, control characters and backslashes stand as codes (`list_views::shown`).
+/// and then ` int I C`, ` size I C` and ` weight CLASS W` for its multiples and weights. Each line ends with a newline.
 ///
 /// # Errors
 ///

@@ -115,7 +115,7 @@ fn hand_on(
 /// Gives what a step leaves to the steps that it names, if it was given a set.
 fn hand_set(
     alloc: Global,
-    number: usize,
+    number: u32,
     step: &ProofStep,
     given: &mut Vec<Option<Seq<u32>>>,
 ) -> Result<(), AllocError>
@@ -132,7 +132,7 @@ fn hand_set(
 ///
 /// # Errors
 ///
-/// Want of memory.
+/// Want of memory, which also answers more steps than 32 bits count.
 pub fn given_sets(
     alloc: Global,
     rules: u32,
@@ -143,9 +143,12 @@ pub fn given_sets(
     if steps.is_empty() {
         return Ok(Vec::new(alloc));
     }
+    if steps.len() > u32::MAX as usize {
+        return Err(AllocError);
+    }
     let mut given = given_first(alloc, rules, steps.len())?;
     for (n, step) in steps.iter().enumerate() {
-        hand_set(alloc, n, step, &mut given)?;
+        hand_set(alloc, n as u32, step, &mut given)?;
     }
     Ok(given)
 }

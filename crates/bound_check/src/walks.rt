@@ -1,7 +1,6 @@
 //! The most steps between cuts: on a path from a cut to the next one, or on a way from a cut to an End node.
 ghost use Rattle.std.specs.Prelude.{◌≡◌, ◌≤◌, ◌<◌, ◌+◌, ◌-◌, ◌^◌, map, All, IfOk, IsTrue, length, pred, slice_get, slice_index_or, false};
 ghost use Rattle.number_graphs.specs.Lists.{Fall};
-ghost use Rattle.path_rules.specs.Paths.{IsCut};
 ghost use Rattle.path_rules.specs.Successors.{inner_row, most_of};
 ghost use Rattle.bound_check.specs.Bounds.{step_of_link, IsMostSteps};
 ghost use Rattle.bound_check.specs.inner.Walking.{is_end, ends_of, greater, onward, over, best_on, links_of, steps_here, most_of_node};
@@ -273,7 +272,7 @@ fn most_from(most: &[u64], cuts: &[u32]) -> u64
 ///
 /// # Errors
 ///
-/// Want of memory.
+/// Want of memory, which also answers a graph with a cycle without a cut.
 #[tactic(auto, using(path_rules::proofs::Answering::inner_short, path_rules::proofs::Answering::cuts_there, path_rules::proofs::Answering::inner_falls, crate::proofs::Longest::most_steps))]
 pub(crate) fn most_steps<P: Pairs, S: NodeSource<P>>(
     alloc: Global,
@@ -282,7 +281,6 @@ pub(crate) fn most_steps<P: Pairs, S: NodeSource<P>>(
     cuts: &[u32],
 ) -> Result<u64, AllocError>
     requires cuts { All (λ cut. cut < length (S.graph source.old)) cuts.now }
-    requires cut { IsCut (S.graph source.old) cuts.now }
     requires few { length (S.graph source.old) ≤ 2 ^ 32 - 16 }
     ensures most { IfOk result (λ steps. IsMostSteps (S.graph source.old) links.now.nodes cuts.now steps) }
     ensures same { S.graph source.new ≡ S.graph source.old }
@@ -291,9 +289,8 @@ pub(crate) fn most_steps<P: Pairs, S: NodeSource<P>>(
     let ends = end_marks(alloc, source)?;
     let marks = cut_marks(alloc, lists.len(), cuts)?;
     let inner = inner_lists(alloc, marks.as_slice(), lists.as_slice())?;
-    let found = rank(alloc, inner.as_slice())?;
-    match found {
-        Ranking::Cycle(_node) => unreachable!(),
+    match rank(alloc, inner.as_slice())? {
+        Ranking::Cycle(_) => Err(AllocError),
         Ranking::Ranks(ranks) => {
             let most = most(
                 alloc,

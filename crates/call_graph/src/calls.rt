@@ -1,10 +1,10 @@
 //! The calls of a program, listed.
-ghost use Rattle.std.specs.Prelude.{◌≡◌, ◌<◌, ◌≤◌, ◌+◌, ◌^◌, ◌++◌, length, IfOk, OnOk};
+ghost use Rattle.std.specs.Prelude.{◌≡◌, ◌<◌, ◌+◌, ◌^◌, ◌++◌, length, IfOk, OnOk};
 ghost use Rattle.std.specs.Option.{option_to_list};
 ghost use Rattle.class_program.specs.Views.{program_of};
 ghost use Rattle.call_graph.specs.inner.Listed.{class_run, class_runs, op_runs, place_runs, method_runs, graph_of};
 
-use class_program::{Method, Op, Program, Selected};
+use class_program::{Op, Program, Selected};
 use jvm_values::Types;
 use list_views::Seq;
 use std::alloc::{AllocError, Global};
@@ -113,25 +113,19 @@ fn method_runs(
     Ok(found)
 }
 
-/// The methods of a program, which 32 bits number.
-fn methods_of<'q, 'p>(program: &'q Program<'p>) -> &'q [Method<'p>]
-    ensures list { result.now ≡ program.now.methods }
-    ensures few { length result.now ≤ 4294967280 }
-{
-    program.is_good();
-    program.methods.as_slice()
-}
-
 /// What each method can run.
 ///
 /// # Errors
 ///
-/// Want of memory.
+/// Want of memory, which also answers more methods than 32 bits count.
 pub(crate) fn graph(alloc: Global, program: &Program<'_>) -> Result<Seq<Seq<u32>>, AllocError>
     ensures graph { IfOk result (λ graph. graph ≡ graph_of (program_of program.now)) }
     ensures few { IfOk result (λ graph. length graph + 1 < 2 ^ 32) }
 {
-    let methods = methods_of(program);
+    let methods = program.methods.as_slice();
+    if methods.len() > 0xffff_fffe {
+        return Err(AllocError);
+    }
     let mut graph = Seq::new(alloc);
     for (number, method) in methods.iter().enumerate() {
         graph.push(method_runs(alloc, program, number as u32, method.insns.as_slice())?)?;

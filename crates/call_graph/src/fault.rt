@@ -5,7 +5,6 @@ ghost use Rattle.call_graph.specs.Faults.{fault_name, fault_fields, fault_text};
 use class_world::MethodName;
 use list_views::Seq;
 use list_views::fault_words::joined;
-use list_views::shown::method_text;
 use std::alloc::{AllocError, AllocFailed, Global};
 
 /// What is wrong with the calls of a program.
@@ -41,7 +40,7 @@ impl CallFault {
         }
     }
 
-    /// The fault's fields: the method as `CLASS.NAMEDESC`, by its names as lines show them.
+    /// The fault's fields: the method as `CLASS.NAMEDESC`.
     ///
     /// # Errors
     ///
@@ -50,15 +49,17 @@ impl CallFault {
         ensures { IfOk result (λ text. text ≡ fault_fields self.now) }
     {
         match self {
-            CallFault::Recursive { method } => {
-                let text = method_text(
-                    alloc,
+            CallFault::Recursive { method } => joined(
+                alloc,
+                &[
+                    b" method=",
                     method.class.as_slice(),
+                    b".",
                     method.name.as_slice(),
                     method.desc.as_slice(),
-                )?;
-                joined(alloc, &[b" method=", text.as_slice(), b""])
-            }
+                    b"",
+                ],
+            ),
             CallFault::Memory => Ok(Seq::new(alloc)),
         }
     }

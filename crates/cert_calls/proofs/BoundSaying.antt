@@ -1,9 +1,7 @@
 -- What is said of a certificate, and what its lines claim.
-use Rattle.std.proofs.Common.{◌≡◌, ℕ, List, Result, Ok, Err, inl, inr, ap, subst, arith}
+use Rattle.std.proofs.Common.{◌≡◌, ℕ, List, Result, Ok, Err, inl, inr, ap, arith}
 use Rattle.abs_cells.specs.AbstractStates.{AbstractState}
 use Rattle.class_program.specs.Programs.{Program}
-use Rattle.frame_types.specs.Tables.{CodeTypes}
-use Rattle.code_verify.specs.Typings.{IsTypingOf}
 use Rattle.input_desc.specs.declared.desc.Desc.{Desc}
 use Rattle.input_desc.specs.Descs.{IsOwnDesc}
 use Rattle.input_desc.specs.Initial.{initial_of}
@@ -11,14 +9,9 @@ use Rattle.input_steps.specs.declared.refused.Refused.{Refused}
 use Rattle.input_steps.specs.declared.refused.Refused.TheVariants.{At, Memory}
 use Rattle.cert_form.specs.declared.fault.CertFault.{CertFault}
 use Rattle.cert_form.specs.declared.fault.CertFault.TheVariants as certs
-use Rattle.cert_form.specs.Certificates.{CertContent, cert_of, AnswersText}
-use Rattle.graph_fill.specs.ChildrenOfStates.{IsFilledGraph}
-use Rattle.term_graph.specs.Graphs.{GraphNode}
-use Rattle.cert_check.specs.Parts.{case_of}
 use Rattle.cert_check.specs.Valid.{Case, IsValid}
 use Rattle.desc_steps.specs.Answers.{AnswersAs}
 use Rattle.desc_steps.specs.Headline.{NameProgram}
-use Rattle.desc_steps.specs.Names.{names_of}
 use Rattle.bound_check.specs.declared.bound.Bound.{Bound}
 use Rattle.bound_check.specs.declared.fault.BoundFault.TheVariants as faults
 use Rattle.bound_check.specs.declared.refusal.BoundRefusal.{BoundRefusal}
@@ -31,7 +24,7 @@ use Rattle.check_call.specs.Answers.{IsSaidOfText}
 use Rattle.cert_calls.specs.bound_call.Answers.{SaysBound}
 use Rattle.cert_calls.specs.bound_call.Headline.{AllEndWithinIfDone}
 use Rattle.cert_calls.specs.bound_call.Lines.{bounded, refused_for}
-use Rattle.cert_calls.specs.bound_call.inner.Words.{EndWithin, EndAsContent, EndAsDescribed}
+use Rattle.cert_calls.specs.bound_call.inner.Words.{EndWithin, EndAsDescribed}
 
 abbrev Answer : Type 0
 Answer = Result Outcome Refused
@@ -61,84 +54,48 @@ module _ (case : Case) (bytes : List ℕ) where
   unbound refusal (Err (At place fault)) is said = said
   unbound refusal (Err Memory) is said = tt
 
-module _ (p : Program) (root : AbstractState) (case : Case) (bytes : List ℕ) where
-  pub bounds_end : (bound : Bound) (result : Answer) → Bounded case bytes (Ok (Ok bound)) → OwnRunsBounded p root bound
-      → AnswersAs (bounded p.world bound) result → EndWithin p root case bytes result
-  bounds_end bound (Ok outcome) is ends said = λ done. record { bound = bound; is_bound = is; is = said; ends = ends }
-  bounds_end bound (Err refused) is ends said = tt
+module _ (p : Program) (root : AbstractState) where
+  pub bounds_end : (bound : Bound) (result : Answer) → OwnRunsBounded p root bound → AnswersAs (bounded p.world bound) result
+      → EndWithin p root result
+  bounds_end bound (Ok outcome) ends said = λ done. record { bound = bound; is = said; ends = ends }
+  bounds_end bound (Err refused) ends said = tt
 
   -- a refusal claims nothing
-  pub unbound_ends : (refusal : BoundRefusal) (result : Answer) → AnswersAs (refused_for refusal) result
-      → EndWithin p root case bytes result
+  pub unbound_ends : (refusal : BoundRefusal) (result : Answer) → AnswersAs (refused_for refusal) result → EndWithin p root result
   unbound_ends refusal (Ok outcome) said = λ done. absurd (omega (arith, ap (λ (o : Outcome). o.status) said, done))
   unbound_ends refusal (Err refused) said = tt
 
-  pub refused_ends : (item : ℕ) (cause : List ℕ) (result : Answer) → AnswersAs (refused_at item cause) result
-      → EndWithin p root case bytes result
+  pub refused_ends : (item : ℕ) (cause : List ℕ) (result : Answer) → AnswersAs (refused_at item cause) result → EndWithin p root result
   refused_ends item cause (Ok outcome) said = λ done. absurd (omega (arith, ap (λ (o : Outcome). o.status) said, done))
   refused_ends item cause (Err refused) said = tt
 
--- ---- contents
-
-pub content_ends : (p : Program) (typing : ℕ → CodeTypes) (bytes : List ℕ) (root : AbstractState) (content : CertContent)
-    (nodes : List GraphNode) (result : Answer) → IsFilledGraph p typing content.parts nodes
-    → EndWithin p root (case_of p typing root nodes content.cuts content.proof) bytes result
-    → EndAsContent p typing root content bytes result
-content_ends p typing bytes root content nodes (Ok outcome) filled ends = λ done.
-    record { nodes = nodes; filled = filled; of_case = ends done }
-content_ends p typing bytes root content nodes (Err refused) filled ends = tt
-
 -- ---- bytes
 
-pub described : (p : Program) (typing : ℕ → CodeTypes) (cert bytes : List ℕ) (desc : Desc) (names : List (List ℕ)) (root : AbstractState)
-    (content : CertContent) (result : Answer) → IsTypingOf p typing → IsOwnDesc p desc → names ≡ names_of p.world
-    → root ≡ initial_of p desc → AnswersText (cert_of names) cert (Ok content) → EndAsContent p typing root content bytes result
-    → EndAsDescribed p desc cert bytes result
-described p typing cert bytes desc names root content (Ok outcome) typed own e is says ends = λ done.
+pub described : (p : Program) (root : AbstractState) (desc : Desc) (result : Answer) → IsOwnDesc p desc → root ≡ initial_of p desc
+    → EndWithin p root result → EndAsDescribed p desc result
+described p root desc (Ok outcome) own is ends = λ done.
     let h = ends done in
-    let of_case = h.of_case in
-    record {
-      case = case_of p typing root h.nodes content.cuts content.proof;
-      of_cert = record {
-        typing = typing;
-        typed = typed;
-        content = content;
-        says = subst (λ (ns : List (List ℕ)). AnswersText (cert_of ns) cert (Ok content)) e says;
-        nodes = h.nodes;
-        filled = h.filled;
-        is = ap (λ (state : AbstractState). case_of p typing state h.nodes content.cuts content.proof) is;
-      };
-      bound = of_case.bound;
-      is_bound = of_case.is_bound;
-      is = of_case.is;
-      ends = of_case.ends desc own is;
-    }
-described p typing cert bytes desc names root content (Err refused) typed own e is says ends = tt
+    record { bound = h.bound; is = h.is; ends = h.ends desc own is }
+described p root desc (Err refused) own is ends = tt
 
-pub text_ends : (p : Program) (desc : Desc) (cert bytes : List ℕ) (fault : CertFault) (result : Answer) → IsSaidOfText fault result
-    → EndAsDescribed p desc cert bytes result
-text_ends p desc cert bytes (certs.Json fault) (Ok outcome) said = λ done.
-    absurd (omega (arith, ap (λ (o : Outcome). o.status) said, done))
-text_ends p desc cert bytes (certs.Limit place) (Ok outcome) said = λ done.
-    absurd (omega (arith, ap (λ (o : Outcome). o.status) said, done))
-text_ends p desc cert bytes certs.Memory (Ok outcome) said = absurd (cc)
-text_ends p desc cert bytes fault (Err refused) said = tt
+pub text_ends : (p : Program) (desc : Desc) (fault : CertFault) (result : Answer) → IsSaidOfText fault result → EndAsDescribed p desc result
+text_ends p desc (certs.Json fault) (Ok outcome) said = λ done. absurd (omega (arith, ap (λ (o : Outcome). o.status) said, done))
+text_ends p desc (certs.Limit place) (Ok outcome) said = λ done. absurd (omega (arith, ap (λ (o : Outcome). o.status) said, done))
+text_ends p desc certs.Memory (Ok outcome) said = absurd (cc)
+text_ends p desc fault (Err refused) said = tt
 
 -- ---- files
 
-pub claimed : (bytes cert desc : List ℕ) (files : List (List ℕ)) (p : Program) (described : Desc) (result : Answer)
-    → NameProgram files desc p described → EndAsDescribed p described cert bytes result → AllEndWithinIfDone files desc cert bytes result
-claimed bytes cert desc files p described (Ok outcome) named ends = λ done.
+pub claimed : (desc : List ℕ) (files : List (List ℕ)) (p : Program) (described : Desc) (result : Answer)
+    → NameProgram files desc p described → EndAsDescribed p described result → AllEndWithinIfDone files desc result
+claimed desc files p described (Ok outcome) named ends = λ done.
     let h = ends done in
     record {
       program = p;
       described = described;
       named = named;
-      case = h.case;
-      of_cert = h.of_cert;
       bound = h.bound;
-      is = h.is_bound;
       said = ap (λ (o : Outcome). o.out) h.is;
       bounded = h.ends;
     }
-claimed bytes cert desc files p described (Err refused) named ends = tt
+claimed desc files p described (Err refused) named ends = tt

@@ -1,4 +1,3 @@
-pub mod CertCases
 pub mod throws_call
 pub mod loop_call
 pub mod bound_call

@@ -1,6 +1,6 @@
 -- What the check of each part tells of the whole.
 use Rattle.std.proofs.Common.{◌≡◌, ◌∙◌, ◌+◌, ◌↔◌, ℕ, Bool, true, false, IsTrue, List, length, None, Ok, Err, refl, sym, ap, subst}
-use Rattle.std.proofs.Common.{◌≤◌, arith, true≢false}
+use Rattle.std.proofs.Common.{true≢false}
 use Rattle.abs_cells.specs.AbstractStates.{AbstractState}
 use Rattle.class_program.specs.Programs.{Program}
 use Rattle.frame_types.specs.Tables.{CodeTypes}
@@ -15,7 +15,7 @@ use Rattle.term_graph.specs.declared.links.Links.{Links}
 use Rattle.term_graph.specs.Graphs.{GraphNode}
 use Rattle.path_rules.specs.declared.fault.PathFault.{PathFault}
 use Rattle.path_rules.specs.declared.fault.PathFault.TheVariants as paths
-use Rattle.path_rules.specs.Answers.{HasRules, Answers as PathAnswers}
+use Rattle.path_rules.specs.Answers.{Answers as PathAnswers}
 use Rattle.path_rules.specs.Conditions.{AreGood, IsReady}
 use Rattle.graph_check.specs.declared.fault.CheckFault.{CheckFault}
 use Rattle.graph_check.specs.declared.fault.CheckFault.TheVariants as graphs
@@ -48,15 +48,6 @@ bad_paths case links paths.TooManyPaths graph cuts fails = record
     { links = links; graph = graph; cuts = cuts_are case cuts; fails = fails; known = λ e. absurd cc; item_is = refl }
 bad_paths case links (paths.TooManyRows path) graph cuts fails = record
     { links = links; graph = graph; cuts = cuts_are case cuts; fails = fails; known = λ e. absurd cc; item_is = refl }
-
--- there are so few paths that 32 bits number their rules
-pub rules_few : {graph : List GraphNode} {links : List (List Link)} {cuts : List ℕ} (rules rs : List PathRule) → rs ≡ rules
-    → HasRules graph links cuts rules → length rs ≤ 4294967295
-rules_few rules rs same is =
-    let few = is.few in
-    let whole = is.whole in
-    let long : length rs ≡ length rules = ap length same in
-    omega (arith, few, whole, long)
 
 pub bad_proof : (case : Case) (links : List (List Link)) (rules : List PathRule) (fault : StepFault) → HasGoodGraph case links
     → RulesOr case links (Ok rules) → ProofRefuses (Err fault) (proof_fault rules case.steps)

@@ -1,6 +1,5 @@
 //! What is said of the fault of a part.
 ghost use Rattle.std.specs.Prelude.{◌≡◌};
-ghost use Rattle.descent.specs.Steps.{IsEarly};
 ghost use Rattle.cert_check.specs.Valid.{graph_item};
 ghost use Rattle.cert_check.specs.inner.PartChecks.{graph_refusal, path_refusal, proof_refusal};
 
@@ -47,12 +46,11 @@ pub(crate) fn path_refusal(nodes: u32, fault: PathFault) -> Refusal
 
 /// What is said of a fault of the proof of a graph of so many nodes.
 pub(crate) fn proof_refusal(nodes: u32, fault: StepFault) -> Refusal
-    requires { IsEarly fault }
     ensures { result ≡ proof_refusal nodes fault }
 {
     match fault {
         StepFault::At { step, fault } => Refusal::Item {
-            item: 4 + u64::from(nodes) + step,
+            item: 4 + u64::from(nodes) + u64::from(step),
             cause: Cause::Proof(fault),
         },
         StepFault::Memory => Refusal::Memory,

@@ -14,8 +14,7 @@ use Rattle.term_graph.specs.declared.nodes.By.{By}
 use Rattle.cert_form.specs.declared.certs.Kept.{Kept}
 use Rattle.cert_form.specs.declared.fault.CertFault.{CertFault}
 use Rattle.cert_form.specs.declared.fault.CertFault.TheVariants.{Json, Limit, Memory}
-use Rattle.std.specs.Prelude.{IsTrue}
-use Rattle.cert_form.specs.Answers.{Reader, Says, is_memory, json, past_limit, done, counted}
+use Rattle.cert_form.specs.Answers.{Reader, Says, json, past_limit, done, counted}
 use Rattle.cert_form.specs.Fields.{◌>>=◌, field, entries_of, at_most}
 use Rattle.cert_form.specs.Ways.{by_of}
 use Rattle.cert_form.specs.Certificates.{CertContent, node_in, nodes_of, maybe_state, of_node, cert_of, kept, kept_of}
@@ -80,41 +79,6 @@ known {A = A} names root here content n reader of x cert same l said says =
     (says part.0) in
     let told : of_node n reader root ≡ Ok x = subst (λ (y : Located). of_node n reader y ≡ Ok x) same said in
     ap (λ (p : Option GraphPart). option_map of p) part.1 ∙ ap (λ y. Some y) (ok_same (of_node n reader root) (of part.0) x read told)
-
--- what is read of a node that is there, of a certificate that was read
-readable : {A : Type 0} (names : List (List ℕ)) (root here : Located) (content : CertContent) (n : ℕ) (reader : Reader A)
-    (of : GraphPart → A) → cert_of names root ≡ Ok content → here ≡ root → n < length content.parts
-    → ((part : GraphPart) (there : Located) → IsPart names there part → reader there ≡ Ok (of part))
-    → (x : A) × (of_node n reader here ≡ Ok x)
-readable {A = A} names root here content n reader of cert same l says =
-    let part = get_within content.parts n l in
-    let read : of_node n reader root ≡ Ok (of part.0) = node_read names root content n part.0 reader (of part.0) cert part.1 l
-    (says part.0) in
-    (of part.0, subst (λ (y : Located). of_node n reader y ≡ Ok (of part.0)) (sym same) read)
-
-only_memory : {A : Type 0} (fault : CertFault) (said : Result A CertFault) (x : A) → said ≡ Ok x → Says {A = A} (Err fault) said
-    → IsTrue (is_memory fault)
-only_memory Memory said x e s = refl
-only_memory (Json f) said x e s = let no : ⊥ = cc (e, s) in absurd no
-only_memory (Limit p) said x e s = let no : ⊥ = cc (e, s) in absurd no
-
--- a node that is there has no fault, so reading how it is left again wants nothing but memory
-pub by_memory : (names : List (List ℕ)) (root here : Located) (content self : CertContent) (n : ℕ) (fault : CertFault)
-    → cert_of names root ≡ Ok content → here ≡ root → content ≡ self → n < length self.parts
-    → Says {A = By} (Err fault) (of_node n (field (codes "by") by_of) here) → IsTrue (is_memory fault)
-by_memory names root here content self n fault cert place same l said =
-    let read = readable names root here content n (field (codes "by") by_of) (λ part. part.by) cert place
-    (subst (λ (s : CertContent). n < length s.parts) (sym same) l) (λ part there is. is.by) in
-    only_memory fault (of_node n (field (codes "by") by_of) here) read.0 read.1 said
-
--- nor does reading its state
-pub state_memory : (names : List (List ℕ)) (root here : Located) (content self : CertContent) (n : ℕ) (fault : CertFault)
-    → cert_of names root ≡ Ok content → here ≡ root → content ≡ self → n < length self.parts
-    → Says {A = Option AbstractState} (Err fault) (of_node n (maybe_state names) here) → IsTrue (is_memory fault)
-state_memory names root here content self n fault cert place same l said =
-    let read = readable names root here content n (maybe_state names) (λ part. part.state) cert place
-    (subst (λ (s : CertContent). n < length s.parts) (sym same) l) (λ part there is. is.state) in
-    only_memory fault (of_node n (maybe_state names) here) read.0 read.1 said
 
 pub by_known : (names : List (List ℕ)) (root here : Located) (content self : CertContent) (n : ℕ) (by : By)
     → cert_of names root ≡ Ok content → here ≡ root → content ≡ self → n < length self.parts

@@ -1,10 +1,10 @@
 //! Certificates.
-ghost use Rattle.std.specs.Prelude.{◌≡◌, ◌<◌, ◌≤◌, codes, length, Some, IfOk, IsTrue};
+ghost use Rattle.std.specs.Prelude.{◌≡◌, ◌<◌, ◌≤◌, codes, length, Some, IfOk};
 ghost use Rattle.json_view.specs.Located.{located};
 ghost use Rattle.descent.specs.Conditions.{AreSteps};
 ghost use Rattle.term_graph.specs.Graphs.{by_at, state_at};
 ghost use Rattle.term_graph.specs.Limits.{most_nodes};
-ghost use Rattle.cert_form.specs.Answers.{Says, is_memory};
+ghost use Rattle.cert_form.specs.Answers.{Says};
 ghost use Rattle.cert_form.specs.Fields.{field};
 ghost use Rattle.cert_form.specs.Ways.{numbers_of};
 ghost use Rattle.cert_form.specs.Steps.{proof_of};
@@ -83,17 +83,6 @@ fn read_value(alloc: Global, names: &ClassNames, view: &View<'_, '_>) -> Result<
     let count = nodes_field(alloc, names, second, view)?;
     let proof = proof_field(alloc, view)?;
     Ok(Kept { cuts, count, proof })
-}
-
-/// The fault of a reader of what was read before: nothing but want of memory.
-fn want_of_memory(fault: CertFault) -> AllocError
-    requires { IsTrue (is_memory fault) }
-{
-    match fault {
-        CertFault::Memory => AllocError,
-        CertFault::Json(_) => unreachable!(),
-        CertFault::Limit { .. } => unreachable!(),
-    }
 }
 
 /// A certificate: its value with what it says beside its nodes, which are read of the value one at a time. It is seen as its
@@ -189,7 +178,7 @@ impl<'a> CertText<'a> {
     {
         match by_of_node(alloc, n as usize, &View::root(&self.value)) {
             Ok(by) => Ok(by),
-            Err(fault) => Err(want_of_memory(fault)),
+            Err(_) => Err(AllocError),
         }
     }
 
@@ -201,7 +190,7 @@ impl<'a> CertText<'a> {
         match state_of_node(alloc, self.names, n as usize, &View::root(&self.value)) {
             Ok(Some(parts)) => Ok(Some(parts.into_state(alloc)?)),
             Ok(None) => Ok(None),
-            Err(fault) => Err(want_of_memory(fault)),
+            Err(_) => Err(AllocError),
         }
     }
 }

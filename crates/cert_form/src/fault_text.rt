@@ -4,8 +4,7 @@ ghost use Rattle.cert_form.specs.Faults.{fault_name, fault_fields, fault_text};
 
 use crate::fault::CertFault;
 use list_views::Seq;
-use list_views::fault_words::joined;
-use list_views::shown::shown_field;
+use list_views::fault_words::{bytes_field, joined};
 use std::alloc::{AllocError, Global};
 
 impl CertFault {
@@ -30,7 +29,7 @@ impl CertFault {
     {
         match self {
             CertFault::Json(fault) => fault.fields(alloc),
-            CertFault::Limit { place } => shown_field(alloc, b"place", place.as_slice()),
+            CertFault::Limit { place } => bytes_field(alloc, b"place", place.as_slice()),
             CertFault::Memory => Ok(Seq::new(alloc)),
         }
     }

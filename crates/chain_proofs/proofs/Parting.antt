@@ -1,8 +1,7 @@
 -- A set that is divided, class after class, and the step that divides it.
 use Rattle.std.proofs.Common.{◌≡◌, ◌∙◌, ◌+◌, ◌<◌, ◌≤◌, ◌++◌, ℕ, suc, true, false, List, [], ◌∷◌, length, length-append, take, drop}
-use Rattle.std.proofs.Common.{Option, Some, None, slice_get, refl, sym, ap, subst, arith}
+use Rattle.std.proofs.Common.{Option, Some, slice_get, refl, sym, ap, subst, arith}
 use Rattle.std.specs.List.{AllZip, filter_map}
-use Rattle.std.proofs.lemmas.Bool.{false≢true}
 use Rattle.std.proofs.lemmas.List.Elements.{All-from_recursion}
 use Rattle.list_views.proofs.Items.{take_past}
 use Rattle.descent.specs.declared.proof.ProofStep.TheVariants.{Split}
@@ -12,7 +11,6 @@ use Rattle.descent.specs.Steps.{Given, set_of, give, parts_left, same_option}
 use Rattle.descent.proofs.Walked.{gave}
 use Rattle.chain_proofs.specs.Dealt.{is_dealt, Rises}
 use Rattle.chain_proofs.specs.inner.Dealt.{IsSet, AreSets, HasRoom, need, owed}
-use Rattle.chain_proofs.specs.Lean.{IsDivision}
 use Rattle.chain_proofs.specs.inner.Sets.{AreAt, IsApart, IsStepOf, IsHanded, IsTurned, is_alone}
 use Rattle.chain_proofs.specs.Sets.{AreOwn}
 use Rattle.chain_proofs.specs.Unfinished.{HoldsAt}
@@ -123,33 +121,15 @@ split_holds count rules set own number i given after classes parts steps are ris
   gives = h.gives;
 }
 
--- classes that aren't a single one of rules that reach each other have no step for an only part
-divides : (own : List PathRule) (set : List ℕ) (classes parts : List (List ℕ)) (steps : List (Option ℕ))
-    → AllZip (AreAt set) classes parts → AllZip (IsStepOf own) classes steps → IsApart own classes → IsDivision parts steps
-divides own set [] [] steps p s apart = tt
-divides own set [] (part ∷ parts) steps p s apart = absurd p
-divides own set (class ∷ classes) [] steps p s apart = tt
-divides own set (class ∷ []) (part ∷ []) [] p s apart = tt
-divides own set (class ∷ []) (part ∷ []) (None ∷ steps) p s apart = tt
-divides own set (class ∷ []) (part ∷ []) (Some step ∷ steps) p s apart = absurd (false≢true (sym s.0 ∙ apart))
-divides own set (class ∷ more ∷ rest) (part ∷ []) steps p s apart = absurd p.1
-divides own set (class ∷ rest) (part ∷ other ∷ parts) steps p s apart = tt
-
 pub split_turns : (rules : List PathRule) (set : List ℕ) (own : List PathRule) (number i : ℕ) (given after : Given)
     (classes parts : List (List ℕ)) (steps : List (Option ℕ)) → AreOwn rules set own → Rises 0 set → AreClasses own classes
-    → IsApart own classes → set_of (slice_get given number) ≡ Some set → length classes ≤ i
+    → set_of (slice_get given number) ≡ Some set → length classes ≤ i
     → IsDivided (length rules) own set classes i number given parts steps after → IsTurned rules number given (Split parts steps) after
-split_turns rules set own number i given after classes parts steps are rise is apart has_set l h = record {
+split_turns rules set own number i given after classes parts steps are rise is has_set l h = record {
   holds = split_holds (length rules) rules set own number i given after classes parts steps are rise is has_set l h;
   limits = sym h.lengths;
-  lean =
-      let whole = take_past i classes l in
-      let parts_are = subst (λ (cs : List (List ℕ)). AllZip (AreAt set) cs parts) whole h.parts_are in
-      record {
-        full = All-from_recursion (λ (part : List ℕ). 0 < length part) parts (parts_full set classes parts parts_are is.full);
-        divides = divides own set classes parts steps parts_are
-            (subst (λ (cs : List (List ℕ)). AllZip (IsStepOf own) cs steps) whole h.steps_are) apart;
-      };
+  lean = All-from_recursion (λ (part : List ℕ). 0 < length part) parts (parts_full set classes parts
+      (subst (λ (cs : List (List ℕ)). AllZip (AreAt set) cs parts) (take_past i classes l) h.parts_are) is.full);
   sets = h.sets;
   paid = let paid = h.paid in omega (arith, paid);
 }

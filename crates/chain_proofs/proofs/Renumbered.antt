@@ -3,7 +3,7 @@ use Rattle.std.proofs.Common.{◌≡◌, ◌∙◌, ◌+◌, ◌<◌, ◌≤◌,
 use Rattle.std.proofs.Common.{length, map, get_or, Option, Some, None, slice_get, nat_lt, refl, sym, ap, subst, arith}
 use Rattle.std.specs.List.{All, AllZip, AllByRecursion}
 use Rattle.std.proofs.lemmas.Bool.{false≢true, ltb-false, le-ltb}
-use Rattle.std.proofs.lemmas.List.Elements.{All-from_recursion, recursion_from_All}
+use Rattle.std.proofs.lemmas.List.Elements.{All-from_recursion}
 use Rattle.std.proofs.lemmas.Option.{none-some, same_Some, slice_get_within}
 use Rattle.list_views.specs.Lists.{numbers_from}
 use Rattle.list_views.proofs.Items.{get_within}
@@ -25,9 +25,8 @@ use Rattle.descent.specs.Rankings.{Ranking, weak_fault, strict_fault, bounded_fa
 use Rattle.descent.specs.Rankings.{takes_start, takes_end}
 use Rattle.descent.specs.Splits.{edge_fault}
 use Rattle.descent.specs.Steps.{rule_of, ranking_of, listed_fault, rank_fault, ranking_fault}
-use Rattle.rank_forms.specs.RankSteps.{CountOnce, IsCutOf, IsRankStep, IsWeightOf, has_strict, FormsRise, HaveNoSizes, IsLinear}
-use Rattle.rank_forms.specs.RankSteps.{IsOnce, IsOnceForm}
-use Rattle.chain_proofs.specs.Lean.{IsOwnCut, IsOwnWeight}
+use Rattle.rank_forms.specs.RankSteps.{IsCutOf, IsRankStep, has_strict, FormsRise, HaveNoSizes, IsLinear}
+use Rattle.chain_proofs.specs.Lean.{IsOwnCut}
 use Rattle.chain_proofs.specs.Sets.{AreOwn}
 use Rattle.chain_proofs.specs.inner.Sets.{IsRankOf, IsRenumbered, IsStepOver}
 use Rattle.chain_proofs.proofs.Dividing.{own_at, as_long}
@@ -199,19 +198,6 @@ so_few set (Strict place fall bound ∷ listed) (Strict n shown above ∷ over) 
   so_few set listed over z.1 h.1,
 )
 
-so_once : (set : List ℕ) (listed over : List RankRule) → AllZip (IsRenumbered set) listed over → AllByRecursion IsOnce listed
-    → AllByRecursion IsOnce over
-so_once set [] [] z h = tt
-so_once set [] (o ∷ over) z h = absurd z
-so_once set (one ∷ listed) [] z h = absurd z
-so_once set (Weak place fall ∷ listed) (Weak n shown ∷ over) z h = (subst CountOnce (sym z.0.1) h.0, so_once set listed over z.1 h.1)
-so_once set (Weak place fall ∷ listed) (Strict n shown above ∷ over) z h = absurd z.0
-so_once set (Strict place fall bound ∷ listed) (Weak n shown ∷ over) z h = absurd z.0
-so_once set (Strict place fall bound ∷ listed) (Strict n shown above ∷ over) z h = (
-  (subst CountOnce (sym z.0.1) h.0.0, subst CountOnce (sym z.0.2) h.0.1),
-  so_once set listed over z.1 h.1,
-)
-
 so_strict : (set : List ℕ) (listed over : List RankRule) → AllZip (IsRenumbered set) listed over → has_strict listed ≡ true
     → has_strict over ≡ true
 so_strict set [] over z h = absurd (false≢true h)
@@ -227,44 +213,23 @@ listed_at [] k n e = absurd (none-some n e)
 listed_at (one ∷ listed) zero n e = (one, refl, same_Some (rule_of one) n e)
 listed_at (one ∷ listed) (suc k) n e = listed_at listed k n e
 
--- a rule by its place in the set, as the listed one of that place
-record IsListedAs (rules : List PathRule) (over : List RankRule) (place : ℕ) (rule : PathRule) : Type 0 where
-  one : RankRule
-  at : slice_get over place ≡ Some one
-  is : slice_get rules (rule_of one) ≡ Some rule
-
-own_rule : (rules : List PathRule) (set : List ℕ) (own : List PathRule) (over : List RankRule) (k : ℕ) (rule : PathRule)
-    → AreOwn rules set own → map rule_of over ≡ set → slice_get own k ≡ Some rule → IsListedAs rules over k rule
-own_rule rules set own over k rule are same at =
+own_cut : (rules : List PathRule) (set : List ℕ) (own : List PathRule) (over : List RankRule) (cut : ℕ) → AreOwn rules set own
+    → map rule_of over ≡ set → IsCutOf own cut → IsOwnCut rules over cut
+own_cut rules set own over cut are same is =
+    let k = is.n in
+    let rule = is.rule in
+    let at = is.is in
     let long = as_long rules set own are in
     let there = slice_get_within own k rule at in
     let number = get_within set k (omega (arith, long, there)) in
     let one = listed_at over k number.0 (ap (λ (ns : List ℕ). slice_get ns k) same ∙ number.1) in
     record {
+      place = k;
       one = one.0;
       at = one.1;
+      rule = rule;
       is = ap (slice_get rules) one.2 ∙ sym (own_at rules set own k number.0 are number.1) ∙ at;
-    }
-
-own_cut : (rules : List PathRule) (set : List ℕ) (own : List PathRule) (over : List RankRule) (cut : ℕ) → AreOwn rules set own
-    → map rule_of over ≡ set → IsCutOf own cut → IsOwnCut rules over cut
-own_cut rules set own over cut are same is =
-    let listed = own_rule rules set own over is.n is.rule are same is.is in
-    record { place = is.n; one = listed.one; at = listed.at; rule = is.rule; is = listed.is; meets = is.ends }
-
-own_weight : (rules : List PathRule) (set : List ℕ) (own : List PathRule) (over : List RankRule) (weight : ℕ × ℤ)
-    → AreOwn rules set own → map rule_of over ≡ set → IsWeightOf own weight → IsOwnWeight rules over weight
-own_weight rules set own over weight are same is =
-    let class = is.class in
-    let listed = own_rule rules set own over class.n class.rule are same class.is in
-    record {
-      above = is.above;
-      place = class.n;
-      one = listed.one;
-      at = listed.at;
-      rule = class.rule;
-      is = listed.is;
-      names = class.names;
+      meets = is.ends;
     }
 
 so_linear : (step over : RankStep) → over.forms ≡ step.forms → over.weights ≡ step.weights → over.size ≡ step.size → IsLinear step
@@ -300,10 +265,5 @@ ranks_over rules set own step over are is so =
         rise = subst (FormsRise 0) (sym so.forms) is.rise;
         classes = subst (Rise 4294967296) (sym so.weights) is.classes;
         linear = so_linear step over so.forms so.weights so.size is.linear;
-        weighed = subst (All (λ (weight : ℕ × ℤ). IsOwnWeight rules over.rules weight)) (sym so.weights)
-            (λ k d w. own_weight rules set own over.rules (get_or step.weights k d) are numbers (is.weighed k d w));
-        forms = subst (All IsOnceForm) (sym so.forms) is.forms;
-        once = All-from_recursion IsOnce over.rules
-            (so_once set step.rules over.rules so.listed (recursion_from_All IsOnce step.rules is.once));
       };
     }

@@ -31,7 +31,7 @@ abbrev pub IsClosed : List PathRule → Proved → Type 0
 IsClosed rules (Whole proof) = Closed rules proof
 IsClosed rules (Stuck proof left) = Unit {0}
 
--- the steps are few and lean, also those of a proof that isn't finished
+-- the steps are few and have no idle parts, also those of a proof that isn't finished
 abbrev pub IsLean : List PathRule → Proved → Type 0
 IsLean rules (Whole proof) = AreLean rules proof.steps
 IsLean rules (Stuck proof left) = AreLean rules proof.steps

@@ -37,7 +37,7 @@ impl Sets {
     pub(crate) fn of(&self, alloc: Global, number: u32) -> Result<Option<Seq<u32>>, AllocError>
         ensures { IfOk result (λ set. set ≡ set_of (slice_get self.now.given.items number)) }
     {
-        set_of(alloc, &self.given, number as usize)
+        set_of(alloc, &self.given, number)
     }
 
     /// Gives a set to the next step that has none, and says which it is.

@@ -27,7 +27,7 @@ use Rattle.class_program.specs.Reached.{contents_of, methods_of}
 use Rattle.list_views.proofs.Steps.{each_more, each_broken, handed_on}
 use Rattle.class_program.proofs.Reaching.{with_new_append, Begins, begins_length, begins_all, within, IsGrowing, grow_start}
 use Rattle.class_program.proofs.Reaching.{grow_more, begins_in_time, ends_in_time}
-use Rattle.class_program.proofs.Room.{open_in, all_methods, all_length, at_in_all, body_at, bodies_in_all, all_new, room_start, room_new, longer_new}
+use Rattle.class_program.proofs.Room.{open_in, all_methods, all_length, at_in_all, body_at, bodies_in_all, all_new, room_start, room_new}
 use Rattle.class_program.proofs.Bodies.{all_flat_map, runs_all}
 
 -- ---- what the methods of a list are
@@ -219,26 +219,6 @@ runs_more f xs i d refs more all found l h s m =
     ∙ sym (with_new_append refs (f (get_or xs i d)) (flat_map f (drop (i + 1) xs)))
     ∙ ap (λ ys. with_new refs (flat_map f ys)) (sym (drop-cons xs i d l ∙ ap (λ j. get_or xs i d ∷ drop j xs) (sym (add-one i))))
     ∙ h
-
--- there is room for them, where there is for those of all instructions
-pub runs_fit : {A : Type 0} (f : A → List MethodRef) (xs : List A) (i : ℕ) (d : A) (refs all found : List MethodRef) (n : ℕ)
-    → i < length xs → with_new refs (flat_map f (drop i xs)) ≡ all → found ≡ f (get_or xs i d) → length all ≤ n
-    → length (with_new refs found) ≤ n
-runs_fit f xs i d refs all found n l h s few =
-    let next = runs_more f xs i d refs (with_new refs found) all found l h s refl in
-    let long = longer_new (with_new refs found) (flat_map f (drop (i + 1) xs)) in
-    let same = ap length next in
-    omega (arith, long, same, few)
-
--- there is room for what the next method reaches, since a world has no more methods
-pub reach_fits : (world : World) (entry : MethodRef) (refs : List MethodRef) (methods : List Method) (x : MethodRef)
-    (content : MethodContent) (m : Method) (n : ℕ) → IsReaching world entry refs methods → slice_get refs (length methods) ≡ Some x
-    → method_at world x ≡ Some content → method_of world x content ≡ Ok m → method_count world ≤ n
-    → length (with_new refs (flat_map (λ y. runs world y.1) m.insns)) ≤ n
-reach_fits world entry refs methods x content m n h e a s few =
-    let room = (reach_more world entry refs (with_new refs (flat_map (λ y. runs world y.1) m.insns)) methods (methods ++ m ∷ []) x
-    content m h e a s refl refl).room in
-    omega (arith, room, few)
 
 -- less is left
 pub reach_smaller : (n : ℕ) (methods more : List Method) (m : Method) → length methods < n → more ≡ methods ++ m ∷ []

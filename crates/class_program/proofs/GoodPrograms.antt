@@ -81,12 +81,12 @@ contents_there world (r ∷ rs) = go (method_at world r) refl (contents_there wo
     go None q rest = rest
     go (Some m) q rest = (q, rest)
 
-pub record AreMade (world : World) (refs : List MethodRef) (methods : List Method) : Type 0 where
+record AreMade (world : World) (refs : List MethodRef) (methods : List Method) : Type 0 where
   pub statics : List StaticField
   pub statics_are : statics ≡ statics_of world (fields_named methods)
   pub made : AllByRecursion (IsMadeOf world refs statics) methods
 
-pub all_made : (world : World) (entry : MethodRef) (methods : List Method) → close_of world entry ≡ Ok methods
+all_made : (world : World) (entry : MethodRef) (methods : List Method) → close_of world entry ≡ Ok methods
     → AreMade world (reached world entry) methods
 unfolding close_of methods_of
 all_made world entry methods e =

@@ -26,6 +26,5 @@ pub mod GoodCalls
 pub mod GoodStatics
 pub mod GoodOps
 pub mod GoodPrograms
-pub mod FewParams
 pub mod GoodInstructions
 pub mod InWidth

@@ -1,16 +1,14 @@
 -- A list of methods of a world, each once, is no longer than the world has methods.
 use Rattle.std.proofs.Common.{◌≡◌, ◌++◌, ◌||◌, ◌&&◌, ℕ, zero, suc, ◌+◌, ◌≤◌, Bool, true, false, not, cond, eqb, List, [], ◌∷◌}
-use Rattle.std.proofs.Common.{length, Option, Some, None, sym, refl, ap, ◌∙◌, subst, arith, length-append, ◌<◌, ◌*◌, get_or, drop}
-use Rattle.std.proofs.Common.{drop-cons, add-one, Result, Ok, Err}
-use Rattle.std.specs.Prelude.{flat_map, nat_lt, slice_get, option_and_then, IfOk, OnErr}
+use Rattle.std.proofs.Common.{length, Option, Some, None, sym, refl, ap, ◌∙◌, subst, arith, length-append}
+use Rattle.std.specs.Prelude.{flat_map, slice_get, option_and_then}
 use Rattle.std.specs.List.{list_all}
 use Rattle.std.specs.Option.{option_map_or}
-use Rattle.std.proofs.lemmas.Bool.{false≢true, eqb-true, eq-eqb, and_from, and_parts, or_left, or_right, ltb-true}
+use Rattle.std.proofs.lemmas.Bool.{false≢true, eqb-true, eq-eqb, and_from, and_parts, or_left, or_right}
 use Rattle.std.proofs.lemmas.List.Folds.{list_any-append, list_all-append}
 use Rattle.class_world.specs.class_read.Content.{ClassContent, MethodContent}
 use Rattle.class_world.specs.declared.world.MethodRef.{MethodRef}
 use Rattle.class_world.specs.World.{World, is_abstract}
-use Rattle.class_world.specs.Linking.{has_few_members}
 use Rattle.class_world.specs.Resolve.{method_at, has_body}
 use Rattle.class_program.specs.Reached.{same_method, has_method, with_one, with_new, method_count}
 
@@ -105,48 +103,6 @@ open_none (x ∷ xs) = let h = open_none xs in omega (arith, h)
 
 pub room_start : (all : List MethodRef) (r : MethodRef) → has_method all r ≡ true → length (r ∷ []) + open_in (r ∷ []) all ≤ length all
 room_start all r h = room_one all [] r (length all) h (subst (λ k. 0 + k ≤ length all) (sym (open_none all)) (omega arith))
-
--- a list only grows
-longer_one : (refs : List MethodRef) (r : MethodRef) → length refs ≤ length (with_one refs r)
-longer_one refs r = by (has_method refs r)
-  where
-    by : (b : Bool) → length refs ≤ length (cond b refs (refs ++ r ∷ []))
-    by true = omega arith
-    by false = let k = length-append refs (r ∷ []) in omega (arith, k)
-
-pub longer_new : (refs more : List MethodRef) → length refs ≤ length (with_new refs more)
-longer_new refs [] = omega arith
-longer_new refs (r ∷ rs) = let a = longer_one refs r in let b = longer_new (with_one refs r) rs in omega (arith, a, b)
-
--- there is room for one method of a list, where there is for all of them
-pub one_fits : (refs found all : List MethodRef) (i : ℕ) (d m : MethodRef) (n : ℕ) → i < length found
-    → with_new refs (drop i found) ≡ all → m ≡ get_or found i d → length all ≤ n → length (with_one refs m) ≤ n
-one_fits refs found all i d m n l e s few =
-    let next : drop i found ≡ m ∷ drop (i + 1) found = drop-cons found i d l ∙ ap (λ j. get_or found i d ∷ drop j found) (sym (add-one i))
-    ∙ ap (λ x. x ∷ drop (i + 1) found) (sym s) in
-    let long = longer_new (with_one refs m) (drop (i + 1) found) in
-    let same : length (with_new (with_one refs m) (drop (i + 1) found)) ≡ length all = ap length (sym (ap (with_new refs) next) ∙ e) in
-    omega (arith, long, same, few)
-
--- what may fail leaves a list that fits, where the list before fits, and the one that is to stand there
-pub kept_few : {A R E : Type 0} (result : Result R E) (old new more : List A) (n : ℕ) → IfOk result (λ r. new ≡ more)
-    → OnErr result (new ≡ old) → length old ≤ n → length more ≤ n → length new ≤ n
-kept_few {A} (Ok r) old new more n put kept few fits = subst (λ (l : List A). length l ≤ n) (sym put) fits
-kept_few {A} (Err e) old new more n put kept few fits = subst (λ (l : List A). length l ≤ n) (sym kept) few
-
--- ---- how many methods a world has
-
-methods_few : (cs : List ClassContent) → list_all has_few_members cs ≡ true → length (flat_map (λ c. c.methods) cs) ≤ 65535 * length cs
-methods_few [] h = omega arith
-methods_few (c ∷ cs) h =
-    let r = and_parts (has_few_members c) (list_all has_few_members cs) h in
-    let short = ltb-true (length c.methods) 65536 (and_parts (nat_lt (length c.fields) 65536) (nat_lt (length c.methods) 65536) r.0).1 in
-    let rest = methods_few cs r.1 in
-    let both = length-append c.methods (flat_map (λ x. x.methods) cs) in
-    omega (arith, short, rest, both)
-
-pub count_few : (world : World) → list_all has_few_members world ≡ true → length world ≤ 65535 → method_count world ≤ 4294967280
-count_few world few count = let all = methods_few world few in omega (arith, all, count)
 
 -- ---- all methods of a world
 

@@ -220,10 +220,6 @@ pub record IsGoodAt (p : Program) (number pc : ℕ) (op : Op) (next : Option ℕ
   pub good : IsGoodOp p method op
   pub next_there : IfSome next (λ place. IsTrue (is_place method.insns place))
 
--- a method has at most 255 parameters, its receiver among them (JVM specification, section 4.3.3)
-abbrev pub HasFewParams : Method → Type 0
-HasFewParams m = length m.params ≤ 255
-
 -- A program is good: its entry is its first method, all of its methods are good, its static fields are declared by their classes, and
 -- it has at most 256 of them.
 pub record IsGood (p : Program) : Type 0 where

@@ -27,7 +27,6 @@ use std::alloc::{AllocError, Global};
 
 /// Puts the methods behind the list that are not in it.
 fn add_all(found: &[MethodRef], refs: &mut MethodRefs) -> Result<(), AllocError>
-    requires { length (with_new refs.old found.now) ≤ 4294967280 }
     ensures { OnOk result (refs.new ≡ with_new refs.old found.now) }
 {
     for method in found {
@@ -44,8 +43,7 @@ fn add_runs(
     rows: &mut Selections,
     refs: &mut MethodRefs,
 ) -> Result<(), AllocError>
-    requires rows { AreRows (classes_of world.now) rows.now }
-    requires room { length (with_new refs.old (flat_map (λ x. runs (classes_of world.now) x.1) insns.now)) ≤ 4294967280 }
+    requires { AreRows (classes_of world.now) rows.now }
     ensures refs { OnOk result (refs.new ≡ with_new refs.old (flat_map (λ x. runs (classes_of world.now) x.1) insns.now)) }
     ensures rows { OnOk result (AreRows (classes_of world.now) rows.new) }
 {
@@ -181,9 +179,8 @@ fn methods_numbered<'a>(
     requires { length statics.now ≤ 256 }
     ensures methods { IfOk result (λ r. r ≡ map (method_numbered refs.now statics.now) methods.entry) }
     ensures widths { IfOk result (λ r. AreMethodsInWidth r) }
-    ensures count { length refs.now ≤ 4294967280 }
 {
-    let mut done = Seq::with_capacity(alloc, refs.len())?;
+    let mut done = Seq::with_capacity(alloc, methods.len())?;
     for method in methods.into_vec() {
         done.push(method_numbered(alloc, refs, statics, method)?)?;
     }
@@ -200,7 +197,6 @@ fn placed<'a>(
     ensures statics { Says (λ r. r.1) result (statics_named (classes_of world.now) methods.entry) }
     ensures methods { IfOk result (λ r. r.0 ≡ map (method_numbered refs.now r.1) methods.entry) }
     ensures widths { IfOk result (λ r. AreMethodsInWidth r.0) }
-    ensures count { IfOk result (λ r. length refs.now ≤ 4294967280) }
 {
     let statics = statics_named(world, alloc, methods.as_slice())?;
     let methods = methods_numbered(alloc, refs, statics.as_slice(), methods)?;
@@ -278,7 +274,6 @@ fn closure_of<'a>(
     ensures rows { IfOk result (λ closure. AreRows (classes_of world.now) closure.selections) }
     ensures whole { IfOk result (λ closure. IsTrue (is_closed (classes_of world.now) closure.refs closure.methods)) }
     ensures widths { IfOk result (λ closure. AreMethodsInWidth closure.methods) }
-    ensures count { IfOk result (λ closure. length closure.methods ≤ 4294967280) }
 {
     let found = match find_reached(alloc, world, entry) {
         Ok(found) => found,
@@ -312,7 +307,8 @@ impl<'a> Program<'a> {
     /// The first rule that the first method in that order breaks of those that break any: of a method, [`LinkFault::StaticInit`]
     /// of its class, [`LinkFault::Native`], [`LinkFault::Synchronized`], a type of its descriptor, [`LinkFault::Code`], an
     /// instruction by its place, a caught class that is missing. After these [`LinkFault::TooManyStatics`], exactly where more
-    /// than 256 static fields are named. Or want of memory.
+    /// than 256 static fields are named. Or want of memory, which also stands for more than
+    /// 4,294,967,280 methods.
     pub fn close(
         alloc: Global,
         world: World<'a>,

@@ -1,9 +1,7 @@
 //! What holds of every closed program.
-ghost use Rattle.std.specs.Prelude.{◌≤◌, length};
-ghost use Rattle.std.specs.List.{AllByRecursion};
 ghost use Rattle.class_program.specs.Views.{program_of};
 ghost use Rattle.class_program.specs.Programs.{IsClosed};
-ghost use Rattle.class_program.specs.Good.{HasFewParams, IsGood};
+ghost use Rattle.class_program.specs.Good.{IsGood};
 ghost use Rattle.class_program.specs.Widths.{HasWidths};
 
 use crate::program::Program;
@@ -11,14 +9,11 @@ use crate::program::Program;
 impl<'a> Program<'a> {
     /// The program is what closing gives for its entry, and each of its instructions is good: it names what is there
     /// with the types that it says, makes no array of long, float or double, and leads to places where instructions stand.
-    /// Each number that an instruction holds is of its field's width. A method has at most 255 parameters, its receiver among them.
-    /// There are at most 2^32 - 16 methods. It does nothing when it runs.
+    /// Each number that an instruction holds is of its field's width. It does nothing when it runs.
     pub fn is_good(&self)
         ensures closed { IsClosed (program_of self.now) }
         ensures good { IsGood (program_of self.now) }
         ensures widths { HasWidths (program_of self.now) }
-        ensures params { AllByRecursion HasFewParams self.now.methods }
-        ensures count { length self.now.methods ≤ 4294967280 }
     {
         let _world = &self.world;
     }

@@ -418,7 +418,7 @@ pub(crate) fn method_of<'a>(
 {
     match world.method_at(method) {
         Some(view) => declared(world, alloc, shared, rows, method, view),
-        None => unreachable!(),
+        None => Err(LinkFault::Memory),
     }
 }
 

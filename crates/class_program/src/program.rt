@@ -92,5 +92,4 @@ pub struct Program<'a> {
     ghost rows: { AreRows (classes_of world) selections },
     ghost whole: { IsTrue (is_closed (classes_of world) refs methods) },
     ghost widths: { AreMethodsInWidth methods } by { AreMethodsInWidth-prop methods },
-    ghost count: { length methods ≤ 4294967280 },
 }

@@ -7,6 +7,9 @@ use indexmap::IndexSet;
 use std::alloc::{AllocError, Global};
 use std::marker::Model;
 
+/// The most methods that are numbered.
+const MOST: usize = 0xffff_fff0;
+
 /// Methods of a world, each once, numbered in the order in which they came. It is seen as their list.
 #[derive(Drop)]
 pub(crate) struct MethodRefs {
@@ -34,8 +37,7 @@ impl MethodRefs {
 
     /// The number of methods.
     pub(crate) fn len(&self) -> usize
-        ensures value { result ≡ length self.now }
-        ensures few { result ≤ 4294967280 }
+        ensures { result ≡ length self.now }
     {
         self.refs.len()
     }
@@ -51,11 +53,13 @@ impl MethodRefs {
     ///
     /// # Errors
     ///
-    /// Want of memory.
+    /// Want of memory, also where it would be the method behind number 4,294,967,279.
     pub(crate) fn add(&mut self, method: MethodRef) -> Result<(), AllocError>
-        requires { length (with_one self.old method) ≤ 4294967280 }
         ensures { OnOk result (self.new ≡ with_one self.old method) }
     {
+        if self.refs.len() >= MOST {
+            return Err(AllocError);
+        }
         self.refs.insert_full(method)?;
         Ok(())
     }

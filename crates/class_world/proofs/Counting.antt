@@ -1,8 +1,8 @@
 -- The places of fields in objects, from the tables.
-use Rattle.std.proofs.Common.{◌≡◌, ℕ, zero, suc, ◌+◌, ◌*◌, ◌-◌, ◌<◌, ◌≤◌, ◌^◌, Bool, true, false, cond, List, [], ◌∷◌, ◌++◌, length}
+use Rattle.std.proofs.Common.{◌≡◌, ℕ, zero, suc, ◌+◌, ◌-◌, ◌<◌, ◌≤◌, ◌^◌, Bool, true, false, cond, List, [], ◌∷◌, ◌++◌, length}
 use Rattle.std.proofs.Common.{get_or, take, drop, Option, Some, None, sym, refl, ap, ap₂, ◌∙◌, subst, inl, inr, arith}
 use Rattle.std.proofs.Common.{length-append, append-nil, add-one, zero-add}
-use Rattle.std.specs.Prelude.{reverse, nat_lt, slice_get, IfSome}
+use Rattle.std.specs.Prelude.{reverse, slice_get, IfSome}
 use Rattle.std.specs.List.{filter, filter_map, flat_map, cons_option, list_all, range_with_len}
 use Rattle.std.specs.Option.{option_map_or}
 use Rattle.std.proofs.lemmas.Bool.{and_parts, ltb-true, cases_lt}
@@ -11,15 +11,13 @@ use Rattle.std.proofs.lemmas.List.Concat.{flat_map-append}
 use Rattle.std.proofs.lemmas.Option.{slice_get-get_or}
 use Rattle.std.proofs.lemmas.List.Elements.{filter-append}
 use Rattle.jvm_values.specs.declared.types.Slot.{Slot}
-use Rattle.code_forms.proofs.list_views.Quantified.{holds_at}
 use Rattle.class_read.specs.Content.{ClassContent}
 use Rattle.class_world.specs.World.{World, super_of, line_from, line_of, built_in}
 use Rattle.class_world.specs.Fields.{field_slot, own_slots, fields_of}
-use Rattle.class_world.specs.Linking.{has_few_members}
 use Rattle.class_world.specs.Resolve.{slots_above, own_slots_before}
 use Rattle.class_world.specs.inner.Tables.{values_to}
 use Rattle.class_world.specs.lemmas.Walks.{IsIn}
-use Rattle.class_world.specs.inner.Index.{kept_before, kept_counts, kept_row}
+use Rattle.class_world.specs.inner.Index.{has_places, kept_before, kept_counts, kept_row}
 use Rattle.class_world.proofs.Tables.{length-values, get_or-values}
 
 -- ---- the fields of objects, the class's own last
@@ -73,52 +71,12 @@ pub before_here : (world : World) (class index : ℕ) (c : ClassContent) → sli
 unfolding own_slots_before
 before_here world class index c s = ap (λ o. option_map_or (λ x. filter_map (field_slot world) (take index x.fields)) o []) s
 
--- ---- how many fields objects have
-
-pub filtered_few : {A B : Type 0} (f : A → Option B) (xs : List A) → length (filter_map f xs) ≤ length xs
-filtered_few f [] = omega arith
-filtered_few {A} {B} f (x ∷ xs) = go (f x) (filtered_few f xs)
-  where
-    go : (o : Option B) → length (filter_map f xs) ≤ length xs → length (cons_option o (filter_map f xs)) ≤ suc (length xs)
-    go None l = omega (arith, l)
-    go (Some y) l = omega (arith, l)
-
-own_few : (world : World) (class : ℕ) → list_all has_few_members world ≡ true → length (own_slots world class) ≤ 65535
-unfolding own_slots
-own_few world class few = go (slice_get world class) refl
-  where
-    go : (o : Option ClassContent) → slice_get world class ≡ o
-        → length (option_map_or (λ c. filter_map (field_slot world) c.fields) o []) ≤ 65535
-    go None s = omega arith
-    go (Some c) s =
-        let short = ltb-true (length c.fields) 65536
-        (and_parts (nat_lt (length c.fields) 65536) (nat_lt (length c.methods) 65536) (holds_at has_few_members world class c few s)).0 in
-        omega (arith, short, filtered_few (field_slot world) c.fields)
-
-all_few : {A : Type 0} (f : ℕ → List A) → ((x : ℕ) → length (f x) ≤ 65535) → (xs : List ℕ)
-    → length (flat_map f xs) ≤ 65535 * length xs
-all_few f h [] = omega arith
-all_few f h (x ∷ xs) = omega (arith, h x, all_few f h xs, length-append (f x) (flat_map f xs))
-
-line_short : (super : ℕ → Option ℕ) (most class : ℕ) → length (line_from super most class) ≤ most
-line_short super zero class = omega arith
-line_short super (suc most) class = go (super class) (λ x. line_short super most x)
-  where
-    go : (o : Option ℕ) → ((x : ℕ) → length (line_from super most x) ≤ most)
-        → suc (length (option_map_or (line_from super most) o [])) ≤ suc most
-    go None rest = omega arith
-    go (Some x) rest = let l = rest x in omega (arith, l)
-
--- the objects of a world of fewer than 65,536 classes, each with as few fields of its own, have places of 32 bits
-fields_few : (world : World) (class : ℕ) → list_all has_few_members world ≡ true → length world ≤ 65535
-    → length (fields_of world class) < 2 ^ 32
-unfolding fields_of line_of
-fields_few world class few count =
-    let line = line_from (super_of world) (length world) class in
-    let same = length-flat_reverse (own_slots world) line in
-    let short = line_short (super_of world) (length world) class in
-    let all = all_few (own_slots world) (λ x. own_few world x few) line in
-    omega (arith, same, short, all, count)
+place_within : (slots : List (List Slot)) (class : ℕ) (d : List Slot) → list_all has_places slots ≡ true → class < length slots
+    → length (get_or slots class d) < 2 ^ 32
+place_within [] class d e l = absurd (omega (arith, l))
+place_within (row ∷ rows) zero d e l = ltb-true (length row) (2 ^ 32) (and_parts (has_places row) (list_all has_places rows) e).0
+place_within (row ∷ rows) (suc class) d e l = place_within rows class d (and_parts (has_places row) (list_all has_places rows) e).1
+    (omega (arith, l))
 
 -- what the tables say of a field that is there
 pub record Counts (world : World) (class index last all own before : ℕ) : Type 0 where
@@ -133,8 +91,7 @@ module _ (world : World) (class index : ℕ) (table : List (List ℕ)) (slots : 
   pub record Tables : Type 0 where
     pub kept : table ≡ values_to (kept_row world) (length world)
     pub laid_out : slots ≡ values_to (fields_of world) (length world)
-    pub few : list_all has_few_members world ≡ true
-    pub count : length world ≤ 65535
+    pub placed : list_all has_places slots ≡ true
     pub within : class < length world
     pub there : IfSome (slice_get world class) (λ c. index < length c.fields)
 
@@ -185,8 +142,8 @@ module _ (world : World) (class index : ℕ) (table : List (List ℕ)) (slots : 
       subst (λ (xs : List Slot). length xs ≤ length (own_slots world class)) (sym (before_here world class index i.0 i.1))
       (subst (λ (xs : List Slot). length (filter_map (field_slot world) (take index fields)) ≤ length xs)
       (sym (own_here world class i.0 i.1)) (fewer_of (field_slot world) index fields)) in
-      let fit : length held < 2 ^ 32 = subst (λ (xs : List Slot). length xs < 2 ^ 32) (sym held_is)
-      (fields_few world class t.few t.count) in
+      let fit : length held < 2 ^ 32 = subst (λ (xs : List Slot). length xs < 2 ^ 32) (sym h)
+      (place_within slots class held t.placed (slots_long t)) in
       let size = whole world class (omega (arith, t.within)) in
       let total : all ≡ length (own_slots world class) + length (slots_above world class) = a ∙ ap length held_is ∙ size in
       record {

@@ -15,6 +15,7 @@ use Rattle.class_read.specs.Rules.{same_key, key_of, field_of, method_of}
 use Rattle.class_read.specs.View.{field_content, method_content}
 use Rattle.class_read.specs.declared.view.FieldView.{FieldView}
 use Rattle.class_read.specs.declared.view.MethodView.{MethodView}
+use Rattle.jvm_values.specs.declared.types.Slot.{Slot}
 use Rattle.class_world.specs.World.{World, built_in, built_ins, built_in_names, world_of, class_of, super_of}
 use Rattle.class_world.specs.inner.Once.{once, interfaces_once}
 use Rattle.class_world.specs.Linking.{CanBeRead, has_few_members}
@@ -22,7 +23,7 @@ use Rattle.class_world.specs.Members.{is_method_named, declared_method}
 use Rattle.class_world.specs.Fields.{field_slot}
 use Rattle.class_world.specs.Resolve.{is_field_named, declared_field, is_initialiser, is_initialised}
 use Rattle.class_world.specs.inner.Tables.{values_to}
-use Rattle.class_world.specs.inner.Index.{Key, field_key, method_key, field_content_key, method_content_key}
+use Rattle.class_world.specs.inner.Index.{Key, has_places, field_key, method_key, field_content_key, method_content_key}
 use Rattle.class_world.specs.inner.Index.{HasDistinctMembers, method_keys, field_keys, kept_before, kept_counts, kept_row}
 use Rattle.code_forms.proofs.class_base.Maps.{position-map}
 use Rattle.class_world.proofs.Tables.{class_at, values_more, length-values, get_or-values}
@@ -203,6 +204,10 @@ unfolding declared_method
 declared_past world table class name desc t l =
     let m : length table ≡ length world = ap length t ∙ length-values (method_keys world) (length world) in
     ap (option_and_then (λ x. position (is_method_named name desc) x.methods)) (sym (slice_get_past world class (omega (arith, l, m))))
+
+pub placed_from : (slots seen : List (List Slot)) (all : Bool) → seen ≡ slots → all ≡ list_all has_places seen → all ≡ true
+    → list_all has_places slots ≡ true
+placed_from slots seen all e a n = ap (list_all has_places) (sym e) ∙ sym a ∙ n
 
 pub field_found : (world : World) (table : List (List Key)) (class : ℕ) (keys : List Key) (name desc : List ℕ) (r : Option ℕ)
     → table ≡ values_to (field_keys world) (length world) → class < length table → keys ≡ get_or table class keys

@@ -15,7 +15,6 @@ pub mod HiddenFields
 pub mod Seeking
 pub mod Counting
 pub mod ShortCodes
-pub mod Descriptors
 pub mod Below
 pub mod Prefixes
 pub mod Found

@@ -19,12 +19,8 @@ pub rooted : (given : List ClassContent) → is_rooted (world_of given) ≡ true
 unfolding built_in_names
 rooted given = refl
 
-pub enrol_fits : (given : List ClassContent) (all : World) → all ≡ world_of given → length given + 15 ≤ 65535 → length all < 2 ^ 32
+pub enrol_fits : (given : List ClassContent) (all : World) → all ≡ world_of given → length given + 15 ≤ 2 ^ 32 - 16 → length all < 2 ^ 32
 enrol_fits given all e l = omega (arith, ap length e, world_length given, l)
-
-pub world_counted : (given : List ClassContent) (world : World) → world ≡ world_of given → length given + 15 ≤ 65535
-    → length world ≤ 65535
-world_counted given world e l = omega (arith, ap length e, world_length given, l)
 
 pub link_first : (given : List ClassContent) (all : World) (fault : LinkFault) → all ≡ world_of given
     → IsFault is_memory fault (first_broken (duplicate_class all) 0 all) → IsFault is_memory fault (link_fault (world_of given))

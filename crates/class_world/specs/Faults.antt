@@ -1,7 +1,6 @@
 -- The faults of linking and closing in words. A fault of a method's code stands for the method's.
 use Rattle.std.specs.Prelude.{ℕ, List, [], ◌∷◌, codes}
-use Rattle.code_forms.specs.list_views.FaultWords.{joined}
-use Rattle.code_forms.specs.list_views.Shown.{shown_field, method_text}
+use Rattle.code_forms.specs.list_views.FaultWords.{joined, bytes_field}
 use Rattle.code_forms.specs.Faults.{pc_field, fault_name as code_fault_name, fault_fields as code_fault_fields}
 use Rattle.class_world.specs.declared.fault.MethodName.{MethodName}
 use Rattle.class_world.specs.declared.fault.LinkFault.{LinkFault}
@@ -26,13 +25,17 @@ fault_name (Code method fault) = code_fault_name fault
 fault_name TooManyStatics = codes "TooManyStatics"
 fault_name Memory = codes "Memory"
 
--- the name of a class as a field of a fault's text, `name=`, as lines show names
+-- the name of a class as a field of a fault's text, `name=`, as it stands in the class file
 abbrev pub name_field : List ℕ → List ℕ
-name_field name = shown_field (codes "name") name
+name_field name = bytes_field (codes "name") name
 
--- a method as a field of a fault's text, `method=CLASS.NAMEDESC`, by its names as lines show them, and further fields behind it
+-- the name of a method in pieces, `CLASS.NAMEDESC`, with what stands behind it
+abbrev pub method_pieces : List ℕ → List ℕ → List ℕ → List (List ℕ) → List (List ℕ)
+method_pieces class name desc more = class ∷ codes "." ∷ name ∷ desc ∷ more
+
+-- a method as a field of a fault's text, `method=CLASS.NAMEDESC`, and further fields behind it
 abbrev pub method_fields : MethodName → List ℕ → List ℕ
-method_fields method more = joined (codes " method=" ∷ method_text method.class method.name method.desc ∷ more ∷ [])
+method_fields method more = joined (codes " method=" ∷ method_pieces method.class method.name method.desc (more ∷ []))
 
 -- the fields of a fault's text behind its name: the class or method that has the fault, and the place of the instruction in its code
 abbrev pub fault_fields : LinkFault → List ℕ

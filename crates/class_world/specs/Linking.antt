@@ -11,8 +11,6 @@ use Rattle.class_world.specs.declared.fault.LinkFault.TheVariants.{DuplicateClas
 use Rattle.class_world.specs.declared.fault.LinkFault.TheVariants.{DefaultMethod, Memory}
 use Rattle.class_world.specs.declared.linking.LinkRule.{LinkRule}
 use Rattle.class_world.specs.declared.linking.LinkRule.TheVariants as rules
-use Rattle.code_forms.specs.class_base.declared.member_kind.MemberKind.TheVariants as kinds
-use Rattle.code_forms.specs.class_base.MemberKinds.{is_descriptor}
 use Rattle.class_read.specs.Rules.{Spells}
 use Rattle.class_read.specs.Content.{ClassContent, MethodContent}
 use Rattle.class_world.specs.World.{World, class_of, super_of, interfaces_of, is_interface_class, is_above, is_interface}
@@ -121,14 +119,6 @@ has_short_code m = option_map_or (λ code. nat_lt (length code.code) 65536) m.co
 -- every method of a class has a code of fewer than 65,536 bytes, or none
 abbrev pub has_short_codes : ClassContent → Bool
 has_short_codes class = list_all has_short_code class.methods
-
--- the descriptor of a method is one: its parameters have at most 255 words, with the receiver (JVM specification, section 4.3.3)
-abbrev pub has_descriptor : MethodContent → Bool
-has_descriptor m = is_descriptor kinds.Method m.flags m.desc
-
--- every method of a class has such a descriptor
-abbrev pub have_descriptors : ClassContent → Bool
-have_descriptors class = list_all has_descriptor class.methods
 
 -- ---- answers
 

@@ -5,27 +5,30 @@ ghost use Rattle.class_world.specs.Faults.{fault_name, name_field, method_fields
 
 use crate::fault::{LinkFault, MethodName};
 use code_forms::list_views::Seq;
-use code_forms::list_views::fault_words::{joined, number_field};
-use code_forms::list_views::shown::{method_text, shown_field};
+use code_forms::list_views::fault_words::{bytes_field, joined, number_field};
 use std::alloc::{AllocError, Global};
 
 fn name_field(alloc: Global, name: &Seq<u8>) -> Result<Seq<u8>, AllocError>
     ensures { IfOk result (λ text. text ≡ name_field name.now) }
 {
-    shown_field(alloc, b"name", name.as_slice())
+    bytes_field(alloc, b"name", name.as_slice())
 }
 
 /// The method, and further fields.
 fn method_fields(alloc: Global, method: &MethodName, more: &[u8]) -> Result<Seq<u8>, AllocError>
     ensures { IfOk result (λ text. text ≡ method_fields method.now more.now) }
 {
-    let text = method_text(
+    joined(
         alloc,
-        method.class.as_slice(),
-        method.name.as_slice(),
-        method.desc.as_slice(),
-    )?;
-    joined(alloc, &[b" method=", text.as_slice(), more])
+        &[
+            b" method=",
+            method.class.as_slice(),
+            b".",
+            method.name.as_slice(),
+            method.desc.as_slice(),
+            more,
+        ],
+    )
 }
 
 /// The method, and the place of an instruction.
@@ -59,8 +62,7 @@ impl LinkFault {
         }
     }
 
-    /// The fault's fields, each as ` name=value`: a class's name, or a method as `CLASS.NAMEDESC` with what is said of it. In names
-    /// blanks and control characters stand as codes (`list_views::shown`).
+    /// The fault's fields, each as ` name=value`: a class's name, or a method as `CLASS.NAMEDESC` with what is said of it.
     ///
     /// # Errors
     ///

@@ -1,11 +1,11 @@
 //! Worlds: linked classes.
-ghost use Rattle.std.specs.Prelude.{◌≡◌, ◌+◌, ◌<◌, ◌≤◌, length, slice_get, IfOk, IfSome, IsTrue};
+ghost use Rattle.std.specs.Prelude.{◌≡◌, ◌+◌, ◌-◌, ◌<◌, ◌≤◌, ◌^◌, length, slice_get, IfOk, IfSome, IsTrue};
 ghost use Rattle.class_world.specs.World.{world_of, class_of, is_above};
-ghost use Rattle.class_world.specs.Linking.{Refuses, CanBeRead, has_few_members, has_short_codes, have_descriptors, is_linked, link_fault, later_fault};
+ghost use Rattle.class_world.specs.Linking.{Refuses, CanBeRead, has_few_members, has_short_codes, is_linked, link_fault, later_fault};
 ghost use Rattle.std.specs.List.{list_all, AllByRecursion};
 ghost use Rattle.class_world.specs.Fields.{fields_of};
 ghost use Rattle.class_world.specs.Members.{declared_method, find_method};
-ghost use Rattle.class_world.specs.inner.Index.{HasDistinctMembers, IsIndex};
+ghost use Rattle.class_world.specs.inner.Index.{HasDistinctMembers, IsIndex, has_places};
 ghost use Rattle.std.proofs.Props.{props};
 ghost use Rattle.class_world.specs.BuiltIns.{IsWorld};
 ghost use Rattle.class_world.specs.inner.Once.{AreSought};
@@ -43,14 +43,31 @@ pub struct World<'a> {
     pub(crate) index: MemberIndex<'a>,
     pub(crate) sought: Seq<Seq<u32>>,
     ghost known: { IsWorld roster.classes } by { Prim.hlevel props },
-    ghost count: { length roster.classes ≤ 65535 },
     ghost few: { IsTrue (list_all has_few_members roster.classes) },
     ghost short: { IsTrue (list_all has_short_codes roster.classes) },
-    ghost descriptors: { IsTrue (list_all have_descriptors roster.classes) },
     ghost marked: { above ≡ above_table roster.classes },
     ghost laid_out: { slots ≡ values_to (fields_of roster.classes) (length roster.classes) },
+    ghost placed: { IsTrue (list_all has_places slots) },
     ghost indexed: { IsIndex roster.classes index },
     ghost ordered: { AreSought roster.classes (length roster.classes) sought } by { Prim.hlevel props },
+}
+
+/// The places of so many fields are numbers of 32 bits.
+fn has_places(row: &Seq<Slot>) -> bool
+    ensures { result ≡ has_places row.now }
+{
+    row.len() < 1 << 32
+}
+
+fn all_have_places(slots: &[Seq<Slot>]) -> bool
+    ensures { result ≡ list_all has_places slots.now }
+{
+    for row in slots {
+        if !has_places(row) {
+            return false;
+        }
+    }
+    true
 }
 
 /// Every class keeps the rules beside that of the names.
@@ -79,6 +96,22 @@ fn ruled_above(alloc: Global, roster: &Roster<'_>) -> Result<Seq<Seq<bool>>, Lin
     Ok(above)
 }
 
+/// What the fields of the instances of each class hold.
+///
+/// # Errors
+///
+/// Want of memory, of which instances with 2^32 and more fields are one case.
+fn placed_slots(alloc: Global, roster: &Roster<'_>) -> Result<Seq<Seq<Slot>>, AllocError>
+    ensures laid_out { IfOk result (λ slots. slots ≡ values_to (fields_of roster.now.classes) (length roster.now.classes)) }
+    ensures placed { IfOk result (λ slots. IsTrue (list_all has_places slots)) }
+{
+    let slots = roster.fields_table(alloc)?;
+    if !all_have_places(slots.as_slice()) {
+        return Err(AllocError);
+    }
+    Ok(slots)
+}
+
 /// What a world knows of the members of its classes beforehand.
 #[derive(Drop)]
 struct Members<'a> {
@@ -93,10 +126,11 @@ fn members_of<'a>(alloc: Global, roster: &Roster<'a>) -> Result<Members<'a>, All
     requires few { IsTrue (list_all has_few_members roster.now.classes) }
     requires linked { IsTrue (is_linked roster.now.classes) }
     ensures laid_out { IfOk result (λ m. m.slots ≡ values_to (fields_of roster.now.classes) (length roster.now.classes)) }
+    ensures placed { IfOk result (λ m. IsTrue (list_all has_places m.slots)) }
     ensures indexed { IfOk result (λ m. IsIndex roster.now.classes m.index) }
     ensures ordered { IfOk result (λ m. AreSought roster.now.classes (length roster.now.classes) m.sought) }
 {
-    let slots = roster.fields_table(alloc)?;
+    let slots = placed_slots(alloc, roster)?;
     let index = MemberIndex::of(alloc, roster)?;
     let sought = roster.sought_table(alloc)?;
     Ok(Members {
@@ -112,9 +146,9 @@ impl<'a> World<'a> {
     /// # Errors
     ///
     /// The first rule that the classes break, rule by rule in the order of [`LinkFault`], and of a rule the first class
-    /// by its number; or want of memory.
+    /// by its number; or want of memory, of which instances with 2^32 and more fields are one case.
     pub fn link(alloc: Global, classes: Vec<ClassView<'a>>) -> Result<World<'a>, LinkFault>
-        requires count { length classes.items + 15 ≤ 65535 }
+        requires count { length classes.items + 15 ≤ 2 ^ 32 - 16 }
         requires read { AllByRecursion CanBeRead classes.items }
         ensures fault { Refuses result (link_fault (world_of classes.entry.items)) }
         ensures world { IfOk result (λ world. world.roster.classes ≡ world_of classes.entry.items) }

@@ -1,5 +1,5 @@
 //! The least typings of a program's methods.
-ghost use Rattle.std.specs.Prelude.{◌≡◌, ◌≤◌, IfOk, IfErr};
+ghost use Rattle.std.specs.Prelude.{◌≡◌, IfOk, IfErr};
 ghost use Rattle.std.specs.Option.{option_map};
 ghost use Rattle.jvm_values.specs.States.{types_of as seen};
 ghost use Rattle.class_program.specs.Views.{program_of};
@@ -46,11 +46,11 @@ impl Typing {
 
 /// The fault of the method of a number.
 fn no_typing(number: usize) -> VerifyFault
-    requires { number ≤ 4294967295 }
     ensures { Names number result }
 {
-    VerifyFault::NoTyping {
-        method: number as u32,
+    match u32::try_from(number) {
+        Ok(method) => VerifyFault::NoTyping { method },
+        Err(_) => VerifyFault::Memory,
     }
 }
 

@@ -2,8 +2,7 @@
 use Rattle.std.proofs.Common.{◌≡◌, ◌↔◌, ℕ, zero, suc, ◌+◌, ◌-◌, ◌<◌, ◌≤◌, Bool, true, false, cond, List, [], ◌∷◌, ◌++◌, length}
 use Rattle.std.proofs.Common.{replicate, ℤ, negsuc, Option, Some, None, Result, Ok, Err, subst, ap, arith, refl, ◌∙◌, sym, add-one}
 use Rattle.std.proofs.Common.{append_assoc, get_or, drop}
-use Rattle.std.specs.Prelude.{IsTrue, IsSome, OnOk, slice_get, nat_lt}
-use Rattle.std.proofs.lemmas.Bool.{false≢true, ltb-true, ltb-false}
+use Rattle.std.specs.Prelude.{IsTrue, OnOk, slice_get, nat_lt}
 use Rattle.std.proofs.lemmas.Bool.Decides.{nat_tests}
 use Rattle.std.proofs.lemmas.List.{at_drop_more, at_drop_all}
 use Rattle.std.proofs.lemmas.Option.{get_or_from_slice_get, slice_get_within}
@@ -16,13 +15,13 @@ use Rattle.descent.specs.declared.proof.ProofStep.{ProofStep}
 use Rattle.descent.specs.declared.proof.RankRule.{RankRule}
 use Rattle.descent.specs.declared.proof.RankRule.TheVariants.{Weak, Strict}
 use Rattle.descent.specs.declared.rules.PathRule.{PathRule}
-use Rattle.descent.specs.inner.Handing.{Gives, IsHanded, KeepsLate}
+use Rattle.descent.specs.inner.Handing.{Gives, IsHanded}
 use Rattle.descent.specs.Conditions.{AreOver}
 use Rattle.descent.specs.Splits.{edge_fault}
 use Rattle.descent.specs.Orders.{Says}
 use Rattle.descent.specs.Rankings.{minus_one, dead_fault}
 use Rattle.descent.specs.Steps.{Given, numbers_from, rule_of, listed_fault, dead_at, give, Refuses, go_on, try_step, set_of}
-use Rattle.descent.specs.Steps.{first_fault_from, given_first, proof_fault}
+use Rattle.descent.specs.Steps.{first_fault_from}
 
 pub leaves_one : (told : Bool) (sum : Sum) → (IsTrue told ↔ Leaves sum (negsuc 0)) → (IsTrue told ↔ Shows sum minus_one)
 leaves_one told sum h = (
@@ -93,43 +92,6 @@ walk_more rules steps step n given after all low is goes e =
 pub walk_last : (rules : List PathRule) (steps : List ProofStep) (n : ℕ) (given : Given) (all : Option StepFault) → length steps ≤ n
     → first_fault_from rules n given (drop n steps) ≡ all → all ≡ None
 walk_last rules steps n given all past e = sym e ∙ at_drop_all (first_fault_from rules n given) steps n past
-
-pub walk_first : (rules : List PathRule) (steps : List ProofStep) (count : ℕ) (given : Given) → length rules ≡ count → 1 ≤ length steps
-    → given ≡ given_first count (length steps) → first_fault_from rules 0 given (drop 0 steps) ≡ proof_fault rules steps
-walk_first rules [] count given c some is = absurd (omega (arith, some))
-walk_first rules (step ∷ rest) count given c some is = ap (λ (g : Given). first_fault_from rules 0 g (step ∷ rest))
-    (is ∙ ap (λ (k : ℕ). given_first k (suc (length rest))) (sym c))
-
--- steps behind all that can be named have no set, as a proof begins and later on, so none of them is walked past
-none_given : (count number : ℕ) → set_of (slice_get (replicate {A = Option (List ℕ)} count None) number) ≡ None
-none_given zero number = refl
-none_given (suc count) zero = refl
-none_given (suc count) (suc number) = none_given count number
-
-late_none : (rules steps number : ℕ) → 4294967296 ≤ number → set_of (slice_get (given_first rules steps) number) ≡ None
-late_none rules zero number low = refl
-late_none rules (suc steps) zero low = absurd (omega (arith, low))
-late_none rules (suc steps) (suc number) low = none_given steps number
-
-pub late_first : (rules steps : ℕ) (given : Given) → given ≡ given_first rules steps
-    → (number : ℕ) → 4294967296 ≤ number → set_of (slice_get given number) ≡ None
-late_first rules steps given is number low = ap (λ (g : Given). set_of (slice_get g number)) is ∙ late_none rules steps number low
-
-pub late_more : (old new : Given) → KeepsLate old new → ((number : ℕ) → 4294967296 ≤ number → set_of (slice_get old number) ≡ None)
-    → (number : ℕ) → 4294967296 ≤ number → set_of (slice_get new number) ≡ None
-late_more old new keeps late number low = ap set_of (keeps number low) ∙ late number low
-
-not_some : (set : Option (List ℕ)) → set ≡ None → IsSome set → ⊥
-not_some None e is = false≢true is
-not_some (Some set) e is = absurd (cc)
-
-pub early_more : (given : Given) (n : ℕ) → IsSome (set_of (slice_get given n))
-    → ((number : ℕ) → 4294967296 ≤ number → set_of (slice_get given number) ≡ None) → n + 1 ≤ 4294967296
-early_more given n named late = tested (nat_lt n 4294967296) refl
-  where
-    tested : (test : Bool) → nat_lt n 4294967296 ≡ test → n + 1 ≤ 4294967296
-    tested true e = let low = ltb-true n 4294967296 e in omega (arith, low)
-    tested false e = absurd (not_some (set_of (slice_get given n)) (late n (ltb-false n 4294967296 e)) named)
 
 -- the walk over a set and the listed rules
 same_number : (low high : Bool) (x n : ℕ) (a b : DescentFault) (here later all : Option DescentFault) → nat_lt x n ≡ low

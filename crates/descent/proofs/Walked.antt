@@ -18,7 +18,6 @@ use Rattle.descent.specs.declared.proof.RankStep.{RankStep}
 use Rattle.descent.specs.declared.rules.PathRule.{PathRule}
 use Rattle.descent.specs.Chains.{Turn, IsTurn, Follows, ChainsEnd, NoInfiniteChain}
 use Rattle.descent.specs.Conditions.{AreRules, AreSteps, IsStep, IsRanked}
-use Rattle.descent.specs.inner.Handing.{KeepsLate}
 use Rattle.descent.specs.lemmas.RankingLaws.{ranking_laws, no_weights}
 use Rattle.descent.specs.Laws.{start_value, end_value}
 use Rattle.descent.specs.Rankings.{weak_fault, strict_fault, bounded_fault, takes_start, takes_end, minus_one, dead_fault}
@@ -111,15 +110,6 @@ set_other (x ∷ rest) zero zero set other = absurd (other refl)
 set_other (x ∷ rest) zero (suc j) set other = refl
 set_other (x ∷ rest) (suc n) zero set other = refl
 set_other (x ∷ rest) (suc n) (suc j) set other = set_other rest n j set (λ e. other (ap suc e))
-
--- steps whose numbers have more than 32 bits keep what they have
-pub keeps_late : (given : Given) (step : ℕ) (set : List ℕ) (number : ℕ) → step < 4294967296 → 4294967296 ≤ number
-    → slice_get (slice_set given step (Some set)) number ≡ slice_get given number
-keeps_late given step set number low high = set_other given step number set (λ e. absurd (omega (arith, low, high, e)))
-
-pub late_kept : (given mid after : Given) (number : ℕ) → KeepsLate given mid → KeepsLate mid after → 4294967296 ≤ number
-    → slice_get after number ≡ slice_get given number
-late_kept given mid after number first rest late = rest number late ∙ first number late
 
 set_length : (given : Given) (n : ℕ) (set : List ℕ) → length (slice_set given n (Some set)) ≡ length given
 set_length [] n set = refl

@@ -1,5 +1,5 @@
 -- The steps of a proof, tested one by one, and the first fault.
-use Rattle.std.specs.Prelude.{ℕ, zero, suc, ◌≡◌, ◌≤◌, ◌==◌, ◌&&◌, not, Bool, true, false, List, [], ◌∷◌, Option, Some, None, Result}
+use Rattle.std.specs.Prelude.{ℕ, zero, suc, ◌≡◌, ◌==◌, ◌&&◌, not, Bool, true, false, List, [], ◌∷◌, Option, Some, None, Result}
 use Rattle.std.specs.Prelude.{if◌then◌else◌, nat_lt, slice_get, slice_set, length, filter, replicate, ℤ}
 use Rattle.std.specs.List.{filter_map}
 pub use Rattle.list_views.specs.Lists.{numbers_from}
@@ -165,11 +165,6 @@ Closed rules proof = proof_fault rules proof.steps ≡ None
 abbrev pub is_memory : StepFault → Bool
 is_memory Memory = true
 is_memory fault = false
-
--- a fault is that of a step before or right behind those that a step can name: numbers of steps have 32 bits
-abbrev pub IsEarly : StepFault → Type 0
-IsEarly Memory = Unit {0}
-IsEarly (At step fault) = step ≤ 4294967296
 
 -- an answer says what the proof's first fault is; want of memory says nothing
 abbrev pub Refuses : Result (Unit {0}) StepFault → Option StepFault → Type 0

@@ -1,14 +1,12 @@
 //! The check of a proof.
-ghost use Rattle.std.specs.Prelude.{◌≡◌, ◌≤◌, ℕ, Option, Some, None, OnOk, IfErr, IsSome, length, slice_get};
+ghost use Rattle.std.specs.Prelude.{◌≡◌, ◌≤◌, ℕ, Option, Some, None, OnOk, length, slice_get};
 ghost use Rattle.lin_core.specs.Sums.{variables};
-ghost use Rattle.descent.specs.declared.faults.DescentFault.TheVariants.{BadStep};
 ghost use Rattle.descent.specs.declared.faults.StepFault.{StepFault};
-ghost use Rattle.descent.specs.declared.faults.StepFault.TheVariants.{At};
 ghost use Rattle.descent.specs.Chains.{ChainsEnd, NoInfiniteChain};
 ghost use Rattle.descent.specs.Conditions.{AreRules, AreSteps, IsStep};
 ghost use Rattle.descent.specs.Conditions.{AreOver};
-ghost use Rattle.descent.specs.inner.Handing.{GoesOn, KeepsLate};
-ghost use Rattle.descent.specs.Steps.{Given, IsEarly, try_step, set_of, proof_fault, Refuses};
+ghost use Rattle.descent.specs.inner.Handing.{GoesOn};
+ghost use Rattle.descent.specs.Steps.{Given, try_step, set_of, proof_fault, Refuses};
 
 use crate::faults::{DescentFault, StepFault};
 use crate::given::{given_first, hand_on, set_of};
@@ -33,21 +31,11 @@ pub fn most_variables(rules: &[PathRule]) -> u32
     most
 }
 
-/// The fault of a step that is badly named, or names others badly.
-fn bad_step(number: usize) -> StepFault
-    ensures { result ≡ At number BadStep }
-{
-    StepFault::At {
-        step: number as u64,
-        fault: DescentFault::BadStep,
-    }
-}
-
 /// Tests one step for the set that it was given, and gives the sets that it leaves to the steps that it names.
 fn try_step(
     alloc: Global,
     rules: &[PathRule],
-    number: usize,
+    number: u32,
     step: &ProofStep,
     given: &mut Vec<Option<Seq<u32>>>,
     scratch: &mut Scratch,
@@ -58,20 +46,23 @@ fn try_step(
     ensures answer { (next : Given → Option StepFault)
         → GoesOn result (try_step rules.now number step.now given.old.items (set_of (slice_get given.old.items number)) next)
         (next given.new.items) }
-    ensures late { KeepsLate given.old.items given.new.items }
-    ensures named { OnOk result (IsSome (set_of (slice_get given.old.items number))) }
-    ensures place { number ≤ 4294967296 → IfErr result IsEarly }
     ensures over { variables scratch.new ≡ variables scratch.old }
 {
     let Some(set) = set_of(alloc, given, number)? else {
-        return Err(bad_step(number));
+        return Err(StepFault::At {
+            step: number,
+            fault: DescentFault::BadStep,
+        });
     };
     if !hand_on(alloc, number, set.as_slice(), step, given)? {
-        return Err(bad_step(number));
+        return Err(StepFault::At {
+            step: number,
+            fault: DescentFault::BadStep,
+        });
     }
     match step_fault(alloc, rules, set.as_slice(), step, scratch)? {
         Some(fault) => Err(StepFault::At {
-            step: number as u64,
+            step: number,
             fault,
         }),
         None => Ok(()),
@@ -90,13 +81,13 @@ fn walk(
     requires count { length rules.now ≡ count }
     requires steps { AreSteps steps.now }
     requires some { 1 ≤ length steps.now }
+    requires few { length steps.now ≤ 4294967295 }
     requires room { AreOver (variables scratch.old) rules.now }
-    ensures answer { Refuses result (proof_fault rules.now steps.now) }
-    ensures place { IfErr result IsEarly }
+    ensures { Refuses result (proof_fault rules.now steps.now) }
 {
     let mut given = given_first(alloc, count, steps.len())?;
     for (n, step) in steps.iter().enumerate() {
-        try_step(alloc, rules, n, step, &mut given, scratch)?;
+        try_step(alloc, rules, n as u32, step, &mut given, scratch)?;
     }
     Ok(())
 }
@@ -105,14 +96,18 @@ fn walk(
 fn check_steps(alloc: Global, rules: &[PathRule], steps: &[ProofStep]) -> Result<(), StepFault>
     requires rules { AreRules rules.now }
     requires steps { AreSteps steps.now }
-    requires few { length rules.now ≤ 4294967295 }
     ensures answer { Refuses result (proof_fault rules.now steps.now) }
-    ensures place { IfErr result IsEarly }
     ensures ends { OnOk result (ChainsEnd rules.now) }
     ensures no_infinite { OnOk result (NoInfiniteChain rules.now) }
 {
     if steps.is_empty() {
-        return Err(bad_step(0));
+        return Err(StepFault::At {
+            step: 0,
+            fault: DescentFault::BadStep,
+        });
+    }
+    if steps.len() > u32::MAX as usize || rules.len() > u32::MAX as usize {
+        return Err(StepFault::Memory);
     }
     let mut scratch = Scratch::new(alloc, most_variables(rules))?;
     walk(alloc, rules, rules.len() as u32, steps, &mut scratch)
@@ -124,14 +119,11 @@ fn check_steps(alloc: Global, rules: &[PathRule], steps: &[ProofStep]) -> Result
 /// # Errors
 ///
 /// The first step that breaks a rule, with the rule that it breaks first: a bad naming of steps comes before all others, and
-/// else the faults come by the rules' numbers. A step that no step can name, as one past 2^32, has no set, so no later one has the
-/// fault. Want of memory.
+/// else the faults come by the rules' numbers. Want of memory, which also answers more rules or steps than 32 bits count.
 pub fn check_proof(alloc: Global, rules: &[PathRule], proof: &Proof) -> Result<(), StepFault>
     requires rules { AreRules rules.now }
     requires steps { AreSteps proof.now.steps }
-    requires few { length rules.now ≤ 4294967295 }
     ensures answer { Refuses result (proof_fault rules.now proof.now.steps) }
-    ensures place { IfErr result IsEarly }
     ensures ends { OnOk result (ChainsEnd rules.now) }
     ensures no_infinite { OnOk result (NoInfiniteChain rules.now) }
 {

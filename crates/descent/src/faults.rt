@@ -52,7 +52,7 @@ pub enum StepFault {
     /// The step breaks a rule.
     At {
         /// The step.
-        step: u64,
+        step: u32,
         /// The rule that it breaks first.
         fault: DescentFault,
     },

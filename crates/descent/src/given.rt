@@ -1,7 +1,7 @@
 //! The sets that steps are given, by the steps' numbers.
 ghost use Rattle.std.specs.Prelude.{◌≡◌, ◌≤◌, List, Option, Some, None, IfOk, slice_get};
 ghost use Rattle.std.specs.List.{filter_map};
-ghost use Rattle.descent.specs.inner.Handing.{Gives, IsHanded, KeepsLate};
+ghost use Rattle.descent.specs.inner.Handing.{Gives, IsHanded};
 ghost use Rattle.descent.specs.Steps.{given_first, is_free, give, set_of, leaves, part_left, parts_left, same_option};
 
 use crate::proof::ProofStep;
@@ -38,11 +38,11 @@ pub fn given_first(
 pub fn set_of(
     alloc: Global,
     given: &[Option<Seq<u32>>],
-    number: usize,
+    number: u32,
 ) -> Result<Option<Seq<u32>>, AllocError>
     ensures { IfOk result (λ set. set ≡ set_of (slice_get given.now number)) }
 {
-    match given.get(number) {
+    match given.get(number as usize) {
         Some(Some(set)) => Ok(Some(Seq::from_slice(alloc, set.as_slice())?)),
         _ => Ok(None),
     }
@@ -59,12 +59,10 @@ fn is_free(given: &[Option<Seq<u32>>], step: u32) -> bool
 }
 
 /// Gives a set to a step, where step `number` may name it, and says whether it may.
-#[tactic(auto, using(crate::proofs::Walked::keeps_late))]
-fn give(number: usize, step: u32, set: Seq<u32>, given: &mut Vec<Option<Seq<u32>>>) -> bool
-    ensures done { Gives number (Some (step, set)) result given.old.items given.new.items }
-    ensures late { KeepsLate given.old.items given.new.items }
+fn give(number: u32, step: u32, set: Seq<u32>, given: &mut Vec<Option<Seq<u32>>>) -> bool
+    ensures { Gives number (Some (step, set)) result given.old.items given.new.items }
 {
-    if step as usize <= number || !is_free(given, step) {
+    if step <= number || !is_free(given, step) {
         return false;
     }
     given[step as usize] = Some(set);
@@ -74,14 +72,13 @@ fn give(number: usize, step: u32, set: Seq<u32>, given: &mut Vec<Option<Seq<u32>
 /// Gives the rules of a part to the step that takes it, if one does.
 fn give_part(
     alloc: Global,
-    number: usize,
+    number: u32,
     set: &[u32],
     part: &[u32],
     step: Option<u32>,
     given: &mut Vec<Option<Seq<u32>>>,
 ) -> Result<bool, AllocError>
-    ensures done { IfOk result (λ done. Gives number (part_left set.now part.now step) done given.old.items given.new.items) }
-    ensures late { KeepsLate given.old.items given.new.items }
+    ensures { IfOk result (λ done. Gives number (part_left set.now part.now step) done given.old.items given.new.items) }
 {
     match step {
         Some(step) => Ok(give(number, step, within(alloc, part, set)?, given)),
@@ -90,19 +87,17 @@ fn give_part(
 }
 
 /// Gives the parts of a split to the steps that take them.
-#[tactic(auto, using(crate::proofs::Walked::late_kept))]
 fn give_parts(
     alloc: Global,
-    number: usize,
+    number: u32,
     set: &[u32],
     parts: &[Seq<u32>],
     steps: &[Option<u32>],
     given: &mut Vec<Option<Seq<u32>>>,
 ) -> Result<bool, AllocError>
-    ensures done { IfOk result
+    ensures { IfOk result
         (λ done. IsHanded done (give number (filter_map same_option (parts_left set.now parts.now steps.now)) given.old.items)
         given.new.items) }
-    ensures late { KeepsLate given.old.items given.new.items }
 {
     for (n, part) in parts.iter().enumerate() {
         let Some(step) = steps.get(n) else {
@@ -122,13 +117,12 @@ fn give_parts(
 /// Want of memory.
 pub(crate) fn hand_on(
     alloc: Global,
-    number: usize,
+    number: u32,
     set: &[u32],
     step: &ProofStep,
     given: &mut Vec<Option<Seq<u32>>>,
 ) -> Result<bool, AllocError>
-    ensures done { IfOk result (λ done. IsHanded done (give number (leaves set.now step.now) given.old.items) given.new.items) }
-    ensures late { KeepsLate given.old.items given.new.items }
+    ensures { IfOk result (λ done. IsHanded done (give number (leaves set.now step.now) given.old.items) given.new.items) }
 {
     match step {
         ProofStep::Empty => Ok(true),

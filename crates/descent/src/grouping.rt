@@ -115,11 +115,13 @@ fn put_all(alloc: Global, table: &[Seq<bool>]) -> Result<Seq<Seq<u32>>, AllocErr
 ///
 /// # Errors
 ///
-/// Want of memory.
+/// Want of memory, which also answers more rules than 32 bits count.
 pub fn components(alloc: Global, rules: &[PathRule]) -> Result<Seq<Seq<u32>>, AllocError>
-    requires { length rules.now ≤ 4294967295 }
     ensures { IfOk result (λ classes. AreClasses rules.now classes) }
 {
+    if rules.len() > u32::MAX as usize {
+        return Err(AllocError);
+    }
     let table = table(alloc, rules)?;
     put_all(alloc, table.as_slice())
 }

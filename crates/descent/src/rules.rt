@@ -6,11 +6,11 @@ use list_views::Seq;
 #[derive(Clone, Copy, PartialEq, Eq)]
 pub struct Place {
     /// The frame, the bottom one being 0.
-    pub frame: usize,
+    pub frame: u32,
     /// Whether it is a stack entry; else it is a local.
     pub stack: bool,
     /// The number of the stack entry, from the bottom, or of the local.
-    pub index: usize,
+    pub index: u32,
 }
 
 /// The int or the size that an id has at an end of a rule, as a sum over the rule's variables.

@@ -2,7 +2,7 @@
 use Rattle.std.proofs.Common.{◌≡◌, ◌≢◌, ℕ, ◌+◌, ◌≤◌, ◌<◌, Bool, true, false, cond, eqb, List, [], ◌∷◌, ◌++◌, length, length-append}
 use Rattle.std.proofs.Common.{map, Option, Some, None, Ok, refl, sym, ap, subst, ◌∙◌, arith}
 use Rattle.std.specs.Prelude.{All, not, ◌&&◌, slice_get, is_some}
-use Rattle.std.specs.List.{list_all, position_from, AllByRecursion}
+use Rattle.std.specs.List.{list_all, position_from}
 use Rattle.std.specs.Option.{option_map_or}
 use Rattle.std.proofs.lemmas.Bool.{false≢true, and_parts, not-true, not-false, eqb-false}
 use Rattle.std.proofs.lemmas.List.{length-map}
@@ -14,10 +14,7 @@ use Rattle.jvm_values.specs.declared.types.Slot.{Slot}
 use Rattle.jvm_values.specs.declared.types.Slot.TheVariants as slots
 use Rattle.jvm_values.specs.Slots.{is_reference_slot}
 use Rattle.class_world.specs.World.{World}
-use Rattle.class_program.specs.declared.program.Method.{Method}
-use Rattle.class_program.specs.Good.{HasFewParams, IsGood}
 use Rattle.class_program.specs.Programs.{Program}
-use Rattle.class_program.proofs.Got.{all_at}
 use Rattle.input_text.specs.declared.fault.DescFault.TheVariants.{EmptyInterval, UnknownType, BadPair}
 use Rattle.input_text.specs.declared.texts.InputText.{InputText}
 use Rattle.input_text.specs.declared.texts.DescText.{DescText}
@@ -79,26 +76,6 @@ found_are_there p texts' pairs found l h =
     let fine = later_clean p texts' pairs h.0 in
     ap (list_all is_some) h.1 ∙ both_there 0 (slots_of p) (inputs_from p.world (slots_of p) texts')
     (inputs_count p.world (slots_of p) texts' l) fine.ints fine.types
-
--- a program has at most 511 inputs: its entry has at most 255 parameters, and it has at most 256 static fields
-pub slots_few : (p : Program) → IsGood p → AllByRecursion HasFewParams p.methods → length (slots_of p) ≤ 512
-slots_few p good params =
-    let entry : length (params_of p) ≤ 255 =
-    subst (λ (o : Option Method). length (option_map_or (λ (m : Method). m.params) o []) ≤ 255) (sym good.first.1)
-    (all_at HasFewParams p.methods 0 good.first.0 params good.first.1) in
-    let fields = good.few in
-    omega (
-      arith,
-      entry,
-      fields,
-      length-append (map argument_slot (params_of p)) (statics_of p),
-      length-map (params_of p) argument_slot,
-      length-map p.statics field_slot,
-    )
-
-pub found_few : (p : Program) (texts' : List InputText) (pairs : List (ℕ × ℕ)) (found : List (Option Input))
-    → length texts' ≡ length (slots_of p) → length (slots_of p) ≤ 512 → Finds p texts' pairs (Ok found) → length found ≤ 512
-found_few p texts' pairs found l few h = omega (arith, ap length h.1, inputs_count p.world (slots_of p) texts' l, few)
 
 -- ---- pairs
 

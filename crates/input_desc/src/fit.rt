@@ -1,9 +1,8 @@
 //! Descriptions against a program.
-ghost use Rattle.std.specs.Prelude.{◌≡◌, ◌≤◌, ◌++◌, IfOk, IsTrue, length, is_some};
+ghost use Rattle.std.specs.Prelude.{◌≡◌, ◌++◌, IfOk, IsTrue, length, is_some};
 ghost use Rattle.std.specs.List.{list_all, position_from};
 ghost use Rattle.class_world.specs.Worlds.{classes_of};
 ghost use Rattle.class_program.specs.Views.{program_of};
-ghost use Rattle.abs_cells.specs.Limits.{most_ids};
 ghost use Rattle.input_desc.specs.Due.{IsMemoryOr};
 ghost use Rattle.input_desc.specs.Given.{slots_of};
 ghost use Rattle.input_desc.specs.Typed.{first_unfit};
@@ -16,6 +15,7 @@ use crate::desc::{Desc, Input};
 use crate::given::inputs;
 use crate::names::type_named;
 use crate::there::all_there;
+use abs_cells::MOST_IDS;
 use abs_cells::lin_core::Interval;
 use class_base::{STATIC, has_flag};
 use class_program::Program;
@@ -303,7 +303,7 @@ fn described(
     }
 }
 
-/// A description of inputs all of which are there. Each is an id of abstract states, of which there are at most 512.
+/// A description of inputs all of which are there. Each is an id of abstract states, so there are at most `MOST_IDS`.
 #[tactic(auto, using(crate::proofs::GoodDescs::few_made))]
 fn made(
     alloc: Global,
@@ -311,10 +311,12 @@ fn made(
     same: Seq<(u32, u32)>,
     share: Seq<(u32, u32)>,
 ) -> Result<Desc, DescFault>
-    requires there { IsTrue (list_all is_some found) }
-    requires few { length found ≤ most_ids }
+    requires { IsTrue (list_all is_some found) }
     ensures { IsMemoryOr result (λ desc. IsMade found same share desc) }
 {
+    if found.len() > MOST_IDS {
+        return Err(DescFault::Memory);
+    }
     Ok(Desc {
         inputs: all_there(alloc, found)?,
         same,
@@ -331,8 +333,7 @@ fn fitting(
     same: Seq<(u32, u32)>,
     share: Seq<(u32, u32)>,
 ) -> Result<Desc, DescFault>
-    requires count { length texts.now ≡ length (slots_of (program_of program.now)) }
-    requires few { length (slots_of (program_of program.now)) ≤ most_ids }
+    requires { length texts.now ≡ length (slots_of (program_of program.now)) }
     ensures { Fitted (program_of program.now) texts.now same share result }
 {
     let pairs = pairs_of(alloc, same.as_slice(), share.as_slice())?;
@@ -350,8 +351,7 @@ fn fitted(
     same: Seq<(u32, u32)>,
     share: Seq<(u32, u32)>,
 ) -> Result<Desc, DescFault>
-    requires count { length texts.now ≡ length (slots_of (program_of program.now)) }
-    requires few { length (slots_of (program_of program.now)) ≤ most_ids }
+    requires { length texts.now ≡ length (slots_of (program_of program.now)) }
     ensures made { Fitted (program_of program.now) texts.now same share result }
     ensures good { IfOk result (IsGoodDesc (program_of program.now)) }
 {
@@ -382,7 +382,8 @@ impl Desc {
     ///
     /// `ParamCount`, `StaticCount`; `ParamKind` of the first input of another kind, a receiver that may be null included;
     /// `EmptyInterval` of the first number that has no int; `UnknownType` of the first reference whose type is none of the
-    /// world, or not below the declared one; `BadPair` of the first pair; in this order. Want of memory.
+    /// world, or not below the declared one; `BadPair` of the first pair; in this order. Want of memory, of which more than
+    /// 512 inputs are one case.
     pub fn fit(alloc: Global, text: DescText, program: &Program<'_>) -> Result<Desc, DescFault>
         ensures described { Describes (program_of program.now) text result }
         ensures good { IfOk result (IsGoodDesc (program_of program.now)) }

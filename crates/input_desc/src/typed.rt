@@ -31,10 +31,10 @@ pub(crate) fn object(world: &World<'_>, text: ObjectText) -> Option<Object>
 }
 
 /// The object of a number, where it is there.
-fn object_at(objects: &[Option<Object>], number: usize) -> Option<&Object>
+fn object_at(objects: &[Option<Object>], number: u32) -> Option<&Object>
     ensures { option_copied result ≡ object_at objects.now number }
 {
-    match objects.get(number) {
+    match objects.get(number as usize) {
         Some(Some(object)) => Some(object),
         Some(None) => None,
         None => None,

@@ -1,5 +1,5 @@
 //! Whether what is given to a program is what a description says.
-ghost use Rattle.std.specs.Prelude.{◌≡◌, ◌↔◌, ◌++◌, length, All, IfOk, IsTrue};
+ghost use Rattle.std.specs.Prelude.{◌≡◌, ◌<◌, ◌^◌, ◌↔◌, ◌++◌, length, All, IfOk, IsTrue};
 ghost use Rattle.class_program.specs.Views.{program_of};
 ghost use Rattle.class_world.specs.Worlds.{classes_of};
 ghost use Rattle.class_world.specs.WorldTypes.{types_of};
@@ -38,6 +38,7 @@ fn fit_together(
 ) -> Result<bool, AllocError>
     requires closed { IsClosed heap.now }
     requires in_heap { All (IsInHeap (length heap.now.objects)) values.now }
+    requires count { length heap.now.objects < 2 ^ 32 }
     ensures { IfOk result (λ answer. IsTrue answer ↔ FitTogether (types_of (classes_of world.now)) desc.now heap.now values.now) }
 {
     let same = desc.same.as_slice();
@@ -58,7 +59,7 @@ fn fit_together(
 ///
 /// # Errors
 ///
-/// Want of memory.
+/// Want of memory, also where the heap has more objects than there are numbers.
 pub fn fits(
     alloc: Global,
     program: &Program<'_>,
@@ -72,6 +73,9 @@ pub fn fits(
 {
     program.is_good();
     typed_heaps_are_closed();
+    if heap.objects.len() >= 4_294_967_296 {
+        return Err(AllocError);
+    }
     let places = program.methods.at(0).max_locals;
     if args.len() > usize::from(places) {
         return Ok(false);

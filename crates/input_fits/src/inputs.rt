@@ -42,7 +42,7 @@ fn has_type(world: &World<'_>, heap: &Heap, value: Value, t: Ty) -> bool
     match value {
         Value::Int(_) => false,
         Value::Null => true,
-        Value::Ref(r) => match heap.objects.get(r) {
+        Value::Ref(r) => match heap.objects.get(r as usize) {
             Some(object) => is_object_below(world, object, t),
             None => false,
         },

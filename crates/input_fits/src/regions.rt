@@ -1,5 +1,5 @@
 //! Whether inputs reach one object only where they are listed as a pair.
-ghost use Rattle.std.specs.Prelude.{◌≡◌, ◌<◌, ◌↔◌, length, All, Contains, IfOk, IsTrue};
+ghost use Rattle.std.specs.Prelude.{◌≡◌, ◌<◌, ◌^◌, ◌↔◌, length, All, Contains, IfOk, IsTrue};
 ghost use Rattle.std.specs.List.{AllZip};
 ghost use Rattle.jvm_values.specs.Heaps.{IsInHeap, IsClosed};
 ghost use Rattle.jvm_heaps.specs.Regions.{RiseFrom, IsRegion};
@@ -17,9 +17,10 @@ pub(crate) fn regions(
     alloc: Global,
     heap: &Heap,
     values: &[Value],
-) -> Result<Seq<Seq<usize>>, AllocError>
+) -> Result<Seq<Seq<u32>>, AllocError>
     requires closed { IsClosed heap.now }
     requires in_heap { All (IsInHeap (length heap.now.objects)) values.now }
+    requires count { length heap.now.objects < 2 ^ 32 }
     ensures { IfOk result (λ found. AllZip (IsRegion heap.now) values.now found) }
 {
     let mut found = Seq::new(alloc);
@@ -30,7 +31,7 @@ pub(crate) fn regions(
 }
 
 /// Whether a number stands among numbers that rise.
-fn has(numbers: &[usize], number: usize) -> bool
+fn has(numbers: &[u32], number: u32) -> bool
     requires { RiseFrom 0 numbers.now }
     ensures { IsTrue result ↔ Contains numbers.now number }
 {
@@ -38,7 +39,7 @@ fn has(numbers: &[usize], number: usize) -> bool
 }
 
 /// Whether a number stands in both of two lists, of which the second rises.
-fn have_common(a: &[usize], b: &[usize]) -> bool
+fn have_common(a: &[u32], b: &[u32]) -> bool
     requires { RiseFrom 0 b.now }
     ensures { IsTrue result ↔ HaveCommon a.now b.now }
 {
@@ -51,7 +52,7 @@ fn have_common(a: &[usize], b: &[usize]) -> bool
 }
 
 /// Whether two lists, of which the second rises, have no number in common, or their own numbers are listed as a pair.
-fn may_share(a: &[usize], b: &[usize], pairs: &[(u32, u32)], i: usize, j: usize) -> bool
+fn may_share(a: &[u32], b: &[u32], pairs: &[(u32, u32)], i: usize, j: usize) -> bool
     requires { RiseFrom 0 b.now }
     ensures { IsTrue result ↔ (HaveCommon a.now b.now → IsListed i j pairs.now) }
 {
@@ -63,7 +64,7 @@ fn may_share(a: &[usize], b: &[usize], pairs: &[(u32, u32)], i: usize, j: usize)
 }
 
 /// Whether the lists before a place have a number in common with the list there only where they are listed with that place.
-fn are_listed_with(lists: &[Seq<usize>], pairs: &[(u32, u32)], i: usize) -> bool
+fn are_listed_with(lists: &[Seq<u32>], pairs: &[(u32, u32)], i: usize) -> bool
     requires place { i < length lists.now }
     requires rise { All (RiseFrom 0) lists.now }
     ensures { IsTrue result ↔ AreListedWith HaveCommon lists.now pairs.now i i }
@@ -77,7 +78,7 @@ fn are_listed_with(lists: &[Seq<usize>], pairs: &[(u32, u32)], i: usize) -> bool
 }
 
 /// Whether two lists have a number in common only where they are listed as a pair.
-pub(crate) fn are_shared_listed(lists: &[Seq<usize>], pairs: &[(u32, u32)]) -> bool
+pub(crate) fn are_shared_listed(lists: &[Seq<u32>], pairs: &[(u32, u32)]) -> bool
     requires { All (RiseFrom 0) lists.now }
     ensures { IsTrue result ↔ AreListed HaveCommon lists.now pairs.now }
 {

@@ -2,11 +2,10 @@
 use Rattle.std.specs.Prelude.{ℕ, List, [], ◌∷◌, ◌++◌, codes}
 use Rattle.std.specs.Fmt.{decimal}
 use Rattle.list_views.specs.FaultWords.{joined}
-use Rattle.list_views.specs.Shown.{method_text}
 use Rattle.asm_lines.specs.Faults.{fault_text as listing_fault_text}
 use Rattle.its_front.specs.Faults.{fault_text as its_fault_text}
 use Rattle.class_read.specs.Faults.{fault_text as class_fault_text}
-use Rattle.class_world.specs.Faults.{fault_text as link_fault_text}
+use Rattle.class_world.specs.Faults.{method_pieces, fault_text as link_fault_text}
 use Rattle.class_world.specs.declared.fault.MethodName.{MethodName}
 use Rattle.input_text.specs.Faults.{fault_text as desc_fault_text}
 use Rattle.call_graph.specs.Faults.{fault_text as call_fault_text}
@@ -28,7 +27,7 @@ place_text Verify = codes "verify"
 
 -- the fault of a method that has no typing, with the method as `CLASS.NAMEDESC`
 abbrev pub untyped_text : MethodName → List ℕ
-untyped_text method = joined (codes "NoTyping method=" ∷ method_text method.class method.name method.desc ∷ [])
+untyped_text method = joined (codes "NoTyping method=" ∷ method_pieces method.class method.name method.desc [])
 
 -- a fault as lines name it: each crate puts its own faults into words
 abbrev pub fault_text : Fault → List ℕ

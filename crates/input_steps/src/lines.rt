@@ -6,20 +6,22 @@ use crate::refused::{Fault, Place};
 use class_world::MethodName;
 use list_views::Seq;
 use list_views::fault_words::joined;
-use list_views::shown::method_text;
 use std::alloc::{AllocError, Global};
 
 /// A method without a typing, in words.
 fn untyped_text(alloc: Global, method: &MethodName) -> Result<Seq<u8>, AllocError>
     ensures { IfOk result (λ text. text ≡ untyped_text method.now) }
 {
-    let text = method_text(
+    joined(
         alloc,
-        method.class.as_slice(),
-        method.name.as_slice(),
-        method.desc.as_slice(),
-    )?;
-    joined(alloc, &[b"NoTyping method=", text.as_slice()])
+        &[
+            b"NoTyping method=",
+            method.class.as_slice(),
+            b".",
+            method.name.as_slice(),
+            method.desc.as_slice(),
+        ],
+    )
 }
 
 impl Fault {

@@ -20,7 +20,7 @@ fn reference(alloc: Global, view: &View<'_, '_>) -> Result<Value, JsonFault>
     view.only(alloc, "ref")?;
     let field = view.field(alloc, "ref")?;
     let number = fields::number(alloc, &field)?;
-    Ok(Value::Ref(number as usize))
+    Ok(Value::Ref(number))
 }
 
 /// What a value is that isn't null and no int, where this is the fault of reading it as an int.

@@ -6,11 +6,10 @@ use Rattle.io_ports.specs.Count.{counted}
 use Rattle.io_ports.specs.Told.{Told}
 use Rattle.io_ports.specs.Told.Told.{Absent, Content}
 
--- the names and contents that are held, which calls fail, which reads gave a content, how many calls there were and how many failed
+-- the names and contents that are held, which calls fail, how many there were and how many failed
 pub record Shelf : Type 0 where
   pub files : List (List ℕ × List ℕ)
   pub failing : List ℕ
-  pub handed : List (List ℕ × List ℕ)
   pub calls : ℕ
   pub faults : ℕ
 
@@ -23,12 +22,11 @@ content_of (file ∷ files) name = if bytes_eq file.0 name then Content file.1 e
 abbrev pub is_failing : Shelf → Bool
 is_failing s = list_any (λ call. call == s.calls) s.failing
 
--- the files after a call, with the reads that gave a content until then
-abbrev pub after_read : Shelf → List (List ℕ × List ℕ) → Shelf
-after_read s handed = record {
+-- the files after a call
+abbrev pub after_read : Shelf → Shelf
+after_read s = record {
   files = s.files;
   failing = s.failing;
-  handed = handed;
   calls = counted s.calls;
   faults = if is_failing s then counted s.faults else s.faults;
 }

@@ -1,5 +1,5 @@
 //! Files that are read whole, by name.
-ghost use Rattle.std.specs.Prelude.{◌≡◌, ◌≤◌, ◌^◌, ◌∷◌, ◌++◌, [], ℕ, List, length, IfOk, IsOk, IsErrOf, OnErr};
+ghost use Rattle.std.specs.Prelude.{◌≡◌, ◌≤◌, ◌^◌, ℕ, List, length, IfOk, IsOk, IsErrOf};
 ghost use Rattle.io_ports.specs.Count.{Rose};
 ghost use Rattle.io_ports.specs.FileFault.{fault_name};
 ghost use Rattle.io_ports.specs.Told.{Told, IsContent, IsPastLimit, IsNotHeld};
@@ -60,11 +60,6 @@ pub trait Files {
     /// What is told of the content under a name.
     ghost held: { Self → List ℕ → Told };
 
-    /// The reads so far that gave a content, in their order: each name, with the bytes that were handed over. It grows by reads
-    /// alone, of files that tell their contents and of those that tell nothing, so that a caller's contract can name the bytes
-    /// that it was handed.
-    ghost handed: { Self → List (List ℕ × List ℕ) };
-
     /// How often reading has failed. The count never falls.
     ghost faults: { Self → ℕ };
 
@@ -91,9 +86,6 @@ pub trait Files {
         ensures too_long_is_no_fault { IsErrOf result FileFault.TooLong → faults self.new ≡ faults self.old }
         ensures missing_is_no_fault { IsErrOf result FileFault.Missing → faults self.new ≡ faults self.old }
         ensures keeps { held self.new ≡ held self.old }
-        // What it gives is put on record, and nothing else.
-        ensures hands { IfOk result (λ content. handed self.new ≡ handed self.old ++ (name.now, content.items) ∷ []) }
-        ensures hands_nothing { OnErr result (handed self.new ≡ handed self.old) }
         ensures counts { faults self.old ≤ faults self.new }
         ensures leaves { leaves self.old name.now self.new };
 }

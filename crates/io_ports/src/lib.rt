@@ -4,7 +4,6 @@
 #![tactic(auto)]
 
 mod files;
-mod handed;
 mod memory_files;
 mod memory_sink;
 mod real_files;
@@ -12,7 +11,6 @@ mod sink;
 mod std_sink;
 
 pub use files::{FileFault, Files};
-pub use handed::{Handed, Taken};
 pub use memory_files::MemoryFiles;
 pub use memory_sink::MemorySink;
 pub use real_files::RealFiles;

@@ -1,9 +1,9 @@
 //! Files in memory, that fail where they are told to.
-ghost use Rattle.std.specs.Prelude.{◌≡◌, [], map, string_bytes, MatchOption};
+ghost use Rattle.std.specs.Prelude.{◌≡◌, map, string_bytes, MatchOption};
 ghost use Rattle.io_ports.specs.MemoryFiles.{content_of};
 ghost use Rattle.io_ports.specs.Told.Told.{Absent, Content};
 
-use crate::{FileFault, Files, Handed};
+use crate::{FileFault, Files};
 use std::alloc::Global;
 use std::marker::Model;
 
@@ -12,7 +12,6 @@ use std::marker::Model;
 pub struct MemoryFiles {
     files: Vec<(String, Vec<u8>)>,
     failing: Vec<u64>,
-    handed: Handed,
     calls: u64,
     faults: u64,
 }
@@ -26,7 +25,6 @@ impl Model for MemoryFiles {
     ghost view = { λ s. record {
       files = map (λ file. (string_bytes file.0, file.1.items)) s.files.items;
       failing = s.failing.items;
-      handed = s.handed.reads;
       calls = s.calls;
       faults = s.faults;
     } };
@@ -39,7 +37,6 @@ impl MemoryFiles {
         ensures { result ≡ record {
           files = map (λ file. (string_bytes file.0, file.1.items)) files.items;
           failing = failing.items;
-          handed = [];
           calls = 0;
           faults = 0;
         } }
@@ -47,7 +44,6 @@ impl MemoryFiles {
         MemoryFiles {
             files,
             failing,
-            handed: Handed::new(),
             calls: 0,
             faults: 0,
         }
@@ -82,20 +78,17 @@ fn find<'a>(files: &'a [(String, Vec<u8>)], name: &str) -> Option<&'a Vec<u8>>
 }
 
 impl Files for MemoryFiles {
-    ghost use Rattle.std.specs.Prelude.{◌≡◌, ◌≤◌, ◌^◌, ◌∷◌, ◌++◌, [], length, IfOk, IsOk, IsErrOf, OnErr};
+    ghost use Rattle.std.specs.Prelude.{◌≡◌, ◌≤◌, ◌^◌, length, IfOk, IsOk, IsErrOf};
     ghost use Rattle.io_ports.specs.Count.{Rose};
-    ghost use Rattle.io_ports.specs.Handed.{MayHand};
     ghost use Rattle.io_ports.specs.Told.{IsContent, IsPastLimit, IsNotHeld};
     ghost use Rattle.io_ports.specs.MemoryFiles.{content_of, is_failing, after_read};
     ghost use Rattle.io_ports.specs.FileFault.{has_failed};
 
     ghost held = { λ s. content_of s.files };
 
-    ghost handed = { λ s. s.handed };
-
     ghost faults = { λ s. s.faults };
 
-    ghost leaves = { λ s name t. (t ≡ after_read s t.handed) × MayHand s.handed name t.handed };
+    ghost leaves = { λ s name t. t ≡ after_read s };
 
     fn read(&mut self, alloc: Global, name: &str, limit: usize) -> Result<Vec<u8>, FileFault>
         requires { limit ≤ 2 ^ 31 }
@@ -108,10 +101,8 @@ impl Files for MemoryFiles {
         ensures too_long_is_no_fault { IsErrOf result FileFault.TooLong → self.new.faults ≡ self.old.faults }
         ensures missing_is_no_fault { IsErrOf result FileFault.Missing → self.new.faults ≡ self.old.faults }
         ensures keeps { content_of self.new.files ≡ content_of self.old.files }
-        ensures hands { IfOk result (λ content. self.new.handed ≡ self.old.handed ++ (name.now, content.items) ∷ []) }
-        ensures hands_nothing { OnErr result (self.new.handed ≡ self.old.handed) }
         ensures counts { self.old.faults ≤ self.new.faults }
-        ensures leaves { (self.new ≡ after_read self.old self.new.handed) × MayHand self.old.handed name.now self.new.handed }
+        ensures leaves { self.new ≡ after_read self.old }
 
         // It fails exactly at the listed calls.
         ensures exact { has_failed result ≡ is_failing self.old }
@@ -128,8 +119,6 @@ impl Files for MemoryFiles {
         if content.len() > limit {
             return Err(FileFault::TooLong);
         }
-        let content = Vec::from_slice(alloc, content)?;
-        self.handed = Handed::with(&self.handed, name.as_bytes(), content.as_slice());
-        Ok(content)
+        Ok(Vec::from_slice(alloc, content)?)
     }
 }

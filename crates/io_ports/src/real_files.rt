@@ -1,33 +1,27 @@
 //! The files of an operating system.
-ghost use Rattle.std.specs.Prelude.{◌≡◌, ◌≤◌, ◌^◌, ◌<◌, [], length, IfOk, IsErrOf, IfSome};
+ghost use Rattle.std.specs.Prelude.{◌≡◌, ◌≤◌, ◌^◌, ◌<◌, length, IfOk, IsErrOf, IfSome};
 
-use crate::{FileFault, Files, Handed};
+use crate::{FileFault, Files};
 use std::alloc::Global;
 use std::fs;
 use std::io::{ErrorKind, Read};
 use std::rt::Files as FileSystem;
 
-/// The files that a runtime opens. They tell no content; which bytes they handed over is on record.
+/// The files that a runtime opens. They tell no content.
 #[derive(Drop)]
 pub struct RealFiles<R: FileSystem> {
     system: R,
-    handed: Handed,
     faults: u64,
 }
 
 impl<R: FileSystem> RealFiles<R> {
-    ghost use Rattle.std.specs.Prelude.{◌≡◌, []};
+    ghost use Rattle.std.specs.Prelude.{◌≡◌};
 
-    /// The files of this runtime, with no read and no fault so far.
+    /// The files of this runtime, with no fault so far.
     pub fn new(system: R) -> Self
-        ensures handed { result.handed.reads ≡ [] }
-        ensures faults { result.faults ≡ 0 }
+        ensures { result.faults ≡ 0 }
     {
-        RealFiles {
-            system,
-            handed: Handed::new(),
-            faults: 0,
-        }
+        RealFiles { system, faults: 0 }
     }
 
     /// How often opening or reading failed.
@@ -63,19 +57,16 @@ fn read_all<R: Read>(alloc: Global, reader: &mut R, limit: usize) -> Result<Vec<
 }
 
 impl<R: FileSystem> Files for RealFiles<R> {
-    ghost use Rattle.std.specs.Prelude.{◌≡◌, ◌≤◌, ◌^◌, ◌∷◌, ◌++◌, [], length, IfOk, IsOk, IsErrOf, OnErr, if◌then◌else◌};
+    ghost use Rattle.std.specs.Prelude.{◌≡◌, ◌≤◌, ◌^◌, ⊤, length, IfOk, IsOk, IsErrOf, if◌then◌else◌};
     ghost use Rattle.io_ports.specs.Count.{Rose, counted};
-    ghost use Rattle.io_ports.specs.Handed.{MayHand};
     ghost use Rattle.io_ports.specs.FileFault.{has_failed};
     ghost use Rattle.io_ports.specs.Told.Told.{Untold};
 
     ghost held = { λ s name. Untold };
 
-    ghost handed = { λ s. s.handed.reads };
-
     ghost faults = { λ s. s.faults };
 
-    ghost leaves = { λ s name t. MayHand s.handed.reads name t.handed.reads };
+    ghost leaves = { λ s name t. ⊤ };
 
     fn read(&mut self, alloc: Global, name: &str, limit: usize) -> Result<Vec<u8>, FileFault>
         requires { limit ≤ 2 ^ 31 }
@@ -84,10 +75,7 @@ impl<R: FileSystem> Files for RealFiles<R> {
         ensures read_is_no_fault { IsOk result → self.new.faults ≡ self.old.faults }
         ensures too_long_is_no_fault { IsErrOf result FileFault.TooLong → self.new.faults ≡ self.old.faults }
         ensures missing_is_no_fault { IsErrOf result FileFault.Missing → self.new.faults ≡ self.old.faults }
-        ensures hands { IfOk result (λ content. self.new.handed.reads ≡ self.old.handed.reads ++ (name.now, content.items) ∷ []) }
-        ensures hands_nothing { OnErr result (self.new.handed.reads ≡ self.old.handed.reads) }
         ensures counts { self.old.faults ≤ self.new.faults }
-        ensures leaves { MayHand self.old.handed.reads name.now self.new.handed.reads }
 
         // Each failure counts, and nothing else does.
         ensures exact { self.new.faults ≡ (if has_failed result then counted self.old.faults else self.old.faults) }
@@ -97,16 +85,9 @@ impl<R: FileSystem> Files for RealFiles<R> {
             Err(error) if error.kind() == ErrorKind::NotFound => Err(FileFault::Missing),
             Err(_) => Err(FileFault::Failed),
         };
-        match content {
-            Ok(content) => {
-                self.handed = Handed::with(&self.handed, name.as_bytes(), content.as_slice());
-                Ok(content)
-            }
-            Err(FileFault::Failed) => {
-                self.faults = self.faults.saturating_add(1);
-                Err(FileFault::Failed)
-            }
-            Err(fault) => Err(fault),
+        if let Err(FileFault::Failed) = content {
+            self.faults = self.faults.saturating_add(1);
         }
+        content
     }
 }

@@ -1,29 +1,24 @@
 //! A sink over a writer of std, as the standard output.
-use crate::{Sink, SinkFault, Taken};
+use crate::{Sink, SinkFault};
 use std::io::Write;
 
-/// A sink that hands its bytes to a writer. It tells the bytes that the writer said it took, also at the outputs of a process.
+/// A sink that hands its bytes to a writer. It tells the bytes that the writer tells: none at the
+/// outputs of a process.
 #[derive(Drop)]
 pub struct StdSink<W: Write> {
     writer: W,
-    taken: Taken,
     faults: u64,
 }
 
 impl<W: Write> StdSink<W> {
-    ghost use Rattle.std.specs.Prelude.{◌≡◌, []};
+    ghost use Rattle.std.specs.Prelude.{◌≡◌};
 
-    /// A sink over a writer, with nothing taken and no fault so far.
+    /// A sink over a writer, with no fault so far.
     pub fn new(writer: W) -> Self
         ensures writer { result.writer ≡ writer }
-        ensures taken { result.taken.bytes ≡ [] }
         ensures faults { result.faults ≡ 0 }
     {
-        StdSink {
-            writer,
-            taken: Taken::new(),
-            faults: 0,
-        }
+        StdSink { writer, faults: 0 }
     }
 
     /// How often writing failed.
@@ -35,22 +30,18 @@ impl<W: Write> StdSink<W> {
 }
 
 impl<W: Write> Sink for StdSink<W> {
-    ghost use Rattle.std.specs.Prelude.{◌≡◌, ◌≤◌, Some, is_ok, OnOk, OnErr, if◌then◌else◌};
+    ghost use Rattle.std.specs.Prelude.{◌≡◌, ◌≤◌, is_ok, OnOk, OnErr, if◌then◌else◌};
     ghost use Rattle.std.specs.Io.KnownBytes.{Appends};
     ghost use Rattle.io_ports.specs.Count.{Rose, counted};
     ghost use Rattle.io_ports.specs.Taken.{AppendsPrefix};
 
-    ghost taken = { λ s. Some s.taken.bytes };
+    ghost taken = { λ s. W.contents s.writer };
 
     ghost faults = { λ s. s.faults };
 
     fn put(&mut self, bytes: &[u8]) -> Result<(), SinkFault>
-        ensures all { OnOk result (Appends (Some self.old.taken.bytes) (Some self.new.taken.bytes) bytes.now) }
-        ensures prefix { OnErr result (AppendsPrefix (Some self.old.taken.bytes) (Some self.new.taken.bytes) bytes.now) }
-
-        // A writer that tells its contents has them from this call, once and in order.
-        ensures writes_all { OnOk result (Appends (W.contents self.old.writer) (W.contents self.new.writer) bytes.now) }
-        ensures writes_prefix { OnErr result (AppendsPrefix (W.contents self.old.writer) (W.contents self.new.writer) bytes.now) }
+        ensures all { OnOk result (Appends (W.contents self.old.writer) (W.contents self.new.writer) bytes.now) }
+        ensures prefix { OnErr result (AppendsPrefix (W.contents self.old.writer) (W.contents self.new.writer) bytes.now) }
         ensures failed { OnErr result (Rose self.old.faults self.new.faults) }
         ensures counts { self.old.faults ≤ self.new.faults }
 
@@ -62,13 +53,11 @@ impl<W: Write> Sink for StdSink<W> {
             match self.writer.write(&bytes[done..]) {
                 Ok(count) if count > 0 => done += count,
                 _ => {
-                    self.taken = Taken::with(&self.taken, &bytes[..done]);
                     self.faults = self.faults.saturating_add(1);
                     return Err(SinkFault::Failed);
                 }
             }
         }
-        self.taken = Taken::with(&self.taken, bytes);
         Ok(())
     }
 }

@@ -30,9 +30,8 @@ use Rattle.rank_forms.specs.declared.following.Bound.{Bound}
 use Rattle.rank_forms.specs.declared.following.Followed.{Followed}
 use Rattle.rank_forms.specs.Following.{IsBoundAt, IsFollowed}
 use Rattle.rank_forms.specs.Forms.{AreCuts, forms_over, list_from, needed, or_zero}
-use Rattle.rank_forms.specs.RankSteps.{CountOnce, IsRankStep}
-use Rattle.rank_forms.proofs.Formed.{StandAll, AllCount, AllSmall, rule_lines}
-use Rattle.rank_forms.proofs.Counted.{one_once}
+use Rattle.rank_forms.specs.RankSteps.{IsRankStep}
+use Rattle.rank_forms.proofs.Formed.{StandAll, AllSmall, rule_lines}
 use Rattle.rank_forms.proofs.Shown.{follow_there, int_step}
 use Rattle.rank_forms.specs.rule_links.Positions.{slot_at, StandsAt}
 use Rattle.its_front.specs.Reading.{slot_of, slots_of}
@@ -51,23 +50,6 @@ use Rattle.its_call.proofs.Reasons.{IsBefore, before_is, IsReason, same_term, Re
 
 abbrev after_terms : ℕ → Form → Form
 after_terms count form = map (λ (term : ℕ × ℤ). (count + term.0, term.1)) form
-
-abbrev first_number : List (ℕ × ℤ) → ℕ
-first_number [] = 0
-first_number (term ∷ rest) = term.0
-
-unit_counts : (c : ℤ) → IsUnit c → c ≡ pos 0 → ⊥
-unit_counts c (inl u) e = absurd (omega (arith, ints, u, e))
-unit_counts c (inr u) e = absurd (omega (arith, ints, u, e))
-
-product_is : (c a t x y : ℤ) → t ≡ c *ℤ a → c ≡ x → a ≡ y → t ≡ x *ℤ y
-product_is c a t x y e u v = e ∙ ap (λ (z : ℤ). z *ℤ a) u ∙ ap (λ (z : ℤ). x *ℤ z) v
-
-product_counts : (c a t : ℤ) → IsUnit c → IsUnit a → t ≡ c *ℤ a → t ≡ pos 0 → ⊥
-product_counts c a t (inl u) (inl v) e = unit_counts t (inl (product_is c a t (pos 1) (pos 1) e u v))
-product_counts c a t (inl u) (inr v) e = unit_counts t (inr (product_is c a t (pos 1) (negsuc 0) e u v))
-product_counts c a t (inr u) (inl v) e = unit_counts t (inr (product_is c a t (negsuc 0) (pos 1) e u v))
-product_counts c a t (inr u) (inr v) e = unit_counts t (inl (product_is c a t (negsuc 0) (negsuc 0) e u v))
 
 module _ (count : ℕ) (rows : List WRow) (weightless : All IsWeightless rows) where
   abbrev under : List Row
@@ -199,14 +181,6 @@ module _ (count : ℕ) (rows : List WRow) (weightless : All IsWeightless rows) w
       ∙ no_fault rest more h.1 (suc n) (λ i d w. units (suc i) d (omega (arith, w))) h.3
 
   -- two variables have two rows
-  apart : (one other first second : ℕ × ℤ) (c d : ℤ) → one.0 < other.0 → (is : IsReason count rows 0 one first c)
-      → (too : IsReason count rows 0 other second d) → is.k ≡ too.k → ⊥
-  apart one other first second c d order is too e =
-      let row : is.row ≡ too.row = same_Some is.row too.row (sym is.at ∙ ap (λ (n : ℕ). slice_get rows n) e ∙ too.at) in
-      let same : one.0 ≡ other.0 = sym (ap first_number is.terms) ∙ ap (λ (row : WRow). first_number row.terms) row
-      ∙ ap first_number too.terms in
-      absurd (omega (arith, order, same))
-
   few : (form : Form) (entries : List (ℕ × ℤ)) (change : ℤ) → IsPlainForm count form → Reasons count rows form entries change
       → length entries ≤ length under
   few [] entries change p h = absurd p
@@ -223,33 +197,24 @@ module _ (count : ℕ) (rows : List WRow) (weightless : All IsWeightless rows) w
       let too = h.3.2 in
       let within = slice_get_within rows is.k is.row is.at in
       let within_too = slice_get_within rows too.k too.row too.at in
-      let differ = apart one other entry second h.0 h.3.0 p.0 is too in
+      let differ : is.k ≡ too.k → ⊥ = λ e. apart (same_row is.k too.k is.row too.row e is.at too.at) is.terms too.terms in
       let long = length-map rows (row_under unweighed) in
       let alone : length more ≡ 0 = ap length h.3.3.0 in
       omega (arith, within, within_too, differ, long, alone)
-  few (one ∷ other ∷ more ∷ rest) entries change p h = absurd p
+    where
+      same_row : (k l : ℕ) (a b : WRow) → k ≡ l → slice_get rows k ≡ Some a → slice_get rows l ≡ Some b → a ≡ b
+      same_row k l a b e f g = same_Some a b (sym f ∙ ap (λ (n : ℕ). slice_get rows n) e ∙ g)
 
-  -- each row once, and none 0 times
-  rows_once : (form : Form) (entries : List (ℕ × ℤ)) (change : ℤ) → IsPlainForm count form → All (IsUnitTerm count) form
-      → Reasons count rows form entries change → CountOnce entries
-  rows_once [] entries change p units h = absurd p
-  rows_once (one ∷ []) [] change p units h = absurd h
-  rows_once (one ∷ []) (entry ∷ more) change p units h = subst (λ (rest : List (ℕ × ℤ)). CountOnce (entry ∷ rest)) (sym h.3.0)
-      (product_counts one.1 h.2.a entry.1 (units 0 one (omega arith)).1 h.2.unit h.2.times, tt, tt)
-  rows_once (one ∷ other ∷ []) [] change p units h = absurd h
-  rows_once (one ∷ other ∷ []) (entry ∷ []) change p units h = absurd h.3
-  rows_once (one ∷ other ∷ []) (entry ∷ second ∷ more) change p units h =
-      let is = h.2 in
-      let too = h.3.2 in
-      let number = is.number in
-      let number_too = too.number in
-      let other_row : second.0 ≡ entry.0 → ⊥ = λ e.
-      apart one other entry second h.0 h.3.0 p.0 is too (omega (arith, number, number_too, e)) in
-      let first_counts = product_counts one.1 is.a entry.1 (units 0 one (omega arith)).1 is.unit is.times in
-      let second_counts = product_counts other.1 too.a second.1 (units 1 other (omega arith)).1 too.unit too.times in
-      subst (λ (rest : List (ℕ × ℤ)). CountOnce (entry ∷ second ∷ rest)) (sym h.3.3.0)
-      (first_counts, (other_row, tt), (second_counts, tt, tt))
-  rows_once (one ∷ other ∷ more ∷ rest) entries change p units h = absurd p
+      apart : {a b : WRow} {c d : ℤ} {cs ds : List (ℕ × ℤ)} → a ≡ b → a.terms ≡ (one.0, c) ∷ cs → b.terms ≡ (other.0, d) ∷ ds → ⊥
+      apart e f g =
+          let order = p.0 in
+          let same : one.0 ≡ other.0 = sym (ap first f) ∙ ap (λ (row : WRow). first row.terms) e ∙ ap first g in
+          omega (arith, order, same)
+        where
+          first : List (ℕ × ℤ) → ℕ
+          first [] = 0
+          first (term ∷ rest) = term.0
+  few (one ∷ other ∷ more ∷ rest) entries change p h = absurd p
 
   -- ---- bounds
 
@@ -320,7 +285,6 @@ module _ (count : ℕ) (rows : List WRow) (weightless : All IsWeightless rows) w
         fault = ap (first_fault under) is.rows_are ∙ ap (λ (o : Option LinFault). first_of_two o None)
             (ap (fault_at_row 0 (pos 1)) at ∙ kind_ok (row_under unweighed is.row) is.kind);
         few = let one : length bound.rows ≡ 1 = ap length is.rows_are in omega (arith, one, long, within);
-        once = subst CountOnce (sym is.rows_are) (one_once (0 + is.k));
         coefficients = λ variable. ap (λ (entries : List (ℕ × ℤ)). summed_coefficient under entries variable) is.rows_are
             ∙ ap (λ (o : Option Row). pos 1 *ℤ number_of (λ row. coefficient_of variable row.terms) o +ℤ pos 0) at
             ∙ once (coefficient_of variable is.row.terms) ∙ ap (coefficient_of variable) is.terms;
@@ -418,8 +382,6 @@ shown_is count form rule followed is plain with_all =
           ∙ no_fault count rows is.weightless form with_all.entries with_all.by 0 units reasons;
       few = subst (λ (entries : List (ℕ × ℤ)). length entries ≤ length (rows_under unweighed rows)) (sym with_all.entries_are)
           (few count rows is.weightless form with_all.entries with_all.by plain reasons);
-      once = subst CountOnce (sym with_all.entries_are)
-          (rows_once count rows is.weightless form with_all.entries with_all.by plain units reasons);
       coefficients = λ variable. ap (λ (entries : List (ℕ × ℤ)). summed_coefficient (rows_under unweighed rows) entries variable)
           with_all.entries_are ∙ coefficients count rows is.weightless form with_all.entries with_all.by variable reasons;
       constant = ap (λ (entries : List (ℕ × ℤ)). summed_constant (rows_under unweighed rows) entries +ℤ followed.falls)
@@ -492,11 +454,6 @@ small_parts : (count : ℕ) (form : Form) → All (IsUnitTerm count) form → Al
 small_parts count [] units = tt
 small_parts count (term ∷ rest) units =
     (unit_low term.1 (units 0 term (omega arith)).1, small_parts count rest (λ i d w. units (suc i) d (omega (arith, w))))
-
-counted_parts : (count : ℕ) (form : Form) → All (IsUnitTerm count) form → AllCount (map part_of form)
-counted_parts count [] units = tt
-counted_parts count (term ∷ rest) units =
-    (unit_counts term.1 (units 0 term (omega arith)).1, counted_parts count rest (λ i d w. units (suc i) d (omega (arith, w))))
 
 -- ---- all rules
 
@@ -593,7 +550,6 @@ step_made count rules form all constant cuts short counted plain ranked followed
     (record {
       few = let long = length-map form part_of in let most = plain_short count form plain in omega (arith, long, most);
       small = small_parts count form units;
-      counted = counted_parts count form units;
     })
     c k
     (record {

@@ -16,7 +16,7 @@ fn places_of(alloc: Global, number: u32) -> Result<Seq<Place>, AllocError>
         &[Place {
             frame: 0,
             stack: false,
-            index: number as usize,
+            index: number,
         }],
     )
 }

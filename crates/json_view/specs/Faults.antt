@@ -1,7 +1,6 @@
 -- The faults of JSON values in words.
 use Rattle.std.specs.Prelude.{ℕ, List, [], ◌∷◌, codes}
-use Rattle.list_views.specs.FaultWords.{joined}
-use Rattle.list_views.specs.Shown.{shown_field}
+use Rattle.list_views.specs.FaultWords.{joined, bytes_field}
 use Rattle.json_view.specs.declared.fault.JsonFault.{JsonFault}
 use Rattle.json_view.specs.declared.fault.JsonFault.TheVariants.{NotJson, WrongKind, MissingField, UnknownField, OutOfRange, Memory}
 
@@ -14,14 +13,13 @@ fault_name (UnknownField place) = codes "UnknownField"
 fault_name (OutOfRange place) = codes "OutOfRange"
 fault_name Memory = codes "Memory"
 
--- what a fault's name is followed by: the place in the JSON text, as a JSON pointer, of every fault that has one. A key in it can hold any
--- bytes, so it stands as lines show names
+-- what a fault's name is followed by: the place in the JSON text, as a JSON pointer, of every fault that has one
 abbrev pub fault_fields : JsonFault → List ℕ
 fault_fields NotJson = []
-fault_fields (WrongKind place) = shown_field (codes "place") place
-fault_fields (MissingField place) = shown_field (codes "place") place
-fault_fields (UnknownField place) = shown_field (codes "place") place
-fault_fields (OutOfRange place) = shown_field (codes "place") place
+fault_fields (WrongKind place) = bytes_field (codes "place") place
+fault_fields (MissingField place) = bytes_field (codes "place") place
+fault_fields (UnknownField place) = bytes_field (codes "place") place
+fault_fields (OutOfRange place) = bytes_field (codes "place") place
 fault_fields Memory = []
 
 -- a fault in words: its name and then its fields

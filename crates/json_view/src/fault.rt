@@ -6,8 +6,7 @@ ghost use Rattle.std.specs.Prelude.{◌≡◌, IfOk};
 
 use crate::place::Place;
 use list_views::Seq;
-use list_views::fault_words::joined;
-use list_views::shown::shown_field;
+use list_views::fault_words::{bytes_field, joined};
 use std::alloc::{AllocError, AllocFailed, Global};
 
 /// Why a text or a field of a value isn't read.
@@ -64,7 +63,7 @@ impl JsonFault {
         }
     }
 
-    /// The fault's fields, each as ` name=value`; a place without blanks and control characters, which stand as codes (`shown`).
+    /// The fault's fields, each as ` name=value`.
     ///
     /// # Errors
     ///
@@ -74,10 +73,10 @@ impl JsonFault {
     {
         match self {
             JsonFault::NotJson => Ok(Seq::new(alloc)),
-            JsonFault::WrongKind { place } => shown_field(alloc, b"place", place.as_slice()),
-            JsonFault::MissingField { place } => shown_field(alloc, b"place", place.as_slice()),
-            JsonFault::UnknownField { place } => shown_field(alloc, b"place", place.as_slice()),
-            JsonFault::OutOfRange { place } => shown_field(alloc, b"place", place.as_slice()),
+            JsonFault::WrongKind { place } => bytes_field(alloc, b"place", place.as_slice()),
+            JsonFault::MissingField { place } => bytes_field(alloc, b"place", place.as_slice()),
+            JsonFault::UnknownField { place } => bytes_field(alloc, b"place", place.as_slice()),
+            JsonFault::OutOfRange { place } => bytes_field(alloc, b"place", place.as_slice()),
             JsonFault::Memory => Ok(Seq::new(alloc)),
         }
     }

@@ -8,8 +8,7 @@ use Rattle.input_steps.specs.declared.refused.Place.{Place}
 use Rattle.input_steps.specs.declared.refused.Fault.{Fault}
 use Rattle.input_steps.specs.declared.refused.Refused.TheVariants.{At}
 use Rattle.jterm.specs.declared.inputs.Failure.TheVariants.{Broken}
-use Rattle.class_calls.specs.declared.command_rows.table.Request.TheVariants.{Prove, Check, Run, Asm, Generate, Migrate, Bound}
-use Rattle.class_calls.specs.declared.command_rows.table.Request.TheVariants.{Loop, Its, Throws}
+use Rattle.class_calls.specs.declared.command_rows.table.Request.TheVariants.{Prove, Check, Run, Asm, Generate, Migrate, Bound, Loop, Its, Throws}
 use Rattle.class_calls.specs.command_rows.Rows.{Takes}
 use Rattle.class_calls.proofs.OneCommand.{commands_taken}
 use Rattle.jterm.specs.Decision.{IsAnswer, HoldsClaim}
@@ -72,25 +71,22 @@ status_low Its (text ∷ []) verdict answer = let low = ruled_low text verdict a
 status_low Its (text ∷ more ∷ files) verdict answer = absurd answer
 
 pub is_answered : (limits : ℕ → ℕ) (request : Request) (names : List (List ℕ)) (held : List ℕ → Told)
-    (Handed : List (List ℕ) → List (List ℕ) → Type 0) (contents given : List (List ℕ)) (verdict : Verdict) → given ≡ contents
-    → AreContents limits held names contents → Handed names contents → IsAnswer request given (Ok verdict)
-    → HoldsClaim request given verdict
-    → IsAnswered limits request names held Handed verdict
-is_answered limits request names held Handed contents given verdict same are handed answer claim =
+    (contents given : List (List ℕ)) (verdict : Verdict) → given ≡ contents
+    → AreContents limits held names contents → IsAnswer request given (Ok verdict) → HoldsClaim request given verdict
+    → IsAnswered limits request names held verdict
+is_answered limits request names held contents given verdict same are answer claim =
     record {
       contents = given;
       read = subst (AreContents limits held names) (sym same) are;
-      handed = subst (Handed names) (sym same) handed;
       answer = answer;
       low = status_low request given verdict answer;
       claim = claim;
     }
 
-pub is_broken : {F : Type 0} (held : F → List ℕ → Told) (faults : F → ℕ) (leaves : F → List ℕ → F → Type 0)
-    (Handed : List (List ℕ) → List (List ℕ) → Type 0) (limits : ℕ → ℕ)
+pub is_broken : {F : Type 0} (held : F → List ℕ → Told) (faults : F → ℕ) (leaves : F → List ℕ → F → Type 0) (limits : ℕ → ℕ)
     (request : Request) (names : List (List ℕ)) (old new : F) (contents given : List (List ℕ)) (place : Place) (fault : Fault)
     → given ≡ contents
-    → AreContents limits (held old) names contents → Handed names contents → IsAnswer request given (Err (At place fault))
-    → HasCause held faults leaves Handed limits request names old new (Broken place fault)
-is_broken held faults leaves Handed limits request names old new contents given place fault same are handed answer =
-    (given, subst (AreContents limits (held old) names) (sym same) are, subst (Handed names) (sym same) handed, answer)
+    → AreContents limits (held old) names contents → IsAnswer request given (Err (At place fault))
+    → HasCause held faults leaves limits request names old new (Broken place fault)
+is_broken held faults leaves limits request names old new contents given place fault same are answer =
+    (given, subst (AreContents limits (held old) names) (sym same) are, answer)

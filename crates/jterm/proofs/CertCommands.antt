@@ -89,7 +89,7 @@ migrate_claims : (cert desc : List ℕ) (files : List (List ℕ)) (out : Result 
 migrate_claims cert desc files (Ok outcome) h = h
 migrate_claims cert desc files (Err refused) h = tt
 
-throws_claims : (cert desc : List ℕ) (files : List (List ℕ)) (out : Result Outcome Refused) → AllEndAsSaidIfDone files desc cert out
+throws_claims : (cert desc : List ℕ) (files : List (List ℕ)) (out : Result Outcome Refused) → AllEndAsSaidIfDone files desc out
     → IfOk out (λ outcome. HoldsClaim Throws (cert ∷ desc ∷ files)
     (record { status = outcome.status; out = outcome.out; reason = None; its = None }))
 throws_claims cert desc files (Ok outcome) h = h
@@ -101,14 +101,13 @@ module _ (given : List (List ℕ)) (cert desc : List ℕ) (files : List (List �
   migrate_claim h = claimed Migrate Migrate given (cert ∷ desc ∷ files) result refl split
       (told (λ verdict. HoldsClaim Migrate (cert ∷ desc ∷ files) verdict) out result is (migrate_claims cert desc files out h))
 
-  pub throws_claim : AllEndAsSaidIfDone files desc cert out → IfOk result (λ verdict. HoldsClaim Throws given verdict)
+  pub throws_claim : AllEndAsSaidIfDone files desc out → IfOk result (λ verdict. HoldsClaim Throws given verdict)
   throws_claim h = claimed Throws Throws given (cert ∷ desc ∷ files) result refl split
       (told (λ verdict. HoldsClaim Throws (cert ∷ desc ∷ files) verdict) out result is (throws_claims cert desc files out h))
 
 -- ---- `bound`
 
-bound_claims : (bound cert desc : List ℕ) (files : List (List ℕ)) (out : Result Outcome Refused)
-    → AllEndWithinIfDone files desc cert bound out
+bound_claims : (bound cert desc : List ℕ) (files : List (List ℕ)) (out : Result Outcome Refused) → AllEndWithinIfDone files desc out
     → IfOk out (λ outcome. HoldsClaim Bound (bound ∷ cert ∷ desc ∷ files)
     (record { status = outcome.status; out = outcome.out; reason = None; its = None }))
 bound_claims bound cert desc files (Ok outcome) h = h
@@ -120,7 +119,7 @@ module _ (given : List (List ℕ)) (bound cert desc : List ℕ) (files : List (L
   bound_answer a = subst (λ (fs : List (List ℕ)). IsAnswer Bound fs result) (sym split)
       (judged_with (bounding.Answers bound cert desc files) out result is a)
 
-  pub bound_claim : AllEndWithinIfDone files desc cert bound out → IfOk result (λ verdict. HoldsClaim Bound given verdict)
+  pub bound_claim : AllEndWithinIfDone files desc out → IfOk result (λ verdict. HoldsClaim Bound given verdict)
   bound_claim h = claimed Bound Bound given (bound ∷ cert ∷ desc ∷ files) result refl split
       (told (λ verdict. HoldsClaim Bound (bound ∷ cert ∷ desc ∷ files) verdict) out result is (bound_claims bound cert desc files out h))
 

@@ -13,8 +13,7 @@ use Rattle.io_ports.specs.declared.files.FileFault.TheVariants.{Failed, TooLong,
 use Rattle.jterm.specs.declared.inputs.Failure.{Failure}
 use Rattle.jterm.specs.declared.inputs.Failure.TheVariants.{Unread, Broken, NoMemory}
 use Rattle.class_calls.specs.declared.command_rows.table.Request.{Request}
-use Rattle.class_calls.specs.declared.command_rows.table.Request.TheVariants.{Prove, Check, Run, Asm, Generate, Migrate, Bound}
-use Rattle.class_calls.specs.declared.command_rows.table.Request.TheVariants.{Loop, Its, Throws}
+use Rattle.class_calls.specs.declared.command_rows.table.Request.TheVariants.{Prove, Check, Run, Asm, Generate, Migrate, Bound, Loop, Its, Throws}
 use Rattle.jterm.specs.declared.verdict.Verdict.{Verdict}
 use Rattle.input_steps.specs.declared.refused.Place.{Place}
 use Rattle.input_steps.specs.declared.refused.Fault.{Fault}
@@ -22,30 +21,36 @@ use Rattle.input_steps.specs.declared.refused.Refused.{Refused}
 use Rattle.input_steps.specs.declared.refused.Refused.TheVariants as answers
 use Rattle.input_steps.specs.declared.refused.Refused.TheVariants.{At}
 use Rattle.class_calls.specs.command_rows.Words.{IsCommand}
+use Rattle.jterm.specs.Words.{IsProve, IsCheck, IsIts}
 use Rattle.input_steps.specs.Lines.{refusal_line}
 use Rattle.jterm.specs.Lines.{memory_line, read_line}
 use Rattle.abs_cells.specs.declared.packed.PackedPairs.{PackedPairs}
 use Rattle.prove_core.specs.declared.found.Reason.{Reason}
+use Rattle.prove_call.specs.Lines.{yes_line, yes_text}
 use Rattle.check_call.specs.Answers as check
+use Rattle.check_call.specs.Lines.{accepted_line}
 use Rattle.cert_making.specs.migrate_call.Answers as migrate
 use Rattle.cert_calls.specs.loop_call.Answers as looping
 use Rattle.cert_calls.specs.bound_call.Answers as bounding
 use Rattle.cert_calls.specs.throws_call.Answers as throws
-use Rattle.jterm.specs.Decision.{Says, not_proved_for, left_for, refused_with, IsRefusedLine, IsAnswer, HoldsClaim}
-use Rattle.jterm.specs.Decision.{HasReason, IsUnproved}
+use Rattle.jterm.specs.Decision.{Says, not_proved_for, left_for, accepted, refused_with, IsRefusedLine, IsAnswer, HoldsClaim, HasReason, IsUnproved}
 use Rattle.jterm.specs.Decision.{IsUnrefused}
 use Rattle.jterm.specs.Laws.{AreAlike}
+use Rattle.desc_steps.specs.Headline.{AllEnd}
+use Rattle.generate_text.specs.Descriptions.{description}
+use Rattle.jterm.specs.GenerateAnswers.{IsClass}
+use Rattle.jterm.specs.GenerateLines.{yes_begin}
+use Rattle.its_call.specs.Answers.{IsEnding}
+use Rattle.its_call.specs.Lines as its
 use Rattle.its_call.specs.declared.its_search.searching.ItsFound.{ItsFound}
-use Rattle.jterm.specs.Outside.{AreTold, AreContents, AreWithin, AreHanded, IsUnread, ReadFails, Decided, Begins}
-use Rattle.jterm.specs.Outside.{Claims, IsWritten}
+use Rattle.jterm.specs.Outside.{AreTold, AreContents, AreWithin, AreHanded, IsUnread, ReadFails, Decided, Begins, Claims, IsWritten}
 use Rattle.jterm.specs.Outside.{file_limits, behind}
 use Rattle.jterm.specs.inner.Failure.{IsAnswered, HasCause, HasLine, status_of, line_of}
 use Rattle.jterm.proofs.OneAnswer.{answers_one}
-use Rattle.jterm.proofs.Checking.{bound_judged, check_judged, migrate_judged, loop_judged, throws_judged, judged_refused}
-use Rattle.jterm.proofs.Checking.{judged_not_one}
+use Rattle.jterm.proofs.Checking.{bound_judged, check_judged, migrate_judged, loop_judged, throws_judged, judged_refused, judged_not_one}
 use Rattle.jterm.proofs.Making.{made_reason}
 use Rattle.jterm.proofs.Ruling.{ruled_low, ruled_left, ruled_reason}
-use Rattle.jterm.proofs.Proving.{proved_low, unproved, reason_kept}
+use Rattle.jterm.proofs.Proving.{proved_low, unproved, reason_kept, certifies}
 use Rattle.class_calls.proofs.OneCommand.{commands_one}
 
 -- nothing is claimed where nothing is put
@@ -64,20 +69,17 @@ unbegun line taken sink some put =
 
 -- what `report` says of a failure
 abbrev pub Reports : (List ℕ → Type 0) → Failure → ℕ → Type 0
-Reports Puts failure status = ((status ≡ status_of failure) × HasLine failure × Puts (line_of failure))
-    ⊎ ((status ≡ 7) × Puts memory_line)
+Reports Puts failure status = ((status ≡ status_of failure) × HasLine failure × Puts (line_of failure)) ⊎ ((status ≡ 7) × Puts memory_line)
 
 -- status 3 comes where the input is refused
-pub refused : {F : Type 0} (held : F → List ℕ → Told) (faults : F → ℕ) (leaves : F → List ℕ → F → Type 0)
-    (Handed : List (List ℕ) → List (List ℕ) → Type 0) (words : List (List ℕ))
+pub refused : {F : Type 0} (held : F → List ℕ → Told) (faults : F → ℕ) (leaves : F → List ℕ → F → Type 0) (words : List (List ℕ))
     (request : Request) (names : List (List ℕ)) (old new : F) (failure : Failure) (status : ℕ) (Puts : List ℕ → Type 0)
-    → IsCommand words request names → HasCause held faults leaves Handed (file_limits request) request names old new failure
+    → IsCommand words request names → HasCause held faults leaves (file_limits request) request names old new failure
     → Reports Puts failure status
-    → status ≡ 3 → (place : Place) × (fault : Fault) × Decided words (held old) Handed (Err (At place fault))
-    × Puts (refusal_line place fault)
-refused held faults leaves Handed words request names old new (Unread name fault) status Puts command cause (inl said) three = absurd
+    → status ≡ 3 → (place : Place) × (fault : Fault) × Decided words (held old) (Err (At place fault)) × Puts (refusal_line place fault)
+refused held faults leaves words request names old new (Unread name fault) status Puts command cause (inl said) three = absurd
     (omega (arith, said.0, three))
-refused held faults leaves Handed words request names old new (Broken place fault) status Puts command cause (inl said) three = (
+refused held faults leaves words request names old new (Broken place fault) status Puts command cause (inl said) three = (
   place,
   fault,
   record {
@@ -86,35 +88,32 @@ refused held faults leaves Handed words request names old new (Broken place faul
     is_command = command;
     contents = cause.0;
     read = cause.1;
-    handed = cause.2;
-    answer = cause.3;
-    claim = tt;
+    answer =
+        cause.2;
   },
   said.2,
 )
-refused held faults leaves Handed words request names old new NoMemory status Puts command cause (inl said) three = absurd said.1
-refused held faults leaves Handed words request names old new failure status Puts command cause (inr said) three = absurd
+refused held faults leaves words request names old new NoMemory status Puts command cause (inl said) three = absurd said.1
+refused held faults leaves words request names old new failure status Puts command cause (inr said) three = absurd
     (omega (arith, said.0, three))
 
 -- status 5 comes where a file was not read
-pub unread : {F : Type 0} (held : F → List ℕ → Told) (faults : F → ℕ) (leaves : F → List ℕ → F → Type 0)
-    (Handed : List (List ℕ) → List (List ℕ) → Type 0) (words : List (List ℕ))
+pub unread : {F : Type 0} (held : F → List ℕ → Told) (faults : F → ℕ) (leaves : F → List ℕ → F → Type 0) (words : List (List ℕ))
     (request : Request) (names : List (List ℕ)) (old new : F) (failure : Failure) (status : ℕ) (Puts : List ℕ → Type 0)
-    → IsCommand words request names → HasCause held faults leaves Handed (file_limits request) request names old new failure
+    → IsCommand words request names → HasCause held faults leaves (file_limits request) request names old new failure
     → Reports Puts failure status
     → status ≡ 5 → (request : Request) × (names : List (List ℕ)) × (name : List ℕ) × (fault : FileFault) × IsCommand words request names
-    × IsUnread held faults leaves Handed (file_limits request) names old new name fault × Puts (read_line name fault)
-unread held faults leaves Handed words request names old new (Unread name fault) status Puts command cause (inl said) five =
+    × IsUnread held faults leaves (file_limits request) names old new name fault × Puts (read_line name fault)
+unread held faults leaves words request names old new (Unread name fault) status Puts command cause (inl said) five =
     (request, names, name, fault, command, cause, said.2)
-unread held faults leaves Handed words request names old new (Broken place fault) status Puts command cause (inl said) five = absurd
+unread held faults leaves words request names old new (Broken place fault) status Puts command cause (inl said) five = absurd
     (omega (arith, said.0, five))
-unread held faults leaves Handed words request names old new NoMemory status Puts command cause (inl said) five = absurd said.1
-unread held faults leaves Handed words request names old new failure status Puts command cause (inr said) five = absurd
+unread held faults leaves words request names old new NoMemory status Puts command cause (inl said) five = absurd said.1
+unread held faults leaves words request names old new failure status Puts command cause (inr said) five = absurd
     (omega (arith, said.0, five))
 
 -- want of memory is said with status 7
-pub says_memory : (failure : Failure) (status : ℕ) (Puts : List ℕ → Type 0) → Reports Puts failure status → status ≡ 7
-    → Puts memory_line
+pub says_memory : (failure : Failure) (status : ℕ) (Puts : List ℕ → Type 0) → Reports Puts failure status → status ≡ 7 → Puts memory_line
 says_memory (Unread name fault) status Puts (inl said) seven = absurd (omega (arith, said.0, seven))
 says_memory (Broken place fault) status Puts (inl said) seven = absurd (omega (arith, said.0, seven))
 says_memory NoMemory status Puts (inl said) seven = absurd said.1
@@ -172,8 +171,7 @@ told_same : (words : List (List ℕ)) (held : List ℕ → Told) (r s : Request)
     → IsCommand words s n → AreContents (file_limits r) held m contents → AreTold held n told → contents ≡ told
 told_same words held r s m n contents told here there are tells =
     let one = commands_one words r s m n here there in
-    told_contents (file_limits r) held m contents told are
-    (subst (λ (names : List (List ℕ)). AreTold held names told) (sym one.1) tells)
+    told_contents (file_limits r) held m contents told are (subst (λ (names : List (List ℕ)). AreTold held names told) (sym one.1) tells)
 
 -- and an answer for it one for that
 told_answer : (words : List (List ℕ)) (held : List ℕ → Told) (r s : Request) (m n contents told : List (List ℕ))
@@ -184,6 +182,15 @@ told_answer words held r s m n contents told result here there are tells answer 
     let one = commands_one words r s m n here there in
     let same : contents ≡ told = told_same words held r s m n contents told here there are tells in
     subst (λ (q : Request). IsAnswer q told result) one.0 (subst (λ (fs : List (List ℕ)). IsAnswer r fs result) same answer)
+
+-- and what is claimed for it is claimed for that
+pub told_claim : (words : List (List ℕ)) (held : List ℕ → Told) (r s : Request) (m n contents told : List (List ℕ)) (verdict : Verdict)
+    → IsCommand words r m → IsCommand words s n → AreContents (file_limits r) held m contents → AreTold held n told
+    → HoldsClaim r contents verdict → HoldsClaim s told verdict
+told_claim words held r s m n contents told verdict here there are tells claim =
+    let one = commands_one words r s m n here there in
+    let same : contents ≡ told = told_same words held r s m n contents told here there are tells in
+    subst (λ (q : Request). HoldsClaim q told verdict) one.0 (subst (λ (fs : List (List ℕ)). HoldsClaim r fs verdict) same claim)
 
 -- what was put began with a line: so does what was to be put
 begins : (old new : Option (List ℕ)) (before line rest out : List ℕ) (count : ℕ) → Appends old new (take count out)
@@ -202,7 +209,7 @@ begins (Some old) (Some new) before line rest out count put was is =
     )
 
 -- what a written output begins with, that of its verdict does
-pub begun_says : {S : Type 0} (line : List ℕ) (faults : S → ℕ) (taken : S → Option (List ℕ)) (old new : S) (verdict : Verdict)
+begun_says : {S : Type 0} (line : List ℕ) (faults : S → ℕ) (taken : S → Option (List ℕ)) (old new : S) (verdict : Verdict)
     (status : ℕ) → IsWritten faults taken old new verdict status → Begins line taken old new
     → (rest : List ℕ) × (verdict.out ≡ line ++ rest)
 begun_says line faults taken old new verdict status (inl put) c =
@@ -217,8 +224,72 @@ pub claimed_says : {S : Type 0} (line : List ℕ) (faults : S → ℕ) (taken : 
     (status : ℕ) → IsWritten faults taken old new verdict status → Claims line taken old new status → Says line verdict
 claimed_says line faults taken old new verdict status (inl put) (inl none) = inl (sym put.0 ∙ none)
 claimed_says line faults taken old new verdict status (inr failed) (inl none) = absurd (omega (arith, failed.0, none))
-claimed_says line faults taken old new verdict status written (inr c) = inr
-    (begun_says line faults taken old new verdict status written c)
+claimed_says line faults taken old new verdict status written (inr c) = inr (begun_says line faults taken old new verdict status written c)
+
+-- what YES says of the contents of a `prove`
+pub headline : {S : Type 0} (faults : S → ℕ) (taken : S → Option (List ℕ)) (old new : S) (words : List (List ℕ)) (request : Request)
+    (names : List (List ℕ)) (held : List ℕ → Told) (verdict : Verdict) (status : ℕ) (d : List ℕ) (cs : List (List ℕ))
+    (desc : List ℕ) (classes : List (List ℕ))
+    → IsCommand words request names → IsAnswered (file_limits request) request names held verdict
+    → IsWritten faults taken old new verdict status → IsProve words d cs → AreTold held (d ∷ cs) (desc ∷ classes)
+    → Claims yes_line taken old new status → AllEnd classes desc
+headline faults taken old new words request names held verdict status d cs desc classes command answered written prove tells claims =
+    let claim : HoldsClaim (Prove prove.0) (desc ∷ classes) verdict = told_claim words held request (Prove prove.0) names (d ∷ cs)
+    answered.contents (desc ∷ classes) verdict command prove.1 answered.read tells answered.claim in
+    claim (claimed_says yes_line faults taken old new verdict status written claims)
+
+-- and what stands behind it
+pub certificate : {S : Type 0} (faults : S → ℕ) (taken : S → Option (List ℕ)) (old new : S) (words : List (List ℕ))
+    (request : Request) (names : List (List ℕ)) (held : List ℕ → Told) (verdict : Verdict) (status : ℕ) (d : List ℕ)
+    (cs : List (List ℕ)) (desc : List ℕ) (classes : List (List ℕ))
+    → IsCommand words request names → IsAnswered (file_limits request) request names held verdict
+    → IsWritten faults taken old new verdict status → IsProve words d cs → AreTold held (d ∷ cs) (desc ∷ classes)
+    → status ≡ 0 → (cert : List ℕ) × (length cert ≤ 16777216) × IsAnswer Check (cert ∷ desc ∷ classes) (Ok accepted)
+    × Appends (taken old) (taken new) (yes_text cert)
+certificate faults taken old new words request names held verdict status d cs desc classes command answered (inl put) prove tells none =
+    let there = prove.1 in
+    let answer : IsAnswer (Prove prove.0) (desc ∷ classes) (Ok verdict) =
+    told_answer words held request (Prove prove.0) names (d ∷ cs) answered.contents (desc ∷ classes) (Ok verdict) command there
+    answered.read tells answered.answer in
+    let is = certifies prove.0 desc classes verdict answer (sym put.0 ∙ none) in
+    (is.cert, is.short, (refl, refl, is.accepted), subst (λ (out : List ℕ). Appends (taken old) (taken new) out) is.out_is put.1)
+certificate faults taken old new words request names held verdict status d cs desc classes command answered (inr failed) prove tells
+    none = absurd (omega (arith, failed.0, none))
+
+-- what ACCEPTED says of the contents of a `check`
+pub headline_of_check : {S : Type 0} (faults : S → ℕ) (taken : S → Option (List ℕ)) (old new : S) (words : List (List ℕ))
+    (request : Request) (names : List (List ℕ)) (held : List ℕ → Told) (verdict : Verdict) (status : ℕ) (c d : List ℕ)
+    (cs : List (List ℕ)) (cert desc : List ℕ) (classes : List (List ℕ))
+    → IsCommand words request names → IsAnswered (file_limits request) request names held verdict
+    → IsWritten faults taken old new verdict status → IsCheck words c d cs → AreTold held (c ∷ d ∷ cs) (cert ∷ desc ∷ classes)
+    → Claims accepted_line taken old new status → AllEnd classes desc
+headline_of_check faults taken old new words request names held verdict status c d cs cert desc classes command answered written
+    check tells claims =
+    let claim : HoldsClaim Check (cert ∷ desc ∷ classes) verdict = told_claim words held request Check names (c ∷ d ∷ cs)
+    answered.contents (cert ∷ desc ∷ classes) verdict command check answered.read tells answered.claim in
+    claim (claimed_says accepted_line faults taken old new verdict status written claims)
+
+-- what YES says of a class that was made
+pub headline_of_generate : {S : Type 0} (faults : S → ℕ) (taken : S → Option (List ℕ)) (old new : S) (words : List (List ℕ))
+    (request : Request) (names : List (List ℕ)) (held : List ℕ → Told) (verdict : Verdict) (status n : ℕ) (class : List ℕ)
+    → IsCommand words request names → IsAnswered (file_limits request) request names held verdict
+    → IsWritten faults taken old new verdict status → IsCommand words (Generate n) [] → IsClass n class
+    → Begins (yes_begin n) taken old new → AllEnd (class ∷ []) description
+headline_of_generate faults taken old new words request names held verdict status n class command answered written generate is put =
+    let claim : HoldsClaim (Generate n) [] verdict = told_claim words held request (Generate n) names [] answered.contents [] verdict
+    command generate answered.read refl answered.claim in
+    claim class is (begun_says (yes_begin n) faults taken old new verdict status written put)
+
+-- what YES says of a text of rules
+pub headline_of_its : {S : Type 0} (faults : S → ℕ) (taken : S → Option (List ℕ)) (old new : S) (words : List (List ℕ))
+    (request : Request) (names : List (List ℕ)) (held : List ℕ → Told) (verdict : Verdict) (status : ℕ) (r text : List ℕ)
+    → IsCommand words request names → IsAnswered (file_limits request) request names held verdict
+    → IsWritten faults taken old new verdict status → IsIts words r → AreTold held (r ∷ []) (text ∷ [])
+    → Claims its.yes_line taken old new status → IsEnding text
+headline_of_its faults taken old new words request names held verdict status r text command answered written is tells claims =
+    let claim : HoldsClaim Its (text ∷ []) verdict = told_claim words held request Its names (r ∷ []) answered.contents (text ∷ [])
+    verdict command is answered.read tells answered.claim in
+    claim (claimed_says its.yes_line faults taken old new verdict status written claims)
 
 -- ---- completeness
 
@@ -251,21 +322,18 @@ held_is_read held limit before after Missing content told within none fails = su
 held_is_read held limit before after Memory content told within none fails = fails
 
 -- the files of a command that are told within their limits are read
-all_read : {F : Type 0} (held : F → List ℕ → Told) (faults : F → ℕ) (leaves : F → List ℕ → F → Type 0)
-    (Handed : List (List ℕ) → List (List ℕ) → Type 0) (words : List (List ℕ))
+all_read : {F : Type 0} (held : F → List ℕ → Told) (faults : F → ℕ) (leaves : F → List ℕ → F → Type 0) (words : List (List ℕ))
     (r s : Request) (m n told : List (List ℕ)) (old new : F) (name : List ℕ) (fault : FileFault)
-    → IsCommand words r m → IsUnread held faults leaves Handed (file_limits r) m old new name fault
-    → AreHanded words (held old) s n told
+    → IsCommand words r m → IsUnread held faults leaves (file_limits r) m old new name fault → AreHanded words (held old) s n told
     → (Rose (faults old) (faults new) → ⊥) → ⊥
-all_read held faults leaves Handed words r s m n told old new name fault command unread handed none =
+all_read held faults leaves words r s m n told old new name fault command unread handed none =
     let one = commands_one words r s m n command handed.is_command in
     let named : slice_get n unread.place ≡ Some name = subst (λ (names : List (List ℕ)). slice_get names unread.place ≡ Some name)
     one.1 unread.is_named in
     let within : AreWithin (file_limits r) told = subst (λ (q : Request). AreWithin (file_limits q) told) (sym one.0) handed.within in
     let is : IsHeld (held old) name (file_limits r unread.place) = held_name (file_limits r) (held old) n told name unread.place
     named handed.told within in
-    held_is_read (held old name) (file_limits r unread.place) (faults unread.between) (faults new) fault is.content is.is_told
-    is.is_within
+    held_is_read (held old name) (file_limits r unread.place) (faults unread.between) (faults new) fault is.content is.is_told is.is_within
     (λ rose. none (subst (λ (count : ℕ). Rose count (faults new)) unread.still rose)) unread.cause
 
 abbrev no_memory : Refused
@@ -278,10 +346,9 @@ some_refusal : (place : Place) (fault : Fault) → (let r : Result Verdict Refus
 some_refusal place fault e = cc
 
 -- what has no cause of refusal is answered
-pub answered_written : {S : Type 0} {Handed : List (List ℕ) → List (List ℕ) → Type 0} (faults : S → ℕ) (taken : S
-    → Option (List ℕ)) (old new : S) (words : List (List ℕ))
+pub answered_written : {S : Type 0} (faults : S → ℕ) (taken : S → Option (List ℕ)) (old new : S) (words : List (List ℕ))
     (r s : Request) (m n told : List (List ℕ)) (held : List ℕ → Told) (given : Verdict) (said : Option Verdict) (status : ℕ)
-    → IsCommand words r m → IsAnswered (file_limits r) r m held Handed given → said ≡ Some given
+    → IsCommand words r m → IsAnswered (file_limits r) r m held given → said ≡ Some given
     → IsWritten faults taken old new given status → AreHanded words held s n told → (Rose (faults old) (faults new) → ⊥)
     → ((own : Verdict) × (said ≡ Some own) × IsAnswer s told (Ok own) × (status ≡ own.status)
     × Appends (taken old) (taken new) own.out) ⊎ (status ≡ 7)
@@ -298,27 +365,23 @@ answered_written faults taken old new words r s m n told held given said status 
     absurd (none failed.1)
 
 -- and a call without a verdict for it wants memory
-pub unanswered : {F : Type 0} (held : F → List ℕ → Told) (faults : F → ℕ) (leaves : F → List ℕ → F → Type 0)
-    (Handed : List (List ℕ) → List (List ℕ) → Type 0) (words : List (List ℕ))
+pub unanswered : {F : Type 0} (held : F → List ℕ → Told) (faults : F → ℕ) (leaves : F → List ℕ → F → Type 0) (words : List (List ℕ))
     (r s : Request) (m n told : List (List ℕ)) (old new : F) (failure : Failure) (status : ℕ) (Puts : List ℕ → Type 0) (R : Type 0)
-    → IsCommand words r m → HasCause held faults leaves Handed (file_limits r) r m old new failure → Reports Puts failure status
+    → IsCommand words r m → HasCause held faults leaves (file_limits r) r m old new failure → Reports Puts failure status
     → AreHanded words (held old) s n told → IsUnrefused s told
     → (Rose (faults old) (faults new) → ⊥) → R ⊎ (status ≡ 7)
-unanswered held faults leaves Handed words r s m n told old new (Unread name fault) status Puts R command cause says handed good none =
-    absurd (all_read held faults leaves Handed words r s m n told old new name fault command cause handed none)
-unanswered held faults leaves Handed words r s m n told old new (Broken place fault) status Puts R command cause says handed good none =
+unanswered held faults leaves words r s m n told old new (Unread name fault) status Puts R command cause says handed good none =
+    absurd (all_read held faults leaves words r s m n told old new name fault command cause handed none)
+unanswered held faults leaves words r s m n told old new (Broken place fault) status Puts R command cause says handed good none =
     absurd (good place fault (told_answer words (held old) r s m n cause.0 told (Err (At place fault)) command handed.is_command
-    cause.1 handed.told cause.3))
-unanswered held faults leaves Handed words r s m n told old new NoMemory status Puts R command cause (inl said) handed good none
-    = absurd said.1
-unanswered held faults leaves Handed words r s m n told old new NoMemory status Puts R command cause (inr said) handed good none
-    = inr said.0
+    cause.1 handed.told cause.2))
+unanswered held faults leaves words r s m n told old new NoMemory status Puts R command cause (inl said) handed good none = absurd said.1
+unanswered held faults leaves words r s m n told old new NoMemory status Puts R command cause (inr said) handed good none = inr said.0
 
 -- the verdict of a call is one that the contents have
-pub complete_written : {S : Type 0} {Handed : List (List ℕ) → List (List ℕ) → Type 0} (faults : S → ℕ) (taken : S
-    → Option (List ℕ)) (old new : S) (words : List (List ℕ))
+pub complete_written : {S : Type 0} (faults : S → ℕ) (taken : S → Option (List ℕ)) (old new : S) (words : List (List ℕ))
     (r s : Request) (m n told : List (List ℕ)) (held : List ℕ → Told) (given verdict : Verdict) (status : ℕ)
-    → IsCommand words r m → IsAnswered (file_limits r) r m held Handed given → IsWritten faults taken old new given status
+    → IsCommand words r m → IsAnswered (file_limits r) r m held given → IsWritten faults taken old new given status
     → AreHanded words held s n told → IsAnswer s told (Ok verdict)
     → (Rose (faults old) (faults new) → ⊥)
     → ((own : Verdict) × IsAnswer s told (Ok own) × AreAlike s verdict own × (status ≡ own.status)
@@ -333,33 +396,27 @@ complete_written faults taken old new words r s m n told held given verdict stat
     = absurd (none failed.1)
 
 -- where the contents have a verdict, a call without one wants memory
-pub complete : {F : Type 0} (held : F → List ℕ → Told) (faults : F → ℕ) (leaves : F → List ℕ → F → Type 0)
-    (Handed : List (List ℕ) → List (List ℕ) → Type 0) (words : List (List ℕ))
+pub complete : {F : Type 0} (held : F → List ℕ → Told) (faults : F → ℕ) (leaves : F → List ℕ → F → Type 0) (words : List (List ℕ))
     (r s : Request) (m n told : List (List ℕ)) (old new : F) (failure : Failure) (status : ℕ) (verdict : Verdict)
     (Puts : List ℕ → Type 0) (R : Type 0)
-    → IsCommand words r m → HasCause held faults leaves Handed (file_limits r) r m old new failure → Reports Puts failure status
+    → IsCommand words r m → HasCause held faults leaves (file_limits r) r m old new failure → Reports Puts failure status
     → AreHanded words (held old) s n told → IsAnswer s told (Ok verdict)
     → (Rose (faults old) (faults new) → ⊥) → R ⊎ (status ≡ 7)
-complete held faults leaves Handed words r s m n told old new (Unread name fault) status verdict Puts R command cause says handed
-    answer none =
-    absurd (all_read held faults leaves Handed words r s m n told old new name fault command cause handed none)
-complete held faults leaves Handed words r s m n told old new (Broken place fault) status verdict Puts R command cause says
-    handed answer none =
+complete held faults leaves words r s m n told old new (Unread name fault) status verdict Puts R command cause says handed answer none =
+    absurd (all_read held faults leaves words r s m n told old new name fault command cause handed none)
+complete held faults leaves words r s m n told old new (Broken place fault) status verdict Puts R command cause says handed answer none =
     let here : IsAnswer s told (Err (At place fault)) = told_answer words (held old) r s m n cause.0 told (Err (At place fault))
-    command handed.is_command cause.1 handed.told cause.3 in
+    command handed.is_command cause.1 handed.told cause.2 in
     absurd (answers_one s told (Err (At place fault)) (Ok verdict) here answer (some_refusal place fault) (some_answer verdict))
-complete held faults leaves Handed words r s m n told old new NoMemory status verdict Puts R command cause (inl said) handed
-    answer none =
+complete held faults leaves words r s m n told old new NoMemory status verdict Puts R command cause (inl said) handed answer none =
     absurd said.1
-complete held faults leaves Handed words r s m n told old new NoMemory status verdict Puts R command cause (inr said) handed
-    answer none =
+complete held faults leaves words r s m n told old new NoMemory status verdict Puts R command cause (inr said) handed answer none =
     inr said.0
 
 -- where the contents have a cause of refusal, a call has no verdict
-pub never_answered : {Handed : List (List ℕ) → List (List ℕ) → Type 0} (words : List (List ℕ)) (r s : Request)
-    (m n told : List (List ℕ)) (held : List ℕ → Told) (given : Verdict)
+pub never_answered : (words : List (List ℕ)) (r s : Request) (m n told : List (List ℕ)) (held : List ℕ → Told) (given : Verdict)
     (place : Place) (fault : Fault)
-    → IsCommand words r m → IsAnswered (file_limits r) r m held Handed given → AreHanded words held s n told
+    → IsCommand words r m → IsAnswered (file_limits r) r m held given → AreHanded words held s n told
     → IsAnswer s told (Err (At place fault)) → ⊥
 never_answered words r s m n told held given place fault command answered handed answer =
     let here : IsAnswer s told (Ok given) = told_answer words held r s m n answered.contents told (Ok given) command
@@ -370,51 +427,40 @@ at_is : (place : Place) (fault : Fault) (p : Place) (f : Fault) → At place fau
 at_is place fault p f e = (cc, cc)
 
 -- and is refused for it, or memory is wanting
-pub refuses : {F : Type 0} (held : F → List ℕ → Told) (faults : F → ℕ) (leaves : F → List ℕ → F → Type 0)
-    (Handed : List (List ℕ) → List (List ℕ) → Type 0) (words : List (List ℕ))
+pub refuses : {F : Type 0} (held : F → List ℕ → Told) (faults : F → ℕ) (leaves : F → List ℕ → F → Type 0) (words : List (List ℕ))
     (r s : Request) (m n told : List (List ℕ)) (old new : F) (failure : Failure) (status : ℕ) (p : Place) (f : Fault)
     (Puts : List ℕ → Type 0)
-    → IsCommand words r m → HasCause held faults leaves Handed (file_limits r) r m old new failure → Reports Puts failure status
+    → IsCommand words r m → HasCause held faults leaves (file_limits r) r m old new failure → Reports Puts failure status
     → AreHanded words (held old) s n told → IsAnswer s told (Err (At p f))
     → (Rose (faults old) (faults new) → ⊥) → ((status ≡ 3) × Puts (refusal_line p f)) ⊎ (status ≡ 7)
-refuses held faults leaves Handed words r s m n told old new (Unread name fault) status p f Puts command cause says handed answer none =
-    absurd (all_read held faults leaves Handed words r s m n told old new name fault command cause handed none)
-refuses held faults leaves Handed words r s m n told old new (Broken place fault) status p f Puts command cause (inl said) handed
-    answer none =
+refuses held faults leaves words r s m n told old new (Unread name fault) status p f Puts command cause says handed answer none =
+    absurd (all_read held faults leaves words r s m n told old new name fault command cause handed none)
+refuses held faults leaves words r s m n told old new (Broken place fault) status p f Puts command cause (inl said) handed answer none =
     let here : IsAnswer s told (Err (At place fault)) = told_answer words (held old) r s m n cause.0 told (Err (At place fault))
-    command handed.is_command cause.1 handed.told cause.3 in
+    command handed.is_command cause.1 handed.told cause.2 in
     let same = at_is place fault p f
     (answers_one s told (Err (At place fault)) (Err (At p f)) here answer (some_refusal place fault) (some_refusal p f)) in
-    inl (
-      said.0,
-      subst (λ (g : Fault). Puts (refusal_line p g)) same.1
-          (subst (λ (q : Place). Puts (refusal_line q fault)) same.0 said.2),
-    )
-refuses held faults leaves Handed words r s m n told old new (Broken place fault) status p f Puts command cause (inr said) handed answer
+    inl (said.0, subst (λ (g : Fault). Puts (refusal_line p g)) same.1 (subst (λ (q : Place). Puts (refusal_line q fault)) same.0 said.2))
+refuses held faults leaves words r s m n told old new (Broken place fault) status p f Puts command cause (inr said) handed answer
     none = inr said.0
-refuses held faults leaves Handed words r s m n told old new NoMemory status p f Puts command cause (inl said) handed answer none
-    = absurd said.1
-refuses held faults leaves Handed words r s m n told old new NoMemory status p f Puts command cause (inr said) handed answer none
-    = inr said.0
+refuses held faults leaves words r s m n told old new NoMemory status p f Puts command cause (inl said) handed answer none = absurd said.1
+refuses held faults leaves words r s m n told old new NoMemory status p f Puts command cause (inr said) handed answer none = inr said.0
 
 -- ---- verdicts
 
 -- a verdict that was written is the answer for the contents of the files that the words name
-pub decided : {Handed : List (List ℕ) → List (List ℕ) → Type 0} (words : List (List ℕ)) (request : Request)
-    (names : List (List ℕ)) (held : List ℕ → Told) (verdict : Verdict)
-    (told : Option Verdict) → IsCommand words request names → IsAnswered (file_limits request) request names held Handed verdict
-    → told ≡ Some verdict → IfSome told (λ v. Decided words held Handed (Ok v))
-decided {Handed = Handed} words request names held verdict told is answered same =
-    let P : Option Verdict → Type 0 = λ o. IfSome o (λ v. Decided words held Handed (Ok v)) in
+pub decided : (words : List (List ℕ)) (request : Request) (names : List (List ℕ)) (held : List ℕ → Told) (verdict : Verdict)
+    (told : Option Verdict) → IsCommand words request names → IsAnswered (file_limits request) request names held verdict
+    → told ≡ Some verdict → IfSome told (λ v. Decided words held (Ok v))
+decided words request names held verdict told is answered same =
+    let P : Option Verdict → Type 0 = λ o. IfSome o (λ v. Decided words held (Ok v)) in
     subst P (sym same) (record {
       request = request;
       names = names;
       is_command = is;
       contents = answered.contents;
       read = answered.read;
-      handed = answered.handed;
       answer = answered.answer;
-      claim = answered.claim;
     })
 
 -- status 6 is that of an output that was not taken: the verdict's own is at most 2
@@ -464,19 +510,16 @@ refused_verdict Its (text ∷ []) verdict answer two = let low = ruled_low text 
 refused_verdict Its (text ∷ more ∷ files) verdict answer two = absurd answer
 
 -- status 2 comes where the certificate is refused
-pub not_accepted : {S : Type 0} {Handed : List (List ℕ) → List (List ℕ) → Type 0} (faults : S → ℕ) (taken : S → Option (List ℕ))
-    (old new : S) (words : List (List ℕ))
+pub not_accepted : {S : Type 0} (faults : S → ℕ) (taken : S → Option (List ℕ)) (old new : S) (words : List (List ℕ))
     (request : Request) (names : List (List ℕ)) (held : List ℕ → Told) (verdict : Verdict) (status : ℕ)
-    → IsCommand words request names → IsAnswered (file_limits request) request names held Handed verdict
+    → IsCommand words request names → IsAnswered (file_limits request) request names held verdict
     → IsWritten faults taken old new verdict status
-    → status ≡ 2 → (line : List ℕ) × IsRefusedLine line × Decided words held Handed (Ok (refused_with line))
+    → status ≡ 2 → (line : List ℕ) × IsRefusedLine line × Decided words held (Ok (refused_with line))
     × Appends (taken old) (taken new) line
 not_accepted faults taken old new words request names held verdict status command answered (inl put) two =
     let is = refused_verdict request answered.contents verdict answered.answer (sym put.0 ∙ two) in
     let answer : IsAnswer request answered.contents (Ok (refused_with is.0)) = subst
-    (λ (v : Verdict). IsAnswer request answered.contents (Ok v)) is.1.1 answered.answer in
-    let claim : HoldsClaim request answered.contents (refused_with is.0) = subst
-    (λ (v : Verdict). HoldsClaim request answered.contents v) is.1.1 answered.claim in (
+    (λ (v : Verdict). IsAnswer request answered.contents (Ok v)) is.1.1 answered.answer in (
       is.0,
       is.1.0,
       record {
@@ -485,9 +528,8 @@ not_accepted faults taken old new words request names held verdict status comman
         is_command = command;
         contents = answered.contents;
         read = answered.read;
-        handed = answered.handed;
-        answer = answer;
-        claim = claim;
+        answer =
+            answer;
       },
       subst (λ (v : Verdict). Appends (taken old) (taken new) v.out) is.1.1 put.1,
     )
@@ -538,22 +580,19 @@ unproved_verdict Its (text ∷ more ∷ files) verdict answer one = absurd answe
 
 -- a verdict that is this one is told, decided and written
 abbrev IsTold : {S : Type 0} (taken : S → Option (List ℕ)) (old new : S) (words : List (List ℕ)) (held : List ℕ → Told)
-    (Handed : List (List ℕ) → List (List ℕ) → Type 0) (told : Option Verdict) → (List ℕ → Verdict) → List ℕ → Type 0
-IsTold taken old new words held Handed told verdict_for text = (told ≡ Some (verdict_for text))
-    × Decided words held Handed (Ok (verdict_for text)) × Appends (taken old) (taken new) text
+    (told : Option Verdict) → (List ℕ → Verdict) → List ℕ → Type 0
+IsTold taken old new words held told verdict_for text = (told ≡ Some (verdict_for text))
+    × Decided words held (Ok (verdict_for text)) × Appends (taken old) (taken new) text
 
-told_so : {S : Type 0} {Handed : List (List ℕ) → List (List ℕ) → Type 0} (taken : S → Option (List ℕ)) (old new : S)
-    (words : List (List ℕ)) (request : Request)
+told_so : {S : Type 0} (taken : S → Option (List ℕ)) (old new : S) (words : List (List ℕ)) (request : Request)
     (names : List (List ℕ)) (held : List ℕ → Told) (verdict : Verdict) (told : Option Verdict) (verdict_for : List ℕ → Verdict)
     (text : List ℕ)
-    → IsCommand words request names → IsAnswered (file_limits request) request names held Handed verdict → told ≡ Some verdict
+    → IsCommand words request names → IsAnswered (file_limits request) request names held verdict → told ≡ Some verdict
     → Appends (taken old) (taken new) verdict.out → verdict ≡ verdict_for text → (verdict_for text).out ≡ text
-    → IsTold taken old new words held Handed told verdict_for text
+    → IsTold taken old new words held told verdict_for text
 told_so taken old new words request names held verdict told verdict_for text command answered tells put same out =
     let answer : IsAnswer request answered.contents (Ok (verdict_for text)) = subst
-    (λ (v : Verdict). IsAnswer request answered.contents (Ok v)) same answered.answer in
-    let claim : HoldsClaim request answered.contents (verdict_for text) = subst
-    (λ (v : Verdict). HoldsClaim request answered.contents v) same answered.claim in (
+    (λ (v : Verdict). IsAnswer request answered.contents (Ok v)) same answered.answer in (
       tells ∙ ap (λ (v : Verdict). Some v) same,
       record {
         request = request;
@@ -561,30 +600,27 @@ told_so taken old new words request names held verdict told verdict_for text com
         is_command = command;
         contents = answered.contents;
         read = answered.read;
-        handed = answered.handed;
-        answer = answer;
-        claim = claim;
+        answer =
+            answer;
       },
       subst (λ (line : List ℕ). Appends (taken old) (taken new) line) (ap (λ (v : Verdict). v.out) same ∙ out) put,
     )
 
 -- status 1 comes where no certificate is given, or no proof
-pub not_proved : {S : Type 0} {Handed : List (List ℕ) → List (List ℕ) → Type 0} (faults : S → ℕ) (taken : S → Option (List ℕ))
-    (old new : S) (words : List (List ℕ))
+pub not_proved : {S : Type 0} (faults : S → ℕ) (taken : S → Option (List ℕ)) (old new : S) (words : List (List ℕ))
     (request : Request) (names : List (List ℕ)) (held : List ℕ → Told) (verdict : Verdict) (told : Option Verdict) (status : ℕ)
-    → IsCommand words request names → IsAnswered (file_limits request) request names held Handed verdict → told ≡ Some verdict
+    → IsCommand words request names → IsAnswered (file_limits request) request names held verdict → told ≡ Some verdict
     → IsWritten faults taken old new verdict status
     → status ≡ 1 → ((reason : Reason PackedPairs) × (text : List ℕ) × (told ≡ Some (not_proved_for reason text))
-    × Decided words held Handed (Ok (not_proved_for reason text)) × Appends (taken old) (taken new) text)
-    ⊎ ((left : ItsFound) × (text : List ℕ) × (told ≡ Some (left_for left text)) × Decided words held Handed (Ok (left_for left text))
+    × Decided words held (Ok (not_proved_for reason text)) × Appends (taken old) (taken new) text)
+    ⊎ ((left : ItsFound) × (text : List ℕ) × (told ≡ Some (left_for left text)) × Decided words held (Ok (left_for left text))
     × Appends (taken old) (taken new) text)
-not_proved {Handed = Handed} faults taken old new words request names held verdict told status command answered tells (inl put) one = by
+not_proved faults taken old new words request names held verdict told status command answered tells (inl put) one = by
     (unproved_verdict request answered.contents verdict answered.answer (sym put.0 ∙ one))
   where
     by : IsMaybe verdict → ((reason : Reason PackedPairs) × (text : List ℕ) × (told ≡ Some (not_proved_for reason text))
-        × Decided words held Handed (Ok (not_proved_for reason text)) × Appends (taken old) (taken new) text)
-        ⊎ ((left : ItsFound) × (text : List ℕ) × (told ≡ Some (left_for left text))
-        × Decided words held Handed (Ok (left_for left text))
+        × Decided words held (Ok (not_proved_for reason text)) × Appends (taken old) (taken new) text)
+        ⊎ ((left : ItsFound) × (text : List ℕ) × (told ≡ Some (left_for left text)) × Decided words held (Ok (left_for left text))
         × Appends (taken old) (taken new) text)
     by (inl is) = let all = told_so taken old new words request names held verdict told (not_proved_for is.0) is.1.0 command
         answered tells put.1 is.1.1 refl in inl (is.0, is.1.0, all.0, all.1, all.2)
@@ -620,8 +656,7 @@ reasons_kept (Prove nodes) (desc ∷ classes) verdict answer = of_prove verdict 
 reasons_kept Check [] verdict answer = absurd answer
 reasons_kept Check (cert ∷ []) verdict answer = absurd answer
 reasons_kept Check (cert ∷ desc ∷ classes) verdict answer =
-    no_reason verdict (judged_not_one (check.Answers cert desc classes) (check_judged cert desc classes) verdict answer) answer.0
-    answer.1
+    no_reason verdict (judged_not_one (check.Answers cert desc classes) (check_judged cert desc classes) verdict answer) answer.0 answer.1
 reasons_kept (Run fuel) [] verdict answer = absurd answer
 reasons_kept (Run fuel) (state ∷ classes) verdict answer = no_reason verdict
     (λ one. let none = answer.0 in omega (arith, none, one)) answer.1 answer.2
@@ -634,8 +669,7 @@ reasons_kept (Generate n) (file ∷ files) verdict answer = absurd answer
 reasons_kept Migrate [] verdict answer = absurd answer
 reasons_kept Migrate (cert ∷ []) verdict answer = absurd answer
 reasons_kept Migrate (cert ∷ desc ∷ classes) verdict answer =
-    no_reason verdict (judged_not_one (migrate.Answers cert desc classes) (migrate_judged cert desc classes) verdict answer)
-    answer.0 answer.1
+    no_reason verdict (judged_not_one (migrate.Answers cert desc classes) (migrate_judged cert desc classes) verdict answer) answer.0 answer.1
 reasons_kept Bound [] verdict answer = absurd answer
 reasons_kept Bound (bound ∷ []) verdict answer = absurd answer
 reasons_kept Bound (bound ∷ cert ∷ []) verdict answer = absurd answer
@@ -646,13 +680,11 @@ reasons_kept Loop [] verdict answer = absurd answer
 reasons_kept Loop (cert ∷ []) verdict answer = absurd answer
 reasons_kept Loop (cert ∷ state ∷ []) verdict answer = absurd answer
 reasons_kept Loop (cert ∷ state ∷ desc ∷ classes) verdict answer =
-    no_reason verdict (judged_not_one (looping.Answers cert state desc classes) (loop_judged cert state desc classes) verdict
-    answer) answer.0 answer.1
+    no_reason verdict (judged_not_one (looping.Answers cert state desc classes) (loop_judged cert state desc classes) verdict answer) answer.0 answer.1
 reasons_kept Throws [] verdict answer = absurd answer
 reasons_kept Throws (cert ∷ []) verdict answer = absurd answer
 reasons_kept Throws (cert ∷ desc ∷ classes) verdict answer =
-    no_reason verdict (judged_not_one (throws.Answers cert desc classes) (throws_judged cert desc classes) verdict answer)
-    answer.0 answer.1
+    no_reason verdict (judged_not_one (throws.Answers cert desc classes) (throws_judged cert desc classes) verdict answer) answer.0 answer.1
 reasons_kept Its [] verdict answer = absurd answer
 reasons_kept Its (text ∷ []) verdict answer = ruled_reason text verdict answer
 reasons_kept Its (text ∷ more ∷ files) verdict answer = absurd answer

@@ -12,7 +12,6 @@ pub mod Checking
 pub mod Answering
 pub mod OneAnswer
 pub mod Deciding
-pub mod Handing
 pub mod Headlines
 pub mod Making
 pub mod Migrating

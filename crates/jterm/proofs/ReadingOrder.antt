@@ -1,14 +1,13 @@
 -- One file more is read.
 use Rattle.std.proofs.Common.{◌≡◌, ℕ, suc, zero, ◌<◌, ◌≤◌, List, [], ◌∷◌, ◌++◌, length, map, take, get_or, slice_get, Some, refl}
-use Rattle.std.proofs.Common.{sym, ap, ◌∙◌, subst, arith, append_assoc, append-nil, IsErrOf, Err}
-use Rattle.std.proofs.lemmas.List.{map-append, length-map, length-take-le, take_all}
+use Rattle.std.proofs.Common.{sym, ap, ◌∙◌, subst, arith, IsErrOf, Err}
+use Rattle.std.proofs.lemmas.List.{map-append, length-map, length-take-le}
 use Rattle.io_ports.specs.Count.{Rose}
-use Rattle.io_ports.specs.Handed.{reads_of}
 use Rattle.io_ports.specs.Told.{Told, IsContent, IsPastLimit, IsNotHeld}
 use Rattle.io_ports.specs.declared.files.FileFault.{FileFault}
 use Rattle.io_ports.specs.declared.files.FileFault.TheVariants.{Failed, TooLong, Missing, Memory}
 use Rattle.class_calls.specs.declared.command_rows.table.Request.{Request}
-use Rattle.jterm.specs.Outside.{AreContents, AreRead, HandedSince, behind}
+use Rattle.jterm.specs.Outside.{AreContents, AreRead, behind}
 use Rattle.jterm.specs.inner.Failure.{HasCause, failure_at}
 
 -- one item more, as contents
@@ -69,106 +68,57 @@ first_contents_more limits held between names contents all k name content more g
     let both = contents_more limits held (take k names) contents name content are is' within in
     subst (λ n. AreContents limits held n all) (sym more) (subst (AreContents limits held (take k names ++ name ∷ [])) (sym grown) both)
 
--- ---- the record of what was handed over
-
--- one read more at the end
-reads_more : (names contents : List (List ℕ)) (name content : List ℕ) → length contents ≡ length names
-    → reads_of (names ++ name ∷ []) (contents ++ content ∷ []) ≡ reads_of names contents ++ (name, content) ∷ []
-reads_more [] [] name content same = refl
-reads_more [] (c ∷ contents) name content same = absurd (omega (arith, same))
-reads_more (n ∷ names) [] name content same = absurd (omega (arith, same))
-reads_more (n ∷ names) (c ∷ contents) name content same =
-    ap (λ (rest : List (List ℕ × List ℕ)). (n, c) ∷ rest) (reads_more names contents name content (omega (arith, same)))
-
--- nothing was read
-pub none_handed : (old : List (List ℕ × List ℕ)) → HandedSince old old [] []
-none_handed old = sym (append-nil old)
-
--- the reads so far, and one more
-pub first_handed_more : (limits : ℕ → ℕ) (held : List ℕ → Told) (old between new : List (List ℕ × List ℕ))
-    (names contents all : List (List ℕ)) (k : ℕ) (name content : List ℕ)
-    → take (suc k) names ≡ take k names ++ name ∷ [] → all ≡ contents ++ content ∷ []
-    → AreContents limits held (take k names) contents → HandedSince old between (take k names) contents
-    → new ≡ between ++ (name, content) ∷ [] → HandedSince old new (take (suc k) names) all
-first_handed_more limits held old between new names contents all k name content more grown are so_far reads =
-    let same : length contents ≡ length (take k names) = contents_length limits held (take k names) contents are in
-    let longer : reads_of (take k names ++ name ∷ []) (contents ++ content ∷ []) ≡ reads_of (take k names) contents
-    ++ (name, content) ∷ [] =
-    reads_more (take k names) contents name content same in
-    let whole : new ≡ old ++ reads_of (take k names ++ name ∷ []) (contents ++ content ∷ []) =
-    reads ∙ ap (λ (l : List (List ℕ × List ℕ)). l ++ (name, content) ∷ []) so_far
-    ∙ append_assoc old (reads_of (take k names) contents) ((name, content) ∷ [])
-    ∙ ap (λ (l : List (List ℕ × List ℕ)). old ++ l) (sym longer) in
-    subst (λ (n : List (List ℕ)). HandedSince old new n all) (sym more)
-    (subst (λ (c : List (List ℕ)). HandedSince old new (take k names ++ name ∷ []) c) (sym grown) whole)
-
--- all names were read
-pub all_handed : {A : Type 0} (f : A → List ℕ) (words : List A) (k : ℕ) (old new : List (List ℕ × List ℕ)) (contents : List (List ℕ))
-    → length words ≤ k → HandedSince old new (take k (map f words)) contents → HandedSince old new (map f words) contents
-all_handed f words k old new contents l handed =
-    let long = length-map words f in
-    subst (λ (names : List (List ℕ)). HandedSince old new names contents) (take_all k (map f words) (omega (arith, long, l))) handed
-
 -- why the file at this place was not read
-pub has_cause : {T F : Type 0} (held : F → List ℕ → Told) (faults : F → ℕ) (leaves : F → List ℕ → F → Type 0)
-    (Handed : List (List ℕ) → List (List ℕ) → Type 0) (limits : ℕ → ℕ)
+pub has_cause : {T F : Type 0} (held : F → List ℕ → Told) (faults : F → ℕ) (leaves : F → List ℕ → F → Type 0) (limits : ℕ → ℕ)
     (request : Request) (names : List (List ℕ)) (old between new : F) (place : ℕ) (name : List ℕ) (contents : List (List ℕ))
     (fault : FileFault)
     → held between ≡ held old → faults between ≡ faults old
     → slice_get names place ≡ Some name → AreContents limits (held old) (take place names) contents
-    → Handed (take place names) contents
     → AreRead leaves (take place names) old between → leaves between name new
     → (IsErrOf {T = T} (Err fault) Failed → Rose (faults between) (faults new))
     → (IsErrOf {T = T} (Err fault) TooLong → IsPastLimit (held between name) (limits place))
     → (IsErrOf {T = T} (Err fault) Missing → IsNotHeld (held between name))
     → (IsErrOf {T = T} (Err fault) TooLong → faults new ≡ faults between)
     → (IsErrOf {T = T} (Err fault) Missing → faults new ≡ faults between)
-    → HasCause held faults leaves Handed limits request names old new (failure_at name fault)
-has_cause held faults leaves Handed limits request names old between new place name contents Failed same stood named earlier
-    handed led last
+    → HasCause held faults leaves limits request names old new (failure_at name fault)
+has_cause held faults leaves limits request names old between new place name contents Failed same stood named earlier led last
     failed too_long missing long_still missing_still =
     record {
       place = place;
       is_named = named;
       contents = contents;
       earlier = earlier;
-      handed = handed;
       between = between;
       led = led;
       still = stood;
       last = last;
       cause = failed refl;
     }
-has_cause held faults leaves Handed limits request names old between new place name contents TooLong same stood named earlier
-    handed led last
+has_cause held faults leaves limits request names old between new place name contents TooLong same stood named earlier led last
     failed too_long missing long_still missing_still =
     record {
       place = place;
       is_named = named;
       contents = contents;
       earlier = earlier;
-      handed = handed;
       between = between;
       led = led;
       still = stood;
       last = last;
       cause = (subst (λ h. IsPastLimit (h name) (limits place)) same (too_long refl), long_still refl);
     }
-has_cause held faults leaves Handed limits request names old between new place name contents Missing same stood named earlier
-    handed led last
+has_cause held faults leaves limits request names old between new place name contents Missing same stood named earlier led last
     failed too_long missing long_still missing_still =
     record {
       place = place;
       is_named = named;
       contents = contents;
       earlier = earlier;
-      handed = handed;
       between = between;
       led = led;
       still = stood;
       last = last;
       cause = (subst (λ h. IsNotHeld (h name)) same (missing refl), missing_still refl);
     }
-has_cause held faults leaves Handed limits request names old between new place name contents Memory same stood named earlier
-    handed led last
+has_cause held faults leaves limits request names old between new place name contents Memory same stood named earlier led last
     failed too_long missing long_still missing_still = tt

@@ -10,11 +10,10 @@ use Rattle.class_calls.specs.command_rows.Words.{IsCommand}
 use Rattle.class_calls.specs.command_rows.Usage.{usage_lines}
 use Rattle.jterm.specs.Lines.{write_line}
 use Rattle.jterm.specs.Outside.{FirstAreRead, Puts, IsWithoutVerdict, IsWritten, file_limits}
-use Rattle.jterm.specs.CallEnds.{Change, Ports, CallEnds, handed_between}
+use Rattle.jterm.specs.CallEnds.{Change, Ports, CallEnds}
 use Rattle.jterm.specs.inner.Failure.{IsAnswered, HasCause}
 use Rattle.class_calls.proofs.OneCommand.{commands_one}
 use Rattle.jterm.proofs.Endings as endings
-use Rattle.jterm.proofs.Handing as handing
 use Rattle.jterm.proofs.Endings.{Reports, not_low, not_four, done_is_no_usage}
 
 -- the reads of a command's file words are those of any names that are its file words
@@ -34,7 +33,7 @@ pub no_command : {F O E : Type 0} (ports : Ports F O E) (words : List (List ℕ)
     → CallEnds ports words (record { old = files; new = files }) (record { old = out; new = out }) err
     (record { status = 4; verdict = None })
 no_command ports words files out err line no_row is said = record {
-  certificate = λ d cs prove none. absurd (omega (arith, none));
+  certificate = λ d cs desc classes prove told none. absurd (omega (arith, none));
   verdict = tt;
   written = tt;
   silent = (inr (inl refl), refl);
@@ -70,8 +69,7 @@ done_low own status (inr said) low = absurd (omega (arith, said.0, low))
 -- its output is written, or writing failed
 pub with_verdict : {F O E : Type 0} (ports : Ports F O E) (words : List (List ℕ)) (files : Change F) (out : Change O)
     (err : Change E) (result : Done) (request : Request) (names : List (List ℕ)) (own : Verdict)
-    → IsCommand words request names
-    → IsAnswered (file_limits request) request names (ports.held files.old) (handed_between ports files) own
+    → IsCommand words request names → IsAnswered (file_limits request) request names (ports.held files.old) own
     → FirstAreRead ports.leaves names files.old files.new
     → result.verdict ≡ Some own → IsWritten ports.out_faults ports.out_taken out.old out.new own result.status
     → ((result.status ≡ own.status) × (err.new ≡ err.old))
@@ -82,28 +80,25 @@ with_verdict ports words files out err result request names own command answered
     let Written : Option Verdict → Type 0 =
     λ o. IfSome o (λ v. IsWritten ports.out_faults ports.out_taken out.old out.new v result.status) in
     record {
-      certificate = λ d cs prove none.
-          handing.certificate ports.out_faults ports.out_taken out.old out.new words request names (ports.held files.old) own
-          result.status d cs command answered written prove none;
+      certificate = λ d cs desc classes prove told none.
+          endings.certificate ports.out_faults ports.out_taken out.old out.new words request names (ports.held files.old) own
+          result.status d cs desc classes command answered written prove told none;
       verdict = endings.decided words request names (ports.held files.old) own result.verdict command answered is;
       written = subst Written (sym is) written;
       silent = subst Silent (sym is) tt;
       not_proved = endings.not_proved ports.out_faults ports.out_taken out.old out.new words request names (ports.held files.old) own
           result.verdict result.status command answered is written;
-      not_accepted = endings.not_accepted ports.out_faults ports.out_taken out.old out.new words request names
-          (ports.held files.old) own
+      not_accepted = endings.not_accepted ports.out_faults ports.out_taken out.old out.new words request names (ports.held files.old) own
           result.status command answered written;
       refused = λ three. absurd (done_is_not own.status result.status 3 answered.low line (omega arith) (λ e. omega (arith, e)) three);
       usage = done_is_no_usage words request names own.status result.status command answered.low line;
       says_usage = λ four. absurd (done_is_not own.status result.status 4 answered.low line (omega arith) (λ e. omega (arith, e)) four);
       read = λ five. absurd (done_is_not own.status result.status 5 answered.low line (omega arith) (λ e. omega (arith, e)) five);
       write = endings.unwritten result.status own.status answered.low written line;
-      says_memory = λ seven. absurd
-          (done_is_not own.status result.status 7 answered.low line (omega arith) (λ e. omega (arith, e)) seven);
+      says_memory = λ seven. absurd (done_is_not own.status result.status 7 answered.low line (omega arith) (λ e. omega (arith, e)) seven);
       says_nothing = done_low own.status result.status line;
       answered = λ s n told handed good read put.
-          endings.answered_written ports.out_faults ports.out_taken out.old out.new words request s names n told
-          (ports.held files.old) own
+          endings.answered_written ports.out_faults ports.out_taken out.old out.new words request s names n told (ports.held files.old) own
           result.verdict result.status command answered is written handed put;
       complete = λ s n told verdict handed answer read put.
           endings.complete_written ports.out_faults ports.out_taken out.old out.new words request s names n told
@@ -112,8 +107,7 @@ with_verdict ports words files out err result request names own command answered
           absurd
           (endings.never_answered words request s names n told (ports.held files.old) own place fault command answered handed answer);
       reads = λ s n there. names_read ports.leaves words request s names n files.old files.new command reads there;
-      reads_nothing = λ four. absurd
-          (done_is_not own.status result.status 4 answered.low line (omega arith) (λ e. omega (arith, e)) four);
+      reads_nothing = λ four. absurd (done_is_not own.status result.status 4 answered.low line (omega arith) (λ e. omega (arith, e)) four);
     }
 
 -- ---- a failure
@@ -144,8 +138,7 @@ failure_is_not status other (inr (inr seven)) a b c is = c (sym is ∙ seven)
 pub stopped : {F O E : Type 0} (ports : Ports F O E) (words : List (List ℕ)) (files : Change F) (out : O) (err : Change E)
     (status : ℕ) (request : Request) (names : List (List ℕ)) (failure : Failure)
     → IsCommand words request names
-    → HasCause ports.held ports.faults ports.leaves (handed_between ports files) (file_limits request) request names files.old
-    files.new failure
+    → HasCause ports.held ports.faults ports.leaves (file_limits request) request names files.old files.new failure
     → FirstAreRead ports.leaves names files.old files.new
     → Reports (Puts ports.err_faults ports.err_taken err.old err.new) failure status
     → CallEnds ports words files (record { old = out; new = out }) err (record { status = status; verdict = None })
@@ -153,35 +146,30 @@ stopped ports words files out err status request names failure command cause rea
     let Says : List ℕ → Type 0 = Puts ports.err_faults ports.err_taken err.old err.new in
     let of : IsOfFailure status = of_failure failure status Says says in
     record {
-      certificate = λ d cs prove none. absurd (not_low failure status _ _ _ says (omega (arith, none)));
+      certificate = λ d cs desc classes prove told none. absurd (not_low failure status _ _ _ says (omega (arith, none)));
       verdict = tt;
       written = tt;
       silent = (failure_is_without status of, refl);
       not_proved = λ one. absurd (not_low failure status _ _ _ says (omega (arith, one)));
       not_accepted = λ two. absurd (not_low failure status _ _ _ says (omega (arith, two)));
-      refused = endings.refused ports.held ports.faults ports.leaves (handed_between ports files) words request names files.old
-          files.new failure status Says
+      refused = endings.refused ports.held ports.faults ports.leaves words request names files.old files.new failure status Says
           command cause says;
       usage = not_four words request names failure status Says command says;
       says_usage = λ four. absurd
           (failure_is_not status 4 of (λ e. omega (arith, e)) (λ e. omega (arith, e)) (λ e. omega (arith, e)) four);
-      read = endings.unread ports.held ports.faults ports.leaves (handed_between ports files) words request names files.old
-          files.new failure status Says
+      read = endings.unread ports.held ports.faults ports.leaves words request names files.old files.new failure status Says
           command cause says;
       write = λ six. absurd (failure_is_not status 6 of (λ e. omega (arith, e)) (λ e. omega (arith, e)) (λ e. omega (arith, e)) six);
       says_memory = endings.says_memory failure status Says says;
       says_nothing = λ low. absurd (not_low failure status _ _ _ says low);
       answered = λ s n told handed good read put.
-          endings.unanswered ports.held ports.faults ports.leaves (handed_between ports files) words request s names n told
-          files.old files.new failure status
+          endings.unanswered ports.held ports.faults ports.leaves words request s names n told files.old files.new failure status
           Says _ command cause says handed good read;
       complete = λ s n told verdict handed answer read put.
-          endings.complete ports.held ports.faults ports.leaves (handed_between ports files) words request s names n told
-          files.old files.new failure status
+          endings.complete ports.held ports.faults ports.leaves words request s names n told files.old files.new failure status
           verdict Says _ command cause says handed answer read;
       refuses = λ s n told place fault handed answer read.
-          endings.refuses ports.held ports.faults ports.leaves (handed_between ports files) words request s names n told
-          files.old files.new failure status
+          endings.refuses ports.held ports.faults ports.leaves words request s names n told files.old files.new failure status
           place fault Says command cause says handed answer read;
       reads = λ s n there. names_read ports.leaves words request s names n files.old files.new command reads there;
       reads_nothing = λ four. absurd

@@ -23,8 +23,7 @@ use Rattle.jterm.specs.Words.{IsProve}
 use Rattle.jterm.specs.Decision.{IsAnswer, IsUnrefused, not_proved_for, left_for, accepted, refused_with, IsRefusedLine}
 use Rattle.jterm.specs.Laws.{AreAlike}
 use Rattle.jterm.specs.Lines.{memory_line, write_line, read_line}
-use Rattle.jterm.specs.Outside.{HandedSince, WereHanded, AreHanded, IsUnread, FirstAreRead, Decided, Puts, IsWithoutVerdict}
-use Rattle.jterm.specs.Outside.{IsWritten, file_limits}
+use Rattle.jterm.specs.Outside.{AreTold, AreHanded, IsUnread, FirstAreRead, Decided, Puts, IsWithoutVerdict, IsWritten, file_limits}
 
 -- what a port was before a call, and what it is after it
 pub record Change (S : Type 0) : Type 0 where
@@ -35,8 +34,6 @@ pub record Change (S : Type 0) : Type 0 where
 pub record Ports (F O E : Type 0) : Type 1 where
   -- what the files hold under a name, where they tell it
   pub held : F → List ℕ → Told
-  -- the reads that gave a content so far, with the bytes that were handed over
-  pub handed : F → List (List ℕ × List ℕ)
   -- how many reads of the files failed
   pub faults : F → ℕ
   -- the read of a name leads from one state of the files to another
@@ -48,41 +45,35 @@ pub record Ports (F O E : Type 0) : Type 1 where
   pub err_faults : E → ℕ
   pub err_taken : E → Option (List ℕ)
 
--- what the reads between two states of the files handed over
-abbrev pub handed_between : {F O E : Type 0} → Ports F O E → Change F → List (List ℕ) → List (List ℕ) → Type 0
-handed_between ports files = HandedSince (ports.handed files.old) (ports.handed files.new)
-
 -- What a call of `jterm` with these words comes to, seen by its ports: the files, the output and the error output before
 -- and after it, the exit status, and the verdict where there is one.
 pub record CallEnds {F O E : Type 0} (ports : Ports F O E) (words : List (List ℕ)) (files : Change F) (out : Change O)
     (err : Change E) (result : Done) : Type 0 where
-  -- Where YES is said, a certificate stands behind it, which `check` accepts for the same contents: those that the files handed over.
-  pub certificate : (d : List ℕ) (cs : List (List ℕ)) → IsProve words d cs → result.status ≡ 0
-      → (desc : List ℕ) × (classes : List (List ℕ))
-      × WereHanded ports.held ports.handed files.old files.new (d ∷ cs) (desc ∷ classes)
-      × (cert : List ℕ) × (length cert ≤ most_certificate_bytes) × IsAnswer Check (cert ∷ desc ∷ classes) (Ok accepted)
+  -- Where YES is said, a certificate stands behind it, which `check` accepts for the same files.
+  pub certificate : (d : List ℕ) (cs : List (List ℕ)) (desc : List ℕ) (classes : List (List ℕ))
+      → IsProve words d cs → AreTold (ports.held files.old) (d ∷ cs) (desc ∷ classes) → result.status ≡ 0
+      → (cert : List ℕ) × (length cert ≤ most_certificate_bytes) × IsAnswer Check (cert ∷ desc ∷ classes) (Ok accepted)
       × Appends (ports.out_taken out.old) (ports.out_taken out.new) (yes_text cert)
-  -- A verdict is the answer for the contents that the files handed over, and what it claims is true of these. Its output is written, or
-  -- writing failed.
-  pub verdict : IfSome result.verdict (λ v. Decided words (ports.held files.old) (handed_between ports files) (Ok v))
+  -- A verdict is the answer for the contents of the files. Its output is written, or writing failed.
+  pub verdict : IfSome result.verdict (λ v. Decided words (ports.held files.old) (Ok v))
   pub written : IfSome result.verdict (λ v. IsWritten ports.out_faults ports.out_taken out.old out.new v result.status)
   pub silent : IfNone result.verdict (IsWithoutVerdict result.status × (out.new ≡ out.old))
   -- Status 1: no certificate is given, for a reason that is kept; or rules are left, which are kept. It holds, and the text is its own.
   pub not_proved : result.status ≡ 1 → ((reason : Reason PackedPairs) × (text : List ℕ)
       × (result.verdict ≡ Some (not_proved_for reason text))
-      × Decided words (ports.held files.old) (handed_between ports files) (Ok (not_proved_for reason text))
+      × Decided words (ports.held files.old) (Ok (not_proved_for reason text))
       × Appends (ports.out_taken out.old) (ports.out_taken out.new) text) ⊎ ((left : ItsFound) × (text : List ℕ)
       × (result.verdict ≡ Some (left_for left text))
-      × Decided words (ports.held files.old) (handed_between ports files) (Ok (left_for left text))
+      × Decided words (ports.held files.old) (Ok (left_for left text))
       × Appends (ports.out_taken out.old) (ports.out_taken out.new) text)
   -- Status 2: the certificate is refused. The line names the first item that fails, or says that a bound or a loop is
   -- refused, and the cause.
   pub not_accepted : result.status ≡ 2 → (line : List ℕ) × IsRefusedLine line
-      × Decided words (ports.held files.old) (handed_between ports files) (Ok (refused_with line))
+      × Decided words (ports.held files.old) (Ok (refused_with line))
       × Appends (ports.out_taken out.old) (ports.out_taken out.new) line
   -- Status 3: the input has this fault.
   pub refused : result.status ≡ 3 → (place : Place) × (fault : Fault)
-      × Decided words (ports.held files.old) (handed_between ports files) (Err (At place fault))
+      × Decided words (ports.held files.old) (Err (At place fault))
       × Puts ports.err_faults ports.err_taken err.old err.new (refusal_line place fault)
   -- Status 4: the words are no row of the commands that are built.
   pub usage : (result.status ≡ 4) ↔ ((request : Request) (names : List (List ℕ)) → ¬ IsCommand words request names)
@@ -90,8 +81,7 @@ pub record CallEnds {F O E : Type 0} (ports : Ports F O E) (words : List (List �
   -- Status 5: a file was not read. It is the first that was not, and its own read is what failed.
   pub read : result.status ≡ 5 → (request : Request) × (names : List (List ℕ)) × (name : List ℕ) × (fault : FileFault)
       × IsCommand words request names
-      × IsUnread ports.held ports.faults ports.leaves (handed_between ports files) (file_limits request) names files.old
-      files.new name fault
+      × IsUnread ports.held ports.faults ports.leaves (file_limits request) names files.old files.new name fault
       × Puts ports.err_faults ports.err_taken err.old err.new (read_line name fault)
   -- Status 6: the output was not taken.
   pub write : result.status ≡ 6 → Rose (ports.out_faults out.old) (ports.out_faults out.new)
@@ -106,8 +96,7 @@ pub record CallEnds {F O E : Type 0} (ports : Ports F O E) (words : List (List �
       → AreHanded words (ports.held files.old) request names contents → IsUnrefused request contents
       → ¬ Rose (ports.faults files.old) (ports.faults files.new) → ¬ Rose (ports.out_faults out.old) (ports.out_faults out.new)
       → ((verdict : Verdict) × (result.verdict ≡ Some verdict) × IsAnswer request contents (Ok verdict)
-      × (result.status ≡ verdict.status) × Appends (ports.out_taken out.old) (ports.out_taken out.new) verdict.out)
-      ⊎ (result.status ≡ 7)
+      × (result.status ≡ verdict.status) × Appends (ports.out_taken out.old) (ports.out_taken out.new) verdict.out) ⊎ (result.status ≡ 7)
   pub complete : (request : Request) (names contents : List (List ℕ)) (verdict : Verdict)
       → AreHanded words (ports.held files.old) request names contents → IsAnswer request contents (Ok verdict)
       → ¬ Rose (ports.faults files.old) (ports.faults files.new) → ¬ Rose (ports.out_faults out.old) (ports.out_faults out.new)

@@ -152,10 +152,10 @@ HoldsClaim (Prove nodes) (desc ∷ classes) verdict = Says yes_line verdict → 
 HoldsClaim Check (cert ∷ desc ∷ classes) verdict = Says accepted_line verdict → AllEnd classes desc
 HoldsClaim (Generate n) [] verdict = (class : List ℕ) → generate.IsClass n class → SaysYes n verdict.out → AllEnd (class ∷ []) description
 HoldsClaim Migrate (cert ∷ desc ∷ classes) verdict = verdict.status ≡ 0 → IsMigrated classes desc cert verdict.out
-HoldsClaim Bound (bound ∷ cert ∷ desc ∷ classes) verdict = verdict.status ≡ 0 → AllEndWithin classes desc cert bound verdict.out
+HoldsClaim Bound (bound ∷ cert ∷ desc ∷ classes) verdict = verdict.status ≡ 0 → AllEndWithin classes desc verdict.out
 HoldsClaim Loop (cert ∷ state ∷ desc ∷ classes) verdict = Says loops.no_line verdict → AllGoOnForEver classes desc state
 HoldsClaim Its (text ∷ []) verdict = Says its.yes_line verdict → IsEnding text
-HoldsClaim Throws (cert ∷ desc ∷ classes) verdict = verdict.status ≡ 0 → AllEndAsSaid classes desc cert verdict.out
+HoldsClaim Throws (cert ∷ desc ∷ classes) verdict = verdict.status ≡ 0 → AllEndAsSaid classes desc verdict.out
 HoldsClaim request files verdict = ⊤
 
 -- ---- where nothing is proved

@@ -1,8 +1,7 @@
 -- What a call of the program comes to: the words, the files that they name, the output and the line of errors.
-use Rattle.std.specs.Prelude.{◌≡◌, ◌⊎◌, ℕ, suc, ◌≤◌, List, [], ◌∷◌, ◌++◌, length, map, take, slice_get, Option, Some, Result, IfOk, ⊤}
+use Rattle.std.specs.Prelude.{◌≡◌, ◌⊎◌, ℕ, suc, ◌≤◌, List, [], ◌∷◌, ◌++◌, length, map, take, slice_get, Option, Some, Result, ⊤}
 use Rattle.std.specs.Io.KnownBytes.{Appends}
 use Rattle.io_ports.specs.Count.{Rose}
-use Rattle.io_ports.specs.Handed.{reads_of, HaveHanded}
 use Rattle.io_ports.specs.Taken.{AppendsPrefix}
 use Rattle.io_ports.specs.Told.{Told, IsContent, IsPastLimit, IsNotHeld}
 use Rattle.io_ports.specs.Told.Told.{Content}
@@ -17,7 +16,7 @@ use Rattle.class_calls.specs.command_rows.Rows.{row_at, file_at}
 use Rattle.jterm.specs.declared.verdict.Verdict.{Verdict}
 use Rattle.input_steps.specs.declared.refused.Refused.{Refused}
 use Rattle.class_calls.specs.command_rows.Words.{IsCommand}
-use Rattle.jterm.specs.Decision.{IsAnswer, HoldsClaim}
+use Rattle.jterm.specs.Decision.{IsAnswer}
 
 -- ---- files
 
@@ -51,22 +50,6 @@ AreContents limits held (name ∷ names) (content ∷ contents) = IsContent (hel
 AreContents limits held [] (content ∷ contents) = ⊥
 AreContents limits held (name ∷ names) [] = ⊥
 
--- the contents under these names are no others than those that are told
-abbrev pub AreHeld : (List ℕ → Told) → List (List ℕ) → List (List ℕ) → Type 0
-AreHeld held [] [] = ⊤
-AreHeld held (name ∷ names) (content ∷ contents) = IsContent (held name) content × AreHeld held names contents
-AreHeld held [] (content ∷ contents) = ⊥
-AreHeld held (name ∷ names) [] = ⊥
-
--- since the old record of the files, the reads of these names, one after another, gave these contents, and no other read gave one
-abbrev pub HandedSince : List (List ℕ × List ℕ) → List (List ℕ × List ℕ) → List (List ℕ) → List (List ℕ) → Type 0
-HandedSince old new names contents = HaveHanded old new (reads_of names contents)
-
--- The contents under these names are the bytes that the reads of a call handed over, each name once and in their order. Files that
--- tell their contents handed over those; files that tell nothing, as those of an operating system, handed over these.
-abbrev pub WereHanded : {F : Type 0} → (F → List ℕ → Told) → (F → List (List ℕ × List ℕ)) → F → F → List (List ℕ) → List (List ℕ) → Type 0
-WereHanded held handed old new names contents = AreHeld (held old) names contents × HandedSince (handed old) (handed new) names contents
-
 -- the contents are within the limits at their places
 abbrev pub AreWithin : (ℕ → ℕ) → List (List ℕ) → Type 0
 AreWithin limits [] = ⊤
@@ -86,17 +69,14 @@ AreRead leaves [] old new = old ≡ new
 AreRead {F} leaves (name ∷ names) old new = (between : F) × leaves old name between × AreRead leaves names between new
 
 -- The file of this name is the first of the named ones that was not read, for this cause. The files before it were read, one
--- after the other, and handed over their contents (`Handed`), which led from the old files to those between, and none of them failed:
--- the count of faults stood still.
+-- after the other, which led from the old files to those between, and none of them failed: the count of faults stood still.
 -- The read of this very file led on from there to the new ones, and is the one that failed.
-pub record IsUnread {F : Type 0} (held : F → List ℕ → Told) (faults : F → ℕ) (leaves : F → List ℕ → F → Type 0)
-    (Handed : List (List ℕ) → List (List ℕ) → Type 0) (limits : ℕ → ℕ)
+pub record IsUnread {F : Type 0} (held : F → List ℕ → Told) (faults : F → ℕ) (leaves : F → List ℕ → F → Type 0) (limits : ℕ → ℕ)
     (names : List (List ℕ)) (old new : F) (name : List ℕ) (fault : FileFault) : Type 0 where
   pub place : ℕ
   pub is_named : slice_get names place ≡ Some name
   pub contents : List (List ℕ)
   pub earlier : AreContents limits (held old) (take place names) contents
-  pub handed : Handed (take place names) contents
   pub between : F
   pub led : AreRead leaves (take place names) old between
   pub still : faults between ≡ faults old
@@ -116,18 +96,14 @@ pub record AreHanded (words : List (List ℕ)) (held : List ℕ → Told) (reque
   pub told : AreTold held names contents
   pub within : AreWithin (file_limits request) contents
 
--- A result is the answer for the contents that the files handed over (`Handed`) which the words of a command name, and what a yes
--- claims is true of these.
-pub record Decided (words : List (List ℕ)) (held : List ℕ → Told) (Handed : List (List ℕ) → List (List ℕ) → Type 0)
-    (result : Result Verdict Refused) : Type 0 where
+-- a result is the answer for the contents of the files that the words of a command name
+pub record Decided (words : List (List ℕ)) (held : List ℕ → Told) (result : Result Verdict Refused) : Type 0 where
   pub request : Request
   pub names : List (List ℕ)
   pub is_command : IsCommand words request names
   pub contents : List (List ℕ)
   pub read : AreContents (file_limits request) held names contents
-  pub handed : Handed names contents
   pub answer : IsAnswer request contents result
-  pub claim : IfOk result (HoldsClaim request contents)
 
 -- ---- outputs
 

@@ -1,6 +1,6 @@
 //! The files that a command names, read in the order of its words.
 ghost use Rattle.std.specs.Prelude.{◌≡◌, ◌≤◌, ◌^◌, map, string_bytes, IfOk, IfErr};
-ghost use Rattle.jterm.specs.Outside.{AreContents, FirstAreRead, HandedSince, limit_at};
+ghost use Rattle.jterm.specs.Outside.{AreContents, FirstAreRead, limit_at};
 ghost use Rattle.jterm.specs.inner.Failure.{HasCause, failure_at};
 ghost use Rattle.jterm.specs.declared.inputs.Failure.TheVariants.{NoMemory};
 
@@ -86,10 +86,8 @@ pub(crate) fn read_inputs<'a, F: Files>(
     requires other { other ≤ 2 ^ 31 }
     ensures contents { IfOk result (λ inputs. AreContents (limit_at certificate other command.now.request) (F.held files.old)
         (map string_bytes command.now.files.now) (map (λ file. file.items) inputs.items)) }
-    ensures handed { IfOk result (λ inputs. HandedSince (F.handed files.old) (F.handed files.new)
-        (map string_bytes command.now.files.now) (map (λ file. file.items) inputs.items)) }
-    ensures cause { IfErr result (λ failure. HasCause F.held F.faults F.leaves (HandedSince (F.handed files.old) (F.handed files.new))
-        (limit_at certificate other command.now.request) command.now.request
+    ensures cause { IfErr result (λ failure. HasCause F.held F.faults F.leaves (limit_at certificate other command.now.request)
+        command.now.request
         (map string_bytes command.now.files.now) files.old files.new failure) }
     ensures reads { FirstAreRead F.leaves (map string_bytes command.now.files.now) files.old files.new }
 {

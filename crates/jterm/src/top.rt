@@ -18,7 +18,7 @@ ghost use Rattle.generate_text.specs.Descriptions.{description};
 ghost use Rattle.jterm.specs.GenerateAnswers.{IsClass};
 ghost use Rattle.jterm.specs.GenerateLines.{yes_begin};
 ghost use Rattle.jterm.specs.Lines.{memory_line, write_line};
-ghost use Rattle.jterm.specs.Outside.{FirstAreRead, HandedSince, WereHanded, Puts, Begins, Claims, IsWritten, limit_at};
+ghost use Rattle.jterm.specs.Outside.{AreTold, FirstAreRead, Puts, Begins, Claims, IsWritten, limit_at};
 ghost use Rattle.jterm.specs.CallEnds.{CallEnds};
 ghost use Rattle.jterm.specs.inner.Failure.{HasCause, AreOfCommand, IsAnswered, HasLine, status_of, line_of};
 
@@ -55,9 +55,9 @@ fn answer<'a, F: Files>(
     requires other { other ≤ 2 ^ 31 }
     requires command { AreOfCommand command.now.request (map string_bytes command.now.files.now) }
     ensures answered { IfOk result (λ verdict. IsAnswered (limit_at certificate other command.now.request) command.now.request
-        (map string_bytes command.now.files.now) (F.held files.old) (HandedSince (F.handed files.old) (F.handed files.new)) verdict) }
-    ensures cause { IfErr result (λ failure. HasCause F.held F.faults F.leaves (HandedSince (F.handed files.old) (F.handed files.new))
-        (limit_at certificate other command.now.request) command.now.request
+        (map string_bytes command.now.files.now) (F.held files.old) verdict) }
+    ensures cause { IfErr result (λ failure. HasCause F.held F.faults F.leaves (limit_at certificate other command.now.request)
+        command.now.request
         (map string_bytes command.now.files.now) files.old files.new failure) }
     ensures reads { FirstAreRead F.leaves (map string_bytes command.now.files.now) files.old files.new }
 {
@@ -156,60 +156,55 @@ pub fn jterm<F: Files, O: Sink, E: Sink>(
     out: &mut O,
     err: &mut E,
 ) -> Done
-    // Where YES is claimed, every state that the description fits comes to an end, for the contents that the files handed over.
-    ensures headline { (d : List ℕ) (cs : List (List ℕ)) → IsProve (map string_bytes words.now) d cs
-        → Claims yes_line O.taken out.old out.new result.status
-        → (desc : List ℕ) × (classes : List (List ℕ))
-        × WereHanded F.held F.handed files.old files.new (d ∷ cs) (desc ∷ classes) × AllEnd classes desc }
+    // Where YES is claimed, every state that the description fits comes to an end, for the contents of the files.
+    ensures headline { (d : List ℕ) (cs : List (List ℕ)) (desc : List ℕ) (classes : List (List ℕ))
+        → IsProve (map string_bytes words.now) d cs → AreTold (F.held files.old) (d ∷ cs) (desc ∷ classes)
+        → Claims yes_line O.taken out.old out.new result.status → AllEnd classes desc }
 
     // So it does where ACCEPTED is claimed.
-    ensures headline_of_check { (c d : List ℕ) (cs : List (List ℕ)) → IsCheck (map string_bytes words.now) c d cs
-        → Claims accepted_line O.taken out.old out.new result.status
-        → (cert desc : List ℕ) × (classes : List (List ℕ))
-        × WereHanded F.held F.handed files.old files.new (c ∷ d ∷ cs) (cert ∷ desc ∷ classes) × AllEnd classes desc }
+    ensures headline_of_check { (c d : List ℕ) (cs : List (List ℕ)) (cert desc : List ℕ) (classes : List (List ℕ))
+        → IsCheck (map string_bytes words.now) c d cs → AreTold (F.held files.old) (c ∷ d ∷ cs) (cert ∷ desc ∷ classes)
+        → Claims accepted_line O.taken out.old out.new result.status → AllEnd classes desc }
 
     // So it does of the class that is made where `blocks N answer YES` is put.
     ensures headline_of_generate { (n : ℕ) (class : List ℕ) → IsCommand (map string_bytes words.now) (Generate n) [] → IsClass n class
         → Begins (yes_begin n) O.taken out.old out.new → AllEnd (class ∷ []) description }
 
-    // Where the status is 0 for a certificate whose runs' ends are asked for, the lines which were put are those of the
-    // report of its graph, and every state that the description fits has a run that ends in a way that they say.
-    ensures headline_of_throws { (c d : List ℕ) (cs : List (List ℕ)) → IsThrows (map string_bytes words.now) c d cs → result.status ≡ 0
-        → (cert desc : List ℕ) × (classes : List (List ℕ))
-        × WereHanded F.held F.handed files.old files.new (c ∷ d ∷ cs) (cert ∷ desc ∷ classes)
-        × (lines : List ℕ) × Appends (O.taken out.old) (O.taken out.new) lines × AllEndAsSaid classes desc cert lines }
+    // Where the status is 0 for a certificate whose runs' ends are asked for, every state that the description fits
+    // has a run that ends in a way that the lines say which were put.
+    ensures headline_of_throws { (c d : List ℕ) (cs : List (List ℕ)) (cert desc : List ℕ) (classes : List (List ℕ))
+        → IsThrows (map string_bytes words.now) c d cs → AreTold (F.held files.old) (c ∷ d ∷ cs) (cert ∷ desc ∷ classes)
+        → result.status ≡ 0
+        → (lines : List ℕ) × Appends (O.taken out.old) (O.taken out.new) lines × AllEndAsSaid classes desc lines }
 
-    // Where the status is 0 for a bound, the lines which were put are those of the bound that its bytes give for the
-    // certificate, and every state that the description fits has a run that ends after at most the bound's value.
-    ensures headline_of_bound { (b c d : List ℕ) (cs : List (List ℕ)) → IsBound (map string_bytes words.now) b c d cs → result.status ≡ 0
-        → (bound cert desc : List ℕ) × (classes : List (List ℕ))
-        × WereHanded F.held F.handed files.old files.new (b ∷ c ∷ d ∷ cs) (bound ∷ cert ∷ desc ∷ classes)
-        × (lines : List ℕ) × Appends (O.taken out.old) (O.taken out.new) lines × AllEndWithin classes desc cert bound lines }
+    // Where the status is 0 for a bound, every state that the description fits has a run that ends after at most the
+    // value of the bound that the lines say which were put.
+    ensures headline_of_bound { (b c d : List ℕ) (cs : List (List ℕ)) (bound cert desc : List ℕ) (classes : List (List ℕ))
+        → IsBound (map string_bytes words.now) b c d cs → AreTold (F.held files.old) (b ∷ c ∷ d ∷ cs) (bound ∷ cert ∷ desc ∷ classes)
+        → result.status ≡ 0
+        → (lines : List ℕ) × Appends (O.taken out.old) (O.taken out.new) lines × AllEndWithin classes desc lines }
 
     // Where NO is claimed, every state that the description fits goes on for ever, and the given state is one.
-    ensures headline_of_loop { (c s d : List ℕ) (cs : List (List ℕ)) → IsLoop (map string_bytes words.now) c s d cs
-        → Claims no_line O.taken out.old out.new result.status
-        → (cert state desc : List ℕ) × (classes : List (List ℕ))
-        × WereHanded F.held F.handed files.old files.new (c ∷ s ∷ d ∷ cs) (cert ∷ state ∷ desc ∷ classes)
-        × AllGoOnForEver classes desc state }
+    ensures headline_of_loop { (c s d : List ℕ) (cs : List (List ℕ)) (cert state desc : List ℕ) (classes : List (List ℕ))
+        → IsLoop (map string_bytes words.now) c s d cs → AreTold (F.held files.old) (c ∷ s ∷ d ∷ cs) (cert ∷ state ∷ desc ∷ classes)
+        → Claims no_line O.taken out.old out.new result.status → AllGoOnForEver classes desc state }
 
     // Where the status is 0 for a certificate that is to be written in form 2, it is accepted, and what was put is that.
-    ensures headline_of_migrate { (c d : List ℕ) (cs : List (List ℕ)) → IsMigrate (map string_bytes words.now) c d cs → result.status ≡ 0
-        → (cert desc : List ℕ) × (classes : List (List ℕ))
-        × WereHanded F.held F.handed files.old files.new (c ∷ d ∷ cs) (cert ∷ desc ∷ classes)
-        × (text : List ℕ) × Appends (O.taken out.old) (O.taken out.new) text × IsMigrated classes desc cert text }
+    ensures headline_of_migrate { (c d : List ℕ) (cs : List (List ℕ)) (cert desc : List ℕ) (classes : List (List ℕ))
+        → IsMigrate (map string_bytes words.now) c d cs → AreTold (F.held files.old) (c ∷ d ∷ cs) (cert ∷ desc ∷ classes)
+        → result.status ≡ 0
+        → (text : List ℕ) × Appends (O.taken out.old) (O.taken out.new) text × IsMigrated classes desc cert text }
 
     // Where YES is claimed for a text of rules, there is no infinite sequence of locations with whole numbers for the
     // variables in which each neighbours meet all rows of one rule between them.
-    ensures headline_of_its { (r : List ℕ) → IsIts (map string_bytes words.now) r
-        → Claims its.yes_line O.taken out.old out.new result.status
-        → (text : List ℕ) × WereHanded F.held F.handed files.old files.new (r ∷ []) (text ∷ []) × IsEnding text }
+    ensures headline_of_its { (r text : List ℕ)
+        → IsIts (map string_bytes words.now) r → AreTold (F.held files.old) (r ∷ []) (text ∷ [])
+        → Claims its.yes_line O.taken out.old out.new result.status → IsEnding text }
 
     // How the call ends: a field for each promise.
     ensures ends { CallEnds
         (record {
           held = F.held;
-          handed = F.handed;
           faults = F.faults;
           leaves = F.leaves;
           out_faults = O.faults;

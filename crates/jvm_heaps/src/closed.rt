@@ -12,7 +12,7 @@ fn is_below(count: usize, value: Value) -> bool
     match value {
         Value::Int(_) => true,
         Value::Null => true,
-        Value::Ref(object) => object < count,
+        Value::Ref(object) => (object as usize) < count,
     }
 }
 

@@ -14,9 +14,9 @@ use std::alloc::{AllocError, Global};
 #[derive(Clone, Copy)]
 enum Turn {
     /// The object of this number is entered, where it was not before.
-    Enter(usize),
+    Enter(u32),
     /// The object of this number is left: all that it leads to has been left.
-    Leave(usize),
+    Leave(u32),
 }
 
 /// Notes that the object that a value names, if it names one, is to be entered.
@@ -44,12 +44,12 @@ fn enter_all(todo: &mut Stack<Turn>, values: &[Value]) -> Result<(), AllocError>
 }
 
 /// Notes that what an object leads to is to be entered, and that the object is left then.
-fn enter_from(todo: &mut Stack<Turn>, heap: &Heap, a: usize) -> Result<(), AllocError>
+fn enter_from(todo: &mut Stack<Turn>, heap: &Heap, a: u32) -> Result<(), AllocError>
     requires { a < length heap.now.objects }
     ensures { OnOk result (todo.new.0 ≡ all_enter (values_in heap.now a) (Leave a ∷ todo.old.0)) }
 {
     todo.push(Turn::Leave(a))?;
-    enter_all(todo, values(heap.objects.at(a)))
+    enter_all(todo, values(heap.objects.at(a as usize)))
 }
 
 /// One turn of the search. Says no where it came to an object that was entered and not left.
@@ -69,14 +69,14 @@ fn take_turn(
 {
     match turn {
         Turn::Leave(a) => {
-            left[a] = true;
+            left[a as usize] = true;
             Ok(true)
         }
         Turn::Enter(a) => {
-            if entered[a] {
-                Ok(left[a])
+            if entered[a as usize] {
+                Ok(left[a as usize])
             } else {
-                entered[a] = true;
+                entered[a as usize] = true;
                 enter_from(todo, heap, a)?;
                 Ok(true)
             }
@@ -85,7 +85,7 @@ fn take_turn(
 }
 
 /// Whether no cycle lies in what an object leads to, itself included.
-fn is_acyclic(alloc: Global, heap: &Heap, start: usize) -> Result<bool, AllocError>
+fn is_acyclic(alloc: Global, heap: &Heap, start: u32) -> Result<bool, AllocError>
     requires closed { IsClosed heap.now }
     requires in_heap { start < length heap.now.objects }
     ensures { IfOk result (λ answer. (answer ≡ true) ↔ IsDagFrom (heap_steps heap.now) start) }

@@ -19,24 +19,20 @@ pub(crate) fn values(object: &Object) -> &[Value]
 }
 
 /// Marks an object, and notes it where it was not marked.
-fn mark_object(
-    marks: &mut Vec<bool>,
-    todo: &mut Vec<usize>,
-    object: usize,
-) -> Result<(), AllocError>
+fn mark_object(marks: &mut Vec<bool>, todo: &mut Vec<u32>, object: u32) -> Result<(), AllocError>
     requires { object < length marks.old.items }
     ensures marks { OnOk result (marks.new.items ≡ marks_after (Ref object) marks.old.items) }
     ensures todo { OnOk result (todo.new.items ≡ todo_after (Ref object) marks.old.items todo.old.items) }
 {
-    if !marks[object] {
+    if !marks[object as usize] {
         todo.push(object)?;
-        marks[object] = true;
+        marks[object as usize] = true;
     }
     Ok(())
 }
 
 /// Marks the object that a value names, if it names one.
-fn mark(marks: &mut Vec<bool>, todo: &mut Vec<usize>, value: Value) -> Result<(), AllocError>
+fn mark(marks: &mut Vec<bool>, todo: &mut Vec<u32>, value: Value) -> Result<(), AllocError>
     requires { IsInHeap (length marks.old.items) value }
     ensures marks { OnOk result (marks.new.items ≡ marks_after value marks.old.items) }
     ensures todo { OnOk result (todo.new.items ≡ todo_after value marks.old.items todo.old.items) }
@@ -49,11 +45,7 @@ fn mark(marks: &mut Vec<bool>, todo: &mut Vec<usize>, value: Value) -> Result<()
 }
 
 /// Marks the objects that some values name, and notes those that were not marked.
-fn mark_all(
-    marks: &mut Vec<bool>,
-    todo: &mut Vec<usize>,
-    values: &[Value],
-) -> Result<(), AllocError>
+fn mark_all(marks: &mut Vec<bool>, todo: &mut Vec<u32>, values: &[Value]) -> Result<(), AllocError>
     requires { All (IsInHeap (length marks.old.items)) values.now }
     ensures marks { OnOk result (marks.new.items ≡ all_marks values.now marks.old.items) }
     ensures todo { OnOk result (todo.new.items ≡ all_todo values.now marks.old.items todo.old.items) }
@@ -80,7 +72,7 @@ pub(crate) fn marked(alloc: Global, heap: &Heap, value: Value) -> Result<Vec<boo
     let mut todo = Vec::new(alloc);
     mark(&mut marks, &mut todo, value)?;
     while let Some(a) = todo.pop() {
-        mark_all(&mut marks, &mut todo, values(heap.objects.at(a)))?;
+        mark_all(&mut marks, &mut todo, values(heap.objects.at(a as usize)))?;
     }
     Ok(marks)
 }

@@ -1,5 +1,5 @@
 //! The region of a value.
-ghost use Rattle.std.specs.Prelude.{◌≡◌, length, IfOk};
+ghost use Rattle.std.specs.Prelude.{◌≡◌, ◌<◌, ◌^◌, length, IfOk};
 ghost use Rattle.jvm_values.specs.Heaps.{IsInHeap, IsClosed};
 ghost use Rattle.jvm_heaps.specs.Regions.{IsRegion, marked_from};
 
@@ -9,13 +9,14 @@ use list_views::Seq;
 use std::alloc::{AllocError, Global};
 
 /// The places that are marked, rising.
-fn places(alloc: Global, marks: &[bool]) -> Result<Seq<usize>, AllocError>
+fn places(alloc: Global, marks: &[bool]) -> Result<Seq<u32>, AllocError>
+    requires { length marks.now < 2 ^ 32 }
     ensures { IfOk result (λ numbers. numbers ≡ marked_from 0 marks.now) }
 {
     let mut numbers = Seq::new(alloc);
     for (a, is_marked) in marks.iter().enumerate() {
         if *is_marked {
-            numbers.push(a)?;
+            numbers.push(a as u32)?;
         }
     }
     Ok(numbers)
@@ -27,9 +28,10 @@ fn places(alloc: Global, marks: &[bool]) -> Result<Seq<usize>, AllocError>
 /// # Errors
 ///
 /// Want of memory.
-pub fn region(alloc: Global, heap: &Heap, value: Value) -> Result<Seq<usize>, AllocError>
+pub fn region(alloc: Global, heap: &Heap, value: Value) -> Result<Seq<u32>, AllocError>
     requires closed { IsClosed heap.now }
     requires in_heap { IsInHeap (length heap.now.objects) value }
+    requires count { length heap.now.objects < 2 ^ 32 }
     ensures { IfOk result (λ numbers. IsRegion heap.now value numbers) }
 {
     let marks = marked(alloc, heap, value)?;

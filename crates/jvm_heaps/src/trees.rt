@@ -10,15 +10,15 @@ use jvm_values::{Heap, Object, Value};
 use std::alloc::{AllocError, Global};
 
 /// Marks an object; says no where it was marked, and else what was said.
-fn mark_new_object(named: &mut Vec<bool>, new: bool, object: usize) -> bool
+fn mark_new_object(named: &mut Vec<bool>, new: bool, object: u32) -> bool
     requires { object < length named.old.items }
     ensures marks { named.new.items ≡ marks_after (Ref object) named.old.items }
     ensures new { result ≡ new_after (Ref object) named.old.items new }
 {
-    if named[object] {
+    if named[object as usize] {
         false
     } else {
-        named[object] = true;
+        named[object as usize] = true;
         new
     }
 }

@@ -9,5 +9,5 @@ pub enum Ended {
     /// The first frame's method returned, with a value or with none.
     Returned(Option<Value>),
     /// No frame takes an object that was thrown, which has this number.
-    Threw(usize),
+    Threw(u32),
 }

@@ -17,7 +17,8 @@ use std::alloc::{AllocError, Global};
 ///
 /// # Errors
 ///
-/// Want of memory; then the state is that before the step that failed.
+/// Want of memory, also where the heap has 2^32 objects and one more is made; then the state is that before the step that
+/// failed.
 #[tactic(auto, using(crate::proofs::RunSteps::going, crate::proofs::RunSteps::returned, crate::proofs::RunSteps::threw, crate::proofs::RunSteps::failed))]
 pub fn run(
     alloc: Global,

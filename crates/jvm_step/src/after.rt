@@ -11,7 +11,7 @@ pub enum After {
     /// A new object of the built-in class of this number is thrown.
     Raise(u32),
     /// The object of this number is thrown.
-    Throw(usize),
+    Throw(u32),
     /// The method of a number is called.
     Invoke(u32, usize),
     /// The call returns, with a value or none.

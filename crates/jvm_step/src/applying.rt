@@ -14,6 +14,7 @@ ghost use Rattle.jvm_step.specs.Steps.{Does, HasRoom, MayFail, applied_in, going
 
 use crate::after::After;
 use crate::entries::called_frame;
+use crate::objects::next_number;
 use crate::outcome::Outcome;
 use crate::tops::{drop_top, empty_top, give_to_caller, set_top_place, take_from_caller};
 use class_program::class_world::World;
@@ -33,7 +34,7 @@ fn go_on(state: &mut State, place: u16)
 }
 
 /// An object is thrown.
-fn throw(state: &mut State, r: usize)
+fn throw(state: &mut State, r: u32)
     requires { 0 < length state.old.frames.0 }
     ensures state { state_of state.new ≡ thrown_in r (state_of state.old) }
     ensures room { (methods : List MethodSeen) → All (HasRoom methods) state.old.frames.0 → All (HasRoom methods) state.new.frames.0 }
@@ -62,7 +63,7 @@ fn raise_object(state: &mut State, object: Object) -> Result<(), AllocError>
         (λ _. state_of state.new ≡ state_of state.old) }
     ensures room { (methods : List MethodSeen) → All (HasRoom methods) state.old.frames.0 → All (HasRoom methods) state.new.frames.0 }
 {
-    let number = state.heap.objects.len();
+    let number = next_number(&state.heap)?;
     state.heap.objects.push(object)?;
     throw(state, number);
     Ok(())

@@ -51,6 +51,17 @@ fn reference_array(alloc: Global, element: Ty, count: &i32) -> Result<Option<Obj
     Ok(Some(Object::Refs { element, items }))
 }
 
+/// The number of the next object. A heap with as many objects as there are numbers wants memory.
+pub(crate) fn next_number(heap: &Heap) -> Result<u32, AllocError>
+    ensures { IfOk result (λ number. number ≡ length heap.now.objects) }
+{
+    if heap.objects.len() < 4_294_967_296 {
+        Ok(heap.objects.len() as u32)
+    } else {
+        Err(AllocError)
+    }
+}
+
 /// Puts an object at the heap's end, and a reference to it in the place of the top value.
 fn put(frame: &mut Frame, heap: &mut Heap, object: Object) -> Result<After, AllocError>
     requires top { 0 < length frame.old.stack.0 }
@@ -59,7 +70,7 @@ fn put(frame: &mut Frame, heap: &mut Heap, object: Object) -> Result<After, Allo
     ensures room { frame.new.stack.1 ≡ frame.old.stack.1 }
     ensures method { frame.new.method ≡ frame.old.method }
 {
-    let number = heap.objects.len();
+    let number = next_number(heap)?;
     match heap.objects.push(object) {
         Ok(()) => {
             replace(&mut frame.stack, 0, Value::Ref(number));
@@ -153,7 +164,7 @@ pub fn new_object(
     let Some(object) = instance(alloc, world, t)? else {
         return Ok(After::Next);
     };
-    let number = heap.objects.len();
+    let number = next_number(heap)?;
     if frame.stack.push(Value::Ref(number)).is_err() {
         return Err(AllocError);
     }

@@ -9,5 +9,5 @@ pub enum Outcome {
     /// The entry has returned, with a value or none.
     Returned(Option<Value>),
     /// The entry has ended with the object of this number, which nothing caught.
-    Threw(usize),
+    Threw(u32),
 }

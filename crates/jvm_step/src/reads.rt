@@ -19,10 +19,10 @@ use op_forms::ItemKind;
 use std::alloc::AllocError;
 
 /// The object of a number.
-pub(crate) fn object_at(heap: &Heap, r: usize) -> Option<&Object>
+pub(crate) fn object_at(heap: &Heap, r: u32) -> Option<&Object>
     ensures { option_map (λ object. object.now) result ≡ object_at heap.now r }
 {
-    heap.objects.get(r)
+    heap.objects.get(r as usize)
 }
 
 /// The field of an instance.

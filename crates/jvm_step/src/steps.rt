@@ -22,8 +22,9 @@ use std::alloc::{AllocError, Global};
 ///
 /// # Errors
 ///
-/// Want of memory; then the state is as it was. Where each stack has room for as many values as its method says, memory is wanting
-/// only in a step that makes an object or a frame, or that leaves a longer stack.
+/// Want of memory, also where the heap has 2^32 objects and one more is made; then the state is as it was. Where each stack has
+/// room for as many values as its method says, memory is wanting only in a step that makes an object or a frame, or that leaves
+/// a longer stack.
 #[tactic(auto, unfolding(crate::specs::Running::step))]
 pub fn step(alloc: Global, program: &Program<'_>, state: &mut State) -> Result<Outcome, AllocError>
     ensures step { Steps (running.step (program_of program.now) (state_of state.old)) result (state_of state.old) (state_of state.new) }

@@ -60,7 +60,7 @@ fn handler(world: &World<'_>, object: &Object, pc: u16, table: &[CatchRange]) ->
 }
 
 /// A handler of the running frame begins.
-fn catch_at(state: &mut State, place: u16, r: usize) -> Result<(), AllocError>
+fn catch_at(state: &mut State, place: u16, r: u32) -> Result<(), AllocError>
     requires { 0 < length state.old.frames.0 }
     ensures state { MatchResult result (λ _. state_of state.new ≡ handled_at place r (state_of state.old))
         (λ _. state_of state.new ≡ state_of state.old) }
@@ -83,7 +83,7 @@ fn unwind(state: &mut State)
 }
 
 /// What is done with the entry that was found, or with none.
-fn handle(state: &mut State, r: usize, found: Option<CatchRange>) -> Result<Outcome, AllocError>
+fn handle(state: &mut State, r: u32, found: Option<CatchRange>) -> Result<Outcome, AllocError>
     requires { 0 < length state.old.frames.0 }
     ensures state { Does (handled_in (state_of state.old) r found (state_of state.old).frames) result (state_of state.old)
         (state_of state.new) }
@@ -112,7 +112,7 @@ fn handler_of(
     heap: &Heap,
     method: &Method<'_>,
     pc: u16,
-    r: usize,
+    r: u32,
 ) -> Option<Option<CatchRange>>
     ensures { result ≡ option_map (λ object. find (takes (classes_of world.now) object pc) method.now.table) (thrown_at heap.now r) }
 {
@@ -123,7 +123,7 @@ fn handler_of(
 }
 
 /// The entry of the running method's table that takes a thrown object.
-fn handler_in(program: &Program<'_>, state: &State, r: usize) -> Option<Option<CatchRange>>
+fn handler_in(program: &Program<'_>, state: &State, r: u32) -> Option<Option<CatchRange>>
     requires { 0 < length state.now.frames.0 }
     ensures { result ≡ handler_in (program_of program.now) (state_of state.now) r (state_of state.now).frames }
 {
@@ -138,7 +138,7 @@ fn handler_in(program: &Program<'_>, state: &State, r: usize) -> Option<Option<C
 pub(crate) fn throwing_step(
     program: &Program<'_>,
     state: &mut State,
-    r: usize,
+    r: u32,
 ) -> Result<Outcome, AllocError>
     ensures state { Does (unwrap_or (throwing_step (program_of program.now) (state_of state.old) r (state_of state.old).frames)
         Step.Stuck) result (state_of state.old) (state_of state.new) }

@@ -59,7 +59,7 @@ fn give(frame: &mut Frame, place: u16, value: Option<Value>) -> Result<(), Alloc
 }
 
 /// Lets a handler of a frame begin at a place with the thrown object.
-fn begin_handler(frame: &mut Frame, place: u16, r: usize) -> Result<(), AllocError>
+fn begin_handler(frame: &mut Frame, place: u16, r: u32) -> Result<(), AllocError>
     ensures frame { MatchResult result (λ _. frame_of frame.new ≡ handling place r (frame_of frame.old))
         (λ _. frame_of frame.new ≡ frame_of frame.old) }
     ensures room { frame.old.stack.1 ≤ frame.new.stack.1 }
@@ -125,11 +125,7 @@ pub(crate) fn give_to_caller(
 }
 
 /// Lets a handler of the running frame begin at a place with the thrown object.
-pub(crate) fn handle_in_top(
-    frames: &mut Stack<Frame>,
-    place: u16,
-    r: usize,
-) -> Result<(), AllocError>
+pub(crate) fn handle_in_top(frames: &mut Stack<Frame>, place: u16, r: u32) -> Result<(), AllocError>
     requires { 0 < length frames.old.0 }
     ensures frames { MatchResult result
         (λ _. map frame_of frames.new.0 ≡ frames_with (handling place r) (map frame_of frames.old.0))

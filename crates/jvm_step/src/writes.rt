@@ -71,23 +71,23 @@ fn set_number(object: &mut Object, i: usize, n: i32)
 }
 
 /// Sets a field or an item of the object of a number.
-pub(crate) fn set_item(alloc: Global, heap: &mut Heap, r: usize, place: usize, value: Value)
+pub(crate) fn set_item(alloc: Global, heap: &mut Heap, r: u32, place: usize, value: Value)
     ensures { IfSome (object_at heap.old r) (λ object. heap.new ≡ with_item heap.old r place value object) }
 {
     let mut objects = mem::replace(&mut heap.objects, Seq::new(alloc)).into_vec();
-    if r < objects.len() {
-        set_in(&mut objects[r], place, value);
+    if (r as usize) < objects.len() {
+        set_in(&mut objects[r as usize], place, value);
     }
     heap.objects = Seq::from_vec(objects);
 }
 
 /// Sets a number of the array of a number.
-fn set_number_of(alloc: Global, heap: &mut Heap, r: usize, i: usize, n: i32)
+fn set_number_of(alloc: Global, heap: &mut Heap, r: u32, i: usize, n: i32)
     ensures { IfSome (object_at heap.old r) (λ object. heap.new ≡ with_number_of heap.old r i n object) }
 {
     let mut objects = mem::replace(&mut heap.objects, Seq::new(alloc)).into_vec();
-    if r < objects.len() {
-        set_number(&mut objects[r], i, n);
+    if (r as usize) < objects.len() {
+        set_number(&mut objects[r as usize], i, n);
     }
     heap.objects = Seq::from_vec(objects);
 }

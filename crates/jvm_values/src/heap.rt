@@ -14,7 +14,7 @@ pub enum Value {
     /// The reference to no object.
     Null,
     /// The reference to the object of this number in the heap.
-    Ref(usize),
+    Ref(u32),
 }
 
 /// An object of the heap.

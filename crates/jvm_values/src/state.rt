@@ -22,7 +22,7 @@ pub enum Mode {
     /// The top frame's instruction runs next.
     Normal,
     /// The object of this number is thrown and not yet caught.
-    Throwing(usize),
+    Throwing(u32),
 }
 
 /// A state of the machine.

@@ -10,4 +10,3 @@ pub mod Steps
 pub mod Truths
 pub mod Zipped
 pub mod SameBytes
-pub mod ReadBack

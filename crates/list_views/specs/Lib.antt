@@ -3,4 +3,3 @@ pub mod Options
 pub mod Results
 pub mod ByteLists
 pub mod FaultWords
-pub mod Shown

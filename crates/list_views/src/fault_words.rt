@@ -1,9 +1,9 @@
 //! How faults are put into words: a name, and then each field as ` name=value`. The names in class files are bytes that
-//! need not be text, so all words are lists of bytes; how such names stand among them says `shown`.
+//! need not be text, so all words are lists of bytes.
 
 ghost use Rattle.std.specs.Prelude.{◌≡◌, IfOk, map};
 ghost use Rattle.std.specs.Fmt.{decimal};
-ghost use Rattle.list_views.specs.FaultWords.{joined, number_field};
+ghost use Rattle.list_views.specs.FaultWords.{joined, number_field, bytes_field};
 
 use crate::seq::Seq;
 use std::alloc::{AllocError, Global};
@@ -45,4 +45,15 @@ pub fn number_field(alloc: Global, name: &[u8], value: usize) -> Result<Seq<u8>,
 {
     let digits = number(alloc, value)?;
     joined(alloc, &[b" ", name, b"=", digits.as_slice()])
+}
+
+/// A field that holds bytes, as they are: ` name=value`.
+///
+/// # Errors
+///
+/// Want of memory.
+pub fn bytes_field(alloc: Global, name: &[u8], value: &[u8]) -> Result<Seq<u8>, AllocError>
+    ensures { IfOk result (λ text. text ≡ bytes_field name.now value.now) }
+{
+    joined(alloc, &[b" ", name, b"=", value])
 }

@@ -7,7 +7,6 @@
 mod bytes;
 pub mod fault_words;
 mod seq;
-pub mod shown;
 mod stack;
 
 pub use bytes::Bytes;

@@ -16,11 +16,23 @@ use list_views::Seq;
 use std::alloc::{AllocError, Global};
 use term_enc::PatternTerm;
 
+/// A place in a list as a number of a position. A list of 2^32 entries and more takes more memory than there is: want of memory is
+/// told then.
+fn place_number(place: usize) -> Result<u32, AllocError>
+    ensures { IfOk result (λ number. number ≡ place) }
+{
+    if place <= u32::MAX as usize {
+        Ok(place as u32)
+    } else {
+        Err(AllocError)
+    }
+}
+
 /// Adds the locals of a frame that have an id.
 fn push_locals(
     places: &mut Seq<Place>,
     id: Id,
-    frame: usize,
+    frame: u32,
     locals: &[Option<Id>],
 ) -> Result<(), AllocError>
     ensures { OnOk result (places.new ≡ places.old ++ locals_with id frame 0 locals.now) }
@@ -30,7 +42,7 @@ fn push_locals(
             places.push(Place {
                 frame,
                 stack: false,
-                index: place,
+                index: place_number(place)?,
             })?;
         }
     }
@@ -38,12 +50,7 @@ fn push_locals(
 }
 
 /// Adds the entries of an operand stack, counted from the bottom, that have an id.
-fn push_entries(
-    places: &mut Seq<Place>,
-    id: Id,
-    frame: usize,
-    stack: &[Id],
-) -> Result<(), AllocError>
+fn push_entries(places: &mut Seq<Place>, id: Id, frame: u32, stack: &[Id]) -> Result<(), AllocError>
     ensures { OnOk result (places.new ≡ places.old ++ entries_with id frame 0 stack.now) }
 {
     for (place, entry) in stack.iter().enumerate() {
@@ -51,7 +58,7 @@ fn push_entries(
             places.push(Place {
                 frame,
                 stack: true,
-                index: place,
+                index: place_number(place)?,
             })?;
         }
     }
@@ -63,8 +70,9 @@ fn push_places(places: &mut Seq<Place>, id: Id, frames: &[AbsFrame]) -> Result<(
     ensures { OnOk result (places.new ≡ places.old ++ places_from id 0 frames.now) }
 {
     for (place, frame) in frames.iter().enumerate() {
-        push_locals(places, id, place, frame.locals())?;
-        push_entries(places, id, place, frame.stack())?;
+        let number = place_number(place)?;
+        push_locals(places, id, number, frame.locals())?;
+        push_entries(places, id, number, frame.stack())?;
     }
     Ok(())
 }

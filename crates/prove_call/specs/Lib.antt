@@ -5,4 +5,3 @@ pub mod Laws
 pub mod inner
 -- files of crates below, given again for the crates above
 pub use Rattle.desc_steps.specs.Headline as DescStepsHeadline
-pub use Rattle.desc_steps.specs.Givable as DescStepsGivable

@@ -4,7 +4,7 @@ use Rattle.std.specs.Fmt.{decimal}
 use Rattle.std.specs.List.{flat_map}
 use Rattle.std.specs.Option.{option_map_or}
 use Rattle.list_views.specs.FaultWords.{joined}
-use Rattle.list_views.specs.Shown.{method_text}
+use Rattle.class_world.specs.Faults.{method_pieces}
 use Rattle.class_world.specs.World.{World}
 use Rattle.class_program.specs.declared.program.Method.{Method}
 use Rattle.class_program.specs.Methods.{class_name}
@@ -27,9 +27,9 @@ yes_text cert = joined (yes_line ∷ cert ∷ codes "\n" ∷ [])
 
 -- ---- maybe
 
--- a method in words: `CLASS.NAMEDESC`, by its names as lines show them
+-- a method in words: `CLASS.NAMEDESC`
 abbrev pub method_words : World → Method → List ℕ
-method_words world m = method_text (class_name world m.class) m.name m.desc
+method_words world m = joined (method_pieces (class_name world m.class) m.name m.desc [])
 
 -- the place of a frame in words: `CLASS.NAMEDESC@PC`
 abbrev pub frame_text : Program → AbstractFrame → List ℕ

@@ -12,7 +12,6 @@ use abs_cells::{AbsFrame, AbsState, Pairs};
 use class_program::{Method, Program};
 use class_world::World;
 use list_views::Seq;
-use list_views::shown::put_shown;
 use prove_core::{LeftRule, Reason};
 use std::alloc::{AllocError, Global};
 use term_graph::Graph;
@@ -47,10 +46,10 @@ fn put_number(
 fn put_method(text: &mut Seq<u8>, world: &World<'_>, method: &Method<'_>) -> Result<(), AllocError>
     ensures { OnOk result (text.new ≡ text.old ++ method_words (classes_of world.now) method.now) }
 {
-    put_shown(text, class_name(world, method.class))?;
+    text.extend_from_slice(class_name(world, method.class))?;
     text.extend_from_slice(b".")?;
-    put_shown(text, method.name.as_slice())?;
-    put_shown(text, method.desc.as_slice())
+    text.extend_from_slice(method.name.as_slice())?;
+    text.extend_from_slice(method.desc.as_slice())
 }
 
 /// Adds where a frame is: `CLASS.NAMEDESC@PC`.

@@ -17,7 +17,7 @@ use Rattle.descent.specs.Steps.{numbers_from, rank_fault, listed_fault, rule_of}
 use Rattle.rank_forms.specs.declared.following.Bound.{Bound}
 use Rattle.rank_forms.specs.declared.following.Followed.{Followed}
 use Rattle.rank_forms.specs.Forms.{base_of_bound, greater_of, list_from, listed_as, listed_by, needed, or_zero, strict_bound}
-use Rattle.rank_forms.specs.RankSteps.{CountOnce, IsOnce, has_strict, is_strict}
+use Rattle.rank_forms.specs.RankSteps.{has_strict, is_strict}
 use Rattle.rank_forms.proofs.Rests.{IsRest, rest_first, rest_more}
 
 -- a number that may be there is at least another one
@@ -211,17 +211,3 @@ all_few n [] h i d low = absurd (omega (arith, low))
 all_few n (followed ∷ rest) h zero d low = let few = h 0 followed refl in few_by n followed.fall (strict_bound followed) few.0
     (λ bound e. few.1 bound (cond_guarded (int_lt (pos 0) followed.falls) followed.bound bound e).1)
 all_few n (followed ∷ rest) h (suc i) d low = all_few (suc n) rest (λ k other at. h (suc k) other at) i d (omega (arith, low))
-
--- each list of multipliers has a row once, and none 0 times
-once_by : (number : ℕ) (fall : List (ℕ × ℤ)) (found : Option Bound) → CountOnce fall
-    → ((bound : Bound) → found ≡ Some bound → CountOnce bound.rows) → IsOnce (listed_by number fall found)
-once_by number fall None h k = h
-once_by number fall (Some bound) h k = (h, k bound refl)
-
-pub all_once : (n : ℕ) (follows : List Followed)
-    → ((k : ℕ) (followed : Followed) → slice_get follows k ≡ Some followed → CountOnce followed.fall
-    × ((bound : Bound) → followed.bound ≡ Some bound → CountOnce bound.rows)) → All IsOnce (list_from n follows)
-all_once n [] h i d low = absurd (omega (arith, low))
-all_once n (followed ∷ rest) h zero d low = let once = h 0 followed refl in once_by n followed.fall (strict_bound followed) once.0
-    (λ bound e. once.1 bound (cond_guarded (int_lt (pos 0) followed.falls) followed.bound bound e).1)
-all_once n (followed ∷ rest) h (suc i) d low = all_once (suc n) rest (λ k other at. h (suc k) other at) i d (omega (arith, low))

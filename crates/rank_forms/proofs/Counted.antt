@@ -4,16 +4,13 @@ use Rattle.std.proofs.Common.{get_or, set, replicate, ℤ, pos, ◌+ℤ◌, ◌*
 use Rattle.std.proofs.Common.{sym, append_assoc}
 use Rattle.std.specs.Prelude.{slice_get, unsigned_abs, nat_lt, int_lt}
 use Rattle.std.specs.Ordering.{int_eq}
-use Rattle.std.specs.List.{All, AllByRecursion}
 use Rattle.std.proofs.Math.ListN.{length-set}
-use Rattle.std.proofs.lemmas.Bool.Decides.{Decides-int_eq, nat_tests, not_from_Decides}
+use Rattle.std.proofs.lemmas.Bool.Decides.{Decides-int_eq, nat_tests}
 use Rattle.std.proofs.lemmas.Int.{ints}
 use Rattle.std.proofs.lemmas.Bool.{eq-eqb, eqb-true}
 use Rattle.std.proofs.lemmas.List.{get_or-set_same, get_or-set_other, length-replicate}
 use Rattle.std.proofs.lemmas.Option.{slice_get_within, same_Some, none-some}
-use Rattle.std.proofs.lemmas.List.Elements.{recursion_from_All}
 use Rattle.list_views.proofs.Marks.{zero_at}
-use Rattle.list_views.proofs.Quantified.{all_weaker}
 use Rattle.list_views.proofs.Orders.{zero_times, int_eq_true}
 use Rattle.list_views.proofs.Ring.{plus_times}
 use Rattle.lin_core.specs.declared.faults.LinFault.{LinFault}
@@ -22,10 +19,9 @@ use Rattle.lin_core.specs.declared.rows.RowKind.{RowKind}
 use Rattle.lin_core.specs.declared.rows.RowKind.TheVariants.{AtLeastZero, IsZero}
 use Rattle.lin_core.specs.Combination.{number_of, sum_of, may_multiply, fault_at_row, fault_of_entry, first_of_two, first_fault}
 use Rattle.lin_core.specs.Combination.{first_fault_from, IsAllowedAt, AllAllowed}
-use Rattle.lin_core.specs.Rows.{Row, RiseFrom, coefficient_of}
+use Rattle.lin_core.specs.Rows.{Row, coefficient_of}
 use Rattle.lin_core.specs.Weights.{total_size}
 use Rattle.lin_core.proofs.Signs.{mul-zero_ℤ}
-use Rattle.rank_forms.specs.RankSteps.{CountOnce}
 use Rattle.rank_forms.specs.rule_links.Counting.{added, counted, kept, multipliers_of}
 use Rattle.rank_forms.proofs.Rests.{IsRest, rest_first, rest_more}
 
@@ -259,58 +255,11 @@ fits_least most least [] (c ∷ counts) h f = f
 fits_least most least (row ∷ rows) [] h f = f
 fits_least most least (row ∷ rows) (c ∷ counts) h f = (f.0, h 0, fits_least most least rows counts (λ n. h (suc n)) f.2)
 
--- ---- each number once, and none 0 times
-
-pub one_once : (n : ℕ) → CountOnce ((n, pos 1) ∷ [])
-one_once n = (λ e. absurd (omega (arith, ints, e)), tt, tt)
-
-other_numbers : (n : ℕ) (rest : List (ℕ × ℤ)) → AllByRecursion (λ (e : ℕ × ℤ). suc n ≤ e.0) rest
-    → AllByRecursion (λ (e : ℕ × ℤ). e.0 ≡ n → ⊥) rest
-other_numbers n rest h = all_weaker (λ (e : ℕ × ℤ). suc n ≤ e.0) (λ (e : ℕ × ℤ). e.0 ≡ n → ⊥)
-    (λ x above same. absurd (omega (arith, above, same))) rest h
-
-above_cases : (test : Bool) (low n : ℕ) (c : ℤ) (rest : List (ℕ × ℤ)) → low ≤ n → AllByRecursion (λ (e : ℕ × ℤ). low ≤ e.0) rest
-    → AllByRecursion (λ (e : ℕ × ℤ). low ≤ e.0) (cond test [] ((n, c) ∷ []) ++ rest)
-above_cases true low n c rest l h = h
-above_cases false low n c rest l h = (l, h)
-
-kept_above : (low n : ℕ) (counts : List ℤ) → low ≤ n → AllByRecursion (λ (e : ℕ × ℤ). low ≤ e.0) (kept n counts)
-kept_above low n [] l = tt
-kept_above low n (c ∷ counts) l = above_cases (int_eq c (pos 0)) low n c (kept (suc n) counts) l
-    (kept_above low (suc n) counts (omega (arith, l)))
-
-once_cases : (test : Bool) (n : ℕ) (c : ℤ) (rest : List (ℕ × ℤ)) → int_eq c (pos 0) ≡ test
-    → AllByRecursion (λ (e : ℕ × ℤ). suc n ≤ e.0) rest → CountOnce rest → CountOnce (cond test [] ((n, c) ∷ []) ++ rest)
-once_cases true n c rest e above h = h
-once_cases false n c rest e above h =
-    (not_from_Decides (int_eq c (pos 0)) (Decides-int_eq c (pos 0)) e, other_numbers n rest above, h)
-
-kept_once : (n : ℕ) (counts : List ℤ) → CountOnce (kept n counts)
-kept_once n [] = tt
-kept_once n (c ∷ counts) = once_cases (int_eq c (pos 0)) n c (kept (suc n) counts) refl (kept_above (suc n) (suc n) counts (omega arith))
-    (kept_once (suc n) counts)
-
--- numbers that rise, none of them 0 times
-rest_above : (low n end : ℕ) (ms : List (ℕ × ℤ)) → low ≤ n → RiseFrom n end ms → AllByRecursion (λ (e : ℕ × ℤ). low ≤ e.0) ms
-rest_above low n end [] l h = tt
-rest_above low n end (m ∷ ms) l h =
-    let first = h.0 in
-    (omega (arith, l, first), rest_above low (suc m.0) end ms (omega (arith, l, first)) h.2)
-
-rising : (low end : ℕ) (ms : List (ℕ × ℤ)) → RiseFrom low end ms → AllByRecursion (λ (m : ℕ × ℤ). m.1 ≡ pos 0 → ⊥) ms → CountOnce ms
-rising low end [] h z = tt
-rising low end (m ∷ ms) h z =
-    (z.0, other_numbers m.0 ms (rest_above (suc m.0) (suc m.0) end ms (omega arith) h.2), rising (suc m.0) end ms h.2 z.1)
-
-pub rising_once : (end : ℕ) (ms : List (ℕ × ℤ)) → RiseFrom 0 end ms → All (λ (m : ℕ × ℤ). m.1 ≡ pos 0 → ⊥) ms → CountOnce ms
-rising_once end ms h z = rising 0 end ms h (recursion_from_All (λ (m : ℕ × ℤ). m.1 ≡ pos 0 → ⊥) ms z)
-
 -- the multipliers say what the entries say
 pub record AreMultipliers (rows : List Row) (entries list : List (ℕ × ℤ)) : Type 0 where
   pub fault : first_fault rows list ≡ None
   pub sums : (number : Row → ℤ) → sum_of number rows list ≡ sum_of number rows entries
   pub few : length list ≤ length rows
-  pub once : CountOnce list
 
 pub multipliers_are : (rows : List Row) (count : ℕ) (entries : List (ℕ × ℤ)) → count ≡ length rows → AllAllowed rows entries
     → ((n : ℕ) → unsigned_abs (coefficient_of n entries) ≤ 2 ^ 31) → AreMultipliers rows entries (multipliers_of count entries)
@@ -331,7 +280,6 @@ multipliers_are rows count entries e allowed small =
           ∙ dense_counted number rows entries zeros within
           ∙ ap (λ (z : ℤ). sum_of number rows entries +ℤ z) (dense_zeros number rows count) ∙ plain (sum_of number rows entries);
       few = let f = kept_few 0 all in omega (arith, f, m);
-      once = kept_once 0 all;
     }
   where
     same_rest : (rows : List Row) (k : ℕ) → slice_get rows (0 + k) ≡ slice_get rows k

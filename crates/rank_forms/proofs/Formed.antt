@@ -1,11 +1,11 @@
 -- The forms over parts: all_at each end of a rule they are what stands all_at the parts' places.
-use Rattle.std.proofs.Common.{◌≡◌, ◌≢◌, ◌⊎◌, inl, inr, ℕ, zero, suc, ◌<◌, ◌≤◌, ◌^◌, Bool, true, false, cond, eqb, List, [], ◌∷◌, ◌++◌}
+use Rattle.std.proofs.Common.{◌≡◌, ◌⊎◌, inl, inr, ℕ, zero, suc, ◌<◌, ◌≤◌, ◌^◌, Bool, true, false, cond, eqb, List, [], ◌∷◌, ◌++◌}
 use Rattle.std.proofs.Common.{length, get_or, ℤ, pos, ◌+ℤ◌, ◌*ℤ◌, Option, Some, None, subst, ap, arith, refl, ◌∙◌, sym}
 use Rattle.std.specs.Prelude.{◌&&◌, slice_get, unsigned_abs, is_some, nat_lt}
 use Rattle.std.specs.Ordering.{int_eq}
 use Rattle.std.specs.List.{All, AllByRecursion}
 use Rattle.std.proofs.lemmas.Bool.{eq-eqb, eqb-true, ltb-true}
-use Rattle.std.proofs.lemmas.Bool.Decides.{Decides-int_eq, nat_tests, not_from_Decides}
+use Rattle.std.proofs.lemmas.Bool.Decides.{Decides-int_eq, nat_tests}
 use Rattle.std.proofs.lemmas.Int.{ints}
 use Rattle.std.proofs.lemmas.Option.{same_Some, none-some}
 use Rattle.lin_core.proofs.Coefficients.{coefficient_both}
@@ -26,7 +26,7 @@ use Rattle.descent.specs.Rankings.{constant_of, entry_constant, entry_terms, for
 use Rattle.rank_forms.specs.Forms.{AreCuts, IsIn, RiseTo, alone, form_of, forms_over, id_of, ids_at, joined, multiples_at, slots_for}
 use Rattle.rank_forms.specs.Graphs.{AreNamed, ArePathRules, IsPathRule, IsEndAt, heads, ids_of}
 use Rattle.rank_forms.specs.rule_links.Positions.{IsVariable, StandsAt, slot_at}
-use Rattle.rank_forms.specs.RankSteps.{CountOnce, FormsRise, HaveNoSizes, IsOnceForm}
+use Rattle.rank_forms.specs.RankSteps.{FormsRise, HaveNoSizes}
 use Rattle.rank_forms.proofs.Lined.{AreEntries, AreLines, IsLine, line_of_ints, line_of_sizes, ranking_with, slot_nothing}
 use Rattle.rank_forms.proofs.Slotted.{named_low, same_id, slot_by_id, slots_stand}
 
@@ -46,15 +46,9 @@ abbrev pub AllSmall : List (Place × ℤ) → Type 0
 AllSmall [] = Unit {0}
 AllSmall (part ∷ rest) = (unsigned_abs part.1 ≤ 4) × AllSmall rest
 
--- none of them counts 0 times
-abbrev pub AllCount : List (Place × ℤ) → Type 0
-AllCount [] = Unit {0}
-AllCount (part ∷ rest) = (part.1 ≢ pos 0) × AllCount rest
-
 pub record AreParts (parts : List (Place × ℤ)) : Type 0 where
   pub few : length parts ≤ 2
   pub small : AllSmall parts
-  pub counted : AllCount parts
 
 -- ---- the form of a cut
 form_here : (test size : Bool) (rules : List PathRule) (parts : List (Place × ℤ)) (constant : ℤ) (first cut : ℕ)
@@ -377,58 +371,6 @@ forms_small size rules parts constant (cut ∷ cuts) each are k zero d low = for
     (slots_named rules cut each) are k
 forms_small size rules parts constant (cut ∷ cuts) each are k (suc i) d low = forms_small size rules parts constant cuts each are k
     i d (omega (arith, low))
-
--- ---- each id once, and none 0 times
-
--- ids, none of them 0 times
-abbrev AreCounted : List (ℕ × ℤ) → Type 0
-AreCounted [] = Unit {0}
-AreCounted (entry ∷ rest) = (entry.1 ≢ pos 0) × AreCounted rest
-
-alone_once : (test : Bool) (id : ℕ) (times : ℤ) → int_eq times (pos 0) ≡ test → CountOnce (cond test [] ((id, times) ∷ []))
-alone_once true id times e = tt
-alone_once false id times e = (not_from_Decides (int_eq times (pos 0)) (Decides-int_eq times (pos 0)) e, tt, tt)
-
-apart : (a b : ℕ) → a < b → a ≡ b → ⊥
-apart a b less e = absurd (omega (arith, less, e))
-
-pair_once : (low high : Bool) (a b : ℕ) (s t : ℤ) → nat_lt a b ≡ low → nat_lt b a ≡ high → s ≢ pos 0 → t ≢ pos 0
-    → CountOnce (cond low ((a, s) ∷ (b, t) ∷ []) (cond high ((b, t) ∷ (a, s) ∷ []) (alone a (s +ℤ t))))
-pair_once true high a b s t l k m n = (m, (λ e. apart a b (ltb-true a b l) (sym e), tt), (n, tt, tt))
-pair_once false true a b s t l k m n = (n, (λ e. apart b a (ltb-true b a k) (sym e), tt), (m, tt, tt))
-pair_once false false a b s t l k m n = alone_once (int_eq (s +ℤ t) (pos 0)) a (s +ℤ t) refl
-
-joined_once : (ids : List (ℕ × ℤ)) → length ids ≤ 2 → AreCounted ids → CountOnce (joined ids)
-joined_once [] few h = tt
-joined_once (one ∷ []) few h = (h.0, tt, tt)
-joined_once (one ∷ other ∷ []) few h = pair_once (nat_lt one.0 other.0) (nat_lt other.0 one.0) one.0 other.0 one.1 other.1 refl refl
-    h.0 h.1.0
-joined_once (one ∷ other ∷ more ∷ rest) few h = absurd (omega (arith, few))
-
-ids_counted_cases : (found : Option SlotForm) (times : ℤ) (rest : List (ℕ × ℤ)) → times ≢ pos 0 → AreCounted rest
-    → AreCounted (id_of found times ++ rest)
-ids_counted_cases None times rest n h = h
-ids_counted_cases (Some slot) times rest n h = (n, h)
-
-ids_counted : (slots : List SlotForm) (size : Bool) (parts : List (Place × ℤ)) → AllCount parts → AreCounted (ids_at slots size parts)
-ids_counted slots size [] h = tt
-ids_counted slots size (part ∷ rest) h = ids_counted_cases (slot_at slots size part.0) part.1 (ids_at slots size rest) h.0
-    (ids_counted slots size rest h.1)
-
-parts_once : (slots : List SlotForm) (size : Bool) (parts : List (Place × ℤ)) → AreParts parts → CountOnce (multiples_at slots size parts)
-parts_once slots size parts are = joined_once (ids_at slots size parts)
-    (let f = ids_few slots size parts in let g = are.few in omega (arith, f, g)) (ids_counted slots size parts are.counted)
-
-form_once : (size : Bool) (cut : ℕ) (slots : List SlotForm) (parts : List (Place × ℤ)) (constant : ℤ) → AreParts parts
-    → IsOnceForm (form_of cut slots size parts constant)
-form_once true cut slots parts constant are = (tt, parts_once slots true parts are)
-form_once false cut slots parts constant are = (parts_once slots false parts are, tt)
-
-pub forms_once : (size : Bool) (rules : List PathRule) (parts : List (Place × ℤ)) (constant : ℤ) (cuts : List ℕ) → AreParts parts
-    → All IsOnceForm (forms_over rules size parts constant cuts)
-forms_once size rules parts constant [] are i d low = absurd (omega (arith, low))
-forms_once size rules parts constant (cut ∷ cuts) are zero d low = form_once size cut (slots_for rules cut) parts constant are
-forms_once size rules parts constant (cut ∷ cuts) are (suc i) d low = forms_once size rules parts constant cuts are i d (omega (arith, low))
 
 pub forms_rise : (size : Bool) (rules : List PathRule) (parts : List (Place × ℤ)) (constant : ℤ) (low end : ℕ) (cuts : List ℕ)
     → RiseTo low cuts end → FormsRise low (forms_over rules size parts constant cuts)

@@ -68,14 +68,12 @@ reasoned_followed rows start finish most wide count reasons h e low less =
     record {
       fault = fall.fault;
       few = fall.few;
-      once = fall.once;
       coefficients = λ x. fall.sums (λ row. coefficient_of x row.terms) ∙ h.coefficients x;
       constant = ap (λ (z : ℤ). z +ℤ reasons.falls) (fall.sums (λ row. row.constant)) ∙ h.constant;
       bound = λ one g. subst (IsBoundAt rows start)
           (same_Some (record { rows = multipliers_of count reasons.bound; base = reasons.base }) one g) (record {
             fault = bound.fault;
             few = bound.few;
-            once = bound.once;
             coefficients = λ x. bound.sums (λ row. coefficient_of x row.terms) ∙ h.bound_coefficients x;
             constant = bound.sums (λ row. row.constant) ∙ h.bound_constant;
             small = through (unsigned_abs reasons.base) wide (2 ^ 40) h.base less;

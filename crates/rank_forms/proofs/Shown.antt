@@ -2,7 +2,6 @@
 use Rattle.std.proofs.Common.{◌≡◌, ℕ, ◌≤◌, ◌^◌, Bool, true, false, cond, List, [], ◌∷◌, length, get_or, ℤ, pos, ◌≤ℤ◌, Option, Some}
 use Rattle.std.proofs.Common.{None, subst, ap, arith, refl, ◌∙◌, sym, rules}
 use Rattle.std.specs.Prelude.{slice_get, int_lt, unsigned_abs, IsTrue}
-use Rattle.std.specs.List.{All}
 use Rattle.std.proofs.lemmas.Int.{ints}
 use Rattle.std.proofs.lemmas.List.{length-map}
 use Rattle.std.proofs.lemmas.List.Elements.{All-from_recursion}
@@ -21,9 +20,9 @@ use Rattle.rank_forms.specs.declared.following.Followed.{Followed}
 use Rattle.rank_forms.specs.Following.{IsFollowed}
 use Rattle.rank_forms.specs.Forms.{AreCuts, forms_over, list_from, needed, or_zero}
 use Rattle.rank_forms.specs.Graphs.{ArePathRules, IsPathRule}
-use Rattle.rank_forms.specs.RankSteps.{IsCutOf, IsLinear, IsRankStep, IsWeightOf, has_strict}
-use Rattle.rank_forms.proofs.Bases.{AreSmall, all_few, all_once, base_most, constant_small, one_strict, ranked}
-use Rattle.rank_forms.proofs.Formed.{AreParts, forms_once, forms_own, forms_plain, forms_rise, forms_small}
+use Rattle.rank_forms.specs.RankSteps.{IsCutOf, IsLinear, IsRankStep, has_strict}
+use Rattle.rank_forms.proofs.Bases.{AreSmall, all_few, base_most, constant_small, one_strict, ranked}
+use Rattle.rank_forms.proofs.Formed.{AreParts, forms_own, forms_plain, forms_rise, forms_small}
 use Rattle.rank_forms.proofs.Lined.{AreLines, bounded_none, ranking_with, strict_none, weak_none}
 
 -- along a rule the form of the ranking never rises
@@ -106,7 +105,7 @@ is_true x e = search rules
 
 made_step : (size : Bool) (weights other : List (ℕ × ℤ)) (rules : List PathRule) (parts : List (Place × ℤ)) (all : List Followed)
     (constant : ℤ) (cuts : List ℕ) → ArePathRules rules → AreParts parts → AreCuts rules cuts → AreWeights weights
-    → Rise 4294967296 weights → All (λ (weight : ℕ × ℤ). IsWeightOf rules weight) weights
+    → Rise 4294967296 weights
     → IsLinear (record {
       size = size;
       weights = weights;
@@ -128,7 +127,7 @@ made_step : (size : Bool) (weights other : List (ℕ × ℤ)) (rules : List Path
       rules =
           list_from 0 all;
     })
-made_step size weights other rules parts all constant cuts are small c weigh rise weighed linear same k shown fallen =
+made_step size weights other rules parts all constant cuts are small c weigh rise linear same k shown fallen =
     let low : AreSmall all = λ n followed bound e b. let rule = rule_there rules all n followed shown.count e in
     ((shown.each n rule.0 followed rule.1 e).shown.bound bound b).small in
     let forms = forms_over rules size parts constant cuts in
@@ -157,12 +156,6 @@ made_step size weights other rules parts all constant cuts are small c weigh ris
           fallen.falls fallen.bounded));
       holds = ap (λ (r : Ranking). ranking_fault r rules (numbers_from 0 (length rules)) (list_from 0 all)) same
           ∙ all_hold (ranking_with size other forms) constant rules all k shown;
-      weighed = weighed;
-      forms = forms_once size rules parts constant cuts small;
-      once = all_once 0 all (λ n followed e.
-          let rule = rule_there rules all n followed shown.count e in
-          let some = (shown.each n rule.0 followed rule.1 e).shown in
-          (some.once, λ bound b. (some.bound bound b).once));
     }
 
 -- a form of ints
@@ -171,14 +164,13 @@ pub int_step : (rules : List PathRule) (parts : List (Place × ℤ)) (all : List
     → AreShown (ranking_with false [] (forms_over rules false parts constant cuts)) constant rules all → HasFallen all
     → IsRankStep rules (record { size = false; weights = []; forms = forms_over rules false parts constant cuts; rules = list_from 0 all })
 int_step rules parts all constant cuts are small c k shown fallen = made_step false [] [] rules parts all constant cuts are small c
-    (λ i d less. absurd (omega (arith, less))) tt (λ i d less. absurd (omega (arith, less)))
-    (λ e. (refl, forms_plain rules parts constant cuts)) refl k shown fallen
+    (λ i d less. absurd (omega (arith, less))) tt (λ e. (refl, forms_plain rules parts constant cuts)) refl k shown fallen
 
 -- a form of sizes
 pub size_step : (weights : List (ℕ × ℤ)) (rules : List PathRule) (parts : List (Place × ℤ)) (all : List Followed) (constant : ℤ)
     (cuts : List ℕ) → ArePathRules rules → AreParts parts → AreCuts rules cuts → AreWeights weights → Rise 4294967296 weights
-    → All (λ (weight : ℕ × ℤ). IsWeightOf rules weight) weights → constant ≡ or_zero (needed None all)
-    → AreShown (ranking_with true weights (forms_over rules true parts constant cuts)) constant rules all → HasFallen all
+    → constant ≡ or_zero (needed None all) → AreShown (ranking_with true weights (forms_over rules true parts constant cuts))
+    constant rules all → HasFallen all
     → IsRankStep rules (record {
       size = true;
       weights = weights;
@@ -186,8 +178,8 @@ pub size_step : (weights : List (ℕ × ℤ)) (rules : List PathRule) (parts : L
       rules =
           list_from 0 all;
     })
-size_step weights rules parts all constant cuts are small c weigh rise weighed k shown fallen = made_step true weights weights rules
-    parts all constant cuts are small c weigh rise weighed (λ e. absurd (not_true e)) refl k shown fallen
+size_step weights rules parts all constant cuts are small c weigh rise k shown fallen = made_step true weights weights rules parts
+    all constant cuts are small c weigh rise (λ e. absurd (not_true e)) refl k shown fallen
   where
     not_true : true ≡ false → ⊥
     not_true e = absurd (cc)

@@ -1,8 +1,8 @@
 -- The ties that are found are the size links of the rows.
 use Rattle.std.proofs.Common.{◌≡◌, ◌⊎◌, inl, inr, ℕ, zero, suc, ◌+◌, ◌<◌, ◌≤◌, Bool, true, false, cond, eqb, List, [], ◌∷◌, ◌++◌}
 use Rattle.std.proofs.Common.{length, get_or, drop, ℤ, pos, negsuc, ◌+ℤ◌, ◌-ℤ◌, ◌≤ℤ◌, Option, Some, None, subst, ap, arith, refl}
-use Rattle.std.proofs.Common.{◌∙◌, ◌^◌, sym, IsPermutation, FitsSigned, w64}
-use Rattle.std.specs.Prelude.{◌&&◌, ◌||◌, slice_get, int_lt, unsigned_abs}
+use Rattle.std.proofs.Common.{◌∙◌, sym, IsPermutation}
+use Rattle.std.specs.Prelude.{◌&&◌, ◌||◌, slice_get, int_lt}
 use Rattle.std.specs.Ordering.{int_eq}
 use Rattle.std.proofs.lemmas.Bool.{eqb-true, eq-eqb, and_parts, cond-true, cond-false, and_from}
 use Rattle.std.proofs.lemmas.Bool.Decides.{Decides-int_eq}
@@ -17,12 +17,12 @@ use Rattle.lin_core.specs.declared.rows.RowKind.{RowKind}
 use Rattle.lin_core.specs.declared.rows.RowKind.TheVariants.{AtLeastZero, IsZero}
 use Rattle.lin_core.specs.declared.rows.WRow.{WRow}
 use Rattle.lin_core.specs.Rows.{coefficient_of, RiseFrom}
-use Rattle.lin_core.specs.Weights.{AreRows, IsRow, total_size}
+use Rattle.lin_core.specs.Weights.{AreRows, IsRow}
 use Rattle.rank_forms.specs.declared.rule_links.links.Link.{Link}
 use Rattle.rank_forms.specs.declared.rule_links.links.Tie.{Tie}
 use Rattle.rank_forms.specs.rule_links.SizeLinks.{GivesSize, IsSizeLink, weighed_once}
 use Rattle.rank_forms.specs.rule_links.Falls.{AreRising, has_zero, is_zero}
-use Rattle.rank_forms.specs.rule_links.inner.Rising.{AreSmallRows, back_ties, gives, given_by, given_ties, is_part, order_in}
+use Rattle.rank_forms.specs.rule_links.inner.Rising.{back_ties, gives, given_by, given_ties, is_part, order_in}
 use Rattle.rank_forms.specs.rule_links.inner.Rising.{part_ties, rising_tie, size_row_ties, size_ties_from}
 use Rattle.rank_forms.specs.rule_links.Falls.{size_constant}
 use Rattle.rank_forms.specs.rule_links.Ties.{InTies, is_bound, is_inequality}
@@ -531,38 +531,6 @@ weighed_more weights n weight weighed more whole is e h =
   where
     joined : (a b d x r w : ℤ) → x ≡ d +ℤ r → b ≡ a +ℤ d → a +ℤ x ≡ w → b +ℤ r ≡ w
     joined a b d x r w e f h = omega (arith, ints)
-
--- the weights so far are small, and so are they with one more
-size_split : (weights : List (ℕ × ℤ)) (n : ℕ) (weight : ℕ × ℤ) → slice_get weights n ≡ Some weight
-    → total_size (drop n weights) ≡ unsigned_abs weight.1 + total_size (drop (n + 1) weights)
-size_split weights n weight is = at_drop_more total_size weights n weight (slice_get_within weights n weight is)
-    ∙ ap (λ (t : ℕ × ℤ). unsigned_abs t.1 + total_size (drop (n + 1) weights)) (get_or_from_slice_get weights n weight weight is)
-
-pub weighed_fits : (weights : List (ℕ × ℤ)) (n : ℕ) (weight : ℕ × ℤ) (weighed : ℤ) → slice_get weights n ≡ Some weight
-    → unsigned_abs weighed + total_size (drop n weights) ≤ 2 ^ 40 → FitsSigned w64 (weighed +ℤ weight.1)
-weighed_fits weights n weight weighed is small =
-    fits weighed weight.1 (total_size (drop (n + 1) weights)) (total_size (drop n weights)) (size_split weights n weight is) small
-  where
-    fits : (a b : ℤ) (r t : ℕ) → t ≡ unsigned_abs b + r → unsigned_abs a + t ≤ 2 ^ 40 → FitsSigned w64 (a +ℤ b)
-    fits a b r t e h = omega (arith, ints)
-
-pub weighed_small : (weights : List (ℕ × ℤ)) (n : ℕ) (weight : ℕ × ℤ) (weighed more : ℤ) → slice_get weights n ≡ Some weight
-    → more ≡ weighed +ℤ weight.1 → unsigned_abs weighed + total_size (drop n weights) ≤ 2 ^ 40
-    → unsigned_abs more + total_size (drop (n + 1) weights) ≤ 2 ^ 40
-weighed_small weights n weight weighed more is e small =
-    less weighed weight.1 more (total_size (drop (n + 1) weights)) (total_size (drop n weights)) (size_split weights n weight is) e small
-  where
-    less : (a b m : ℤ) (r t : ℕ) → t ≡ unsigned_abs b + r → m ≡ a +ℤ b → unsigned_abs a + t ≤ 2 ^ 40 → unsigned_abs m + r ≤ 2 ^ 40
-    less a b m r t e f h = omega (arith, ints)
-
-pub sum_fits : (a b : ℤ) → unsigned_abs a ≤ 2 ^ 40 → unsigned_abs b ≤ 2 ^ 40 → FitsSigned w64 (a +ℤ b)
-sum_fits a b h k = omega (arith, ints)
-
-pub negative_fits : (a : ℤ) → unsigned_abs a ≤ 2 ^ 41 → FitsSigned w64 (pos 0 -ℤ a)
-negative_fits a h = omega (arith, ints)
-
-pub small_rows : (end : ℕ) (rows : List WRow) → AreRows end rows → AreSmallRows rows
-small_rows end rows h i d low = ((h i d low).constant, (h i d low).weights)
 
 -- adding the ties of rows, one more
 both_append : (a b c : List Tie) → (a ++ b) ++ c ≡ a ++ (b ++ c)

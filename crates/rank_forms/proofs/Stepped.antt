@@ -36,7 +36,7 @@ use Rattle.rank_forms.specs.rule_links.Links.{IsWay, total}
 use Rattle.rank_forms.specs.rule_links.Ties.{InTies, Known, by_of, is_alone, is_inequality, trail_from}
 use Rattle.rank_forms.specs.rule_links.FallLinks.{IsFallLink, sign}
 use Rattle.rank_forms.proofs.Along.{known_within}
-use Rattle.rank_forms.proofs.Counted.{fine, multipliers_are, one_once}
+use Rattle.rank_forms.proofs.Counted.{fine, multipliers_are}
 use Rattle.rank_forms.proofs.Rests.{IsRest, rest_all, rest_first, rest_more}
 use Rattle.rank_forms.proofs.Trailed.{AreShifts, IsShift, IsTrail, no_shift, shift_more, trail_is, trail_short}
 
@@ -250,7 +250,6 @@ bound_at negative start rows bound small h =
       fault = no_more (fault_at_row 0 (pos 1) (slice_get under bound.row)) (ap (fault_at_row 0 (pos 1)) there
           ∙ fine 0 (pos 1) row (one_allowed row.kind) (omega (arith, ints)));
       few = let low = slice_get_within under bound.row row there in omega (arith, low);
-      once = one_once bound.row;
       coefficients = λ variable. sum_one (λ row. coefficient_of variable row.terms) under bound.row (pos 1) row there
           ∙ times_one (coefficient_of variable row.terms)
           ∙ ap (coefficient_of variable) (alone_is start (sign negative) h.row.terms parts.1);
@@ -334,7 +333,6 @@ steps_are negative rows start finish ties known come falls fall bound small low 
       shown = record {
         fault = m.fault;
         few = m.few;
-        once = m.once;
         coefficients = λ variable. m.sums (λ row. coefficient_of variable row.terms) ∙ shifts.coefficients variable
             ∙ times_minus (sign negative) (unit variable start) (unit variable finish)
             ∙ less_terms (sign negative *ℤ unit variable start) (sign negative *ℤ unit variable finish)

@@ -1,11 +1,11 @@
 -- Each class that a row names weighs 1.
-use Rattle.std.proofs.Common.{◌≡◌, ◌⊎◌, inl, inr, ℕ, zero, suc, ◌+◌, ◌<◌, ◌≤◌, Bool, true, false, cond, eqb, List, [], ◌∷◌, ◌++◌, length}
-use Rattle.std.proofs.Common.{get_or, drop, ℤ, pos, ◌+ℤ◌, ◌*ℤ◌, ◌≤ℤ◌, Option, Some, None, Result, Ok, Err, subst, ap, arith, refl, ◌∙◌}
+use Rattle.std.proofs.Common.{◌≡◌, inl, inr, ℕ, zero, suc, ◌+◌, ◌<◌, ◌≤◌, Bool, true, false, cond, eqb, List, [], ◌∷◌, ◌++◌, length}
+use Rattle.std.proofs.Common.{get_or, drop, ℤ, pos, ◌+ℤ◌, ◌*ℤ◌, Option, Some, None, Result, Ok, Err, subst, ap, arith, refl, ◌∙◌}
 use Rattle.std.proofs.Common.{sym, IsPermutation}
 use Rattle.std.specs.Prelude.{slice_get, nat_lt, IfOk}
-use Rattle.std.specs.List.{All, list_any}
+use Rattle.std.specs.List.{All}
 use Rattle.std.specs.List.Sorted.{IsNonDecreasingBy}
-use Rattle.std.proofs.lemmas.Bool.{cases_lt, eq-eqb, ltb-true, or_left, or_right}
+use Rattle.std.proofs.lemmas.Bool.{cases_lt, eq-eqb, ltb-true}
 use Rattle.std.proofs.lemmas.Bool.Decides.{nat_tests}
 use Rattle.std.proofs.lemmas.Int.{ints}
 use Rattle.std.proofs.lemmas.List.{at_drop_more}
@@ -19,7 +19,6 @@ use Rattle.lin_core.specs.declared.rows.WRow.{WRow}
 use Rattle.descent.specs.declared.rules.PathRule.{PathRule}
 use Rattle.rank_forms.specs.rule_links.SizeLinks.{weighed_once}
 use Rattle.rank_forms.specs.Forms.{IsIn}
-use Rattle.rank_forms.specs.RankSteps.{IsClassOf, IsWeightOf, names_class}
 use Rattle.rank_forms.specs.Weighing.{AreOnes, all_classes, classes_of, row_classes}
 use Rattle.rank_forms.specs.inner.Weighing.{next_low, one_at, ones_from}
 use Rattle.rank_forms.proofs.SizeShifts.{IsWeighed}
@@ -160,57 +159,6 @@ are_ones rules classes sorted weights c moves order w rise = record {
       (ones_only (IsIn (all_classes rules)) 0 sorted
       (subst (λ (l : List ℕ). All (IsIn l) sorted) c (All-permutation (IsIn classes) classes sorted moves (all_in classes))));
 }
-
--- ---- each weight is that of a class of which a row has a multiple
-
-in_either : (xs ys : List ℕ) (k x : ℕ) → slice_get (xs ++ ys) k ≡ Some x → IsIn xs x ⊎ IsIn ys x
-in_either [] ys k x e = inr (k, e)
-in_either (y ∷ xs) ys zero x e = inl (zero, e)
-in_either (y ∷ xs) ys (suc k) x e = elim (in_either xs ys k x e) as (λ o. IsIn (y ∷ xs) x ⊎ IsIn ys x) [
-  | inl h ↦ inl (suc h.0, h.1)
-  | inr h ↦ inr h
-]
-
-abbrev is_multiple : ℕ → ℕ × ℤ → Bool
-is_multiple class weight = eqb weight.0 class
-
-abbrev has_multiple : ℕ → WRow → Bool
-has_multiple class row = list_any (is_multiple class) row.weights
-
-weights_name : (class k : ℕ) (weights : List (ℕ × ℤ)) → slice_get (classes_of weights) k ≡ Some class
-    → list_any (is_multiple class) weights ≡ true
-weights_name class k [] e = absurd (none-some class e)
-weights_name class zero (weight ∷ rest) e = or_left (eqb weight.0 class) (list_any (is_multiple class) rest)
-    (eq-eqb weight.0 class (same_Some weight.0 class e))
-weights_name class (suc k) (weight ∷ rest) e = or_right (eqb weight.0 class) (list_any (is_multiple class) rest)
-    (weights_name class k rest e)
-
-rows_name : (class k : ℕ) (rows : List WRow) → slice_get (row_classes rows) k ≡ Some class → names_class class rows ≡ true
-rows_name class k [] e = absurd (none-some class e)
-rows_name class k (row ∷ rest) e = elim (in_either (classes_of row.weights) (row_classes rest) k class e)
-    as (λ o. names_class class (row ∷ rest) ≡ true) [
-      | inl h ↦ or_left (has_multiple class row) (names_class class rest) (weights_name class h.0 row.weights h.1)
-      | inr h ↦ or_right (has_multiple class row) (names_class class rest) (rows_name class h.0 rest h.1)
-    ]
-
-class_named : (class k : ℕ) (rules : List PathRule) → slice_get (all_classes rules) k ≡ Some class → IsClassOf rules class
-class_named class k [] e = absurd (none-some class e)
-class_named class k (rule ∷ rest) e = elim (in_either (row_classes rule.rows) (all_classes rest) k class e)
-    as (λ o. IsClassOf (rule ∷ rest) class) [
-      | inl h ↦ record { n = 0; rule = rule; is = refl; names = rows_name class h.0 rule.rows h.1 }
-      | inr h ↦
-          let later = class_named class h.0 rest h.1 in
-          record { n = suc later.n; rule = later.rule; is = later.is; names = later.names }
-    ]
-
-one_above : (z : ℤ) → z ≡ pos 1 → pos 1 ≤ℤ z
-one_above z e = omega (arith, ints, e)
-
-pub ones_weigh : (rules : List PathRule) (weights : List (ℕ × ℤ)) → AreOnes rules weights
-    → All (λ (weight : ℕ × ℤ). IsWeightOf rules weight) weights
-ones_weigh rules weights ones i d low =
-    let only = ones.only i d low in
-    record { above = one_above (get_or weights i d).1 only.0; class = class_named (get_or weights i d).0 only.1.0 rules only.1.1 }
 
 -- ---- so a row weighs what its multiples add up to
 abbrev Each : (ℕ → Type 0) → List ℕ → Type 0

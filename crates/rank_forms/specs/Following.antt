@@ -15,7 +15,6 @@ use Rattle.rank_forms.specs.rule_links.Links.{IsWay, total}
 use Rattle.rank_forms.specs.rule_links.Positions.{AreEnds}
 use Rattle.rank_forms.specs.rule_links.Falls.{has_bound}
 use Rattle.rank_forms.specs.rule_links.FallLinks.{IsFallLink, StepsDown, sign}
-use Rattle.rank_forms.specs.RankSteps.{CountOnce}
 
 -- how often the row of a fall link counts
 abbrev pub step_times : Tie → ℤ
@@ -25,20 +24,18 @@ step_times tie = if tie.back then negsuc 0 else pos 1
 abbrev pub made : ℤ → List (ℕ × ℤ) → Option Bound → Followed
 made falls fall bound = record { falls = falls; fall = fall; bound = bound }
 
--- the multipliers, each of a row of its own and none of them 0, show that terms and a number are at least 0
+-- the multipliers show that terms and a number are at least 0
 pub record IsBoundAt (rows : List Row) (start : List (ℕ × ℤ)) (bound : Bound) : Type 0 where
   pub fault : first_fault rows bound.rows ≡ None
   pub few : length bound.rows ≤ length rows
-  pub once : CountOnce bound.rows
   pub coefficients : (variable : ℕ) → summed_coefficient rows bound.rows variable ≡ coefficient_of variable start
   pub constant : summed_constant rows bound.rows ≡ bound.base
   pub small : unsigned_abs bound.base ≤ 2 ^ 40
 
--- the multipliers, each of a row of its own and none of them 0, show what terms fall by from the start to the end
+-- the multipliers show what terms fall by from the start to the end
 pub record IsFollowed (rows : List Row) (start finish : List (ℕ × ℤ)) (followed : Followed) : Type 0 where
   pub fault : first_fault rows followed.fall ≡ None
   pub few : length followed.fall ≤ length rows
-  pub once : CountOnce followed.fall
   pub coefficients : (variable : ℕ) → summed_coefficient rows followed.fall variable ≡ coefficient_of variable start -ℤ
       coefficient_of variable finish
   pub constant : summed_constant rows followed.fall +ℤ followed.falls ≡ pos 0

@@ -1,6 +1,5 @@
 //! What shows that a form falls along a rule, and that it is bounded where the rule starts.
 ghost use Rattle.descent.specs.Conditions.{IsRule};
-ghost use Rattle.rank_forms.specs.rule_links.inner.Rising.{IsSmallRow, AreSmallRows};
 
 use crate::rule_links::{
     Come, Course, Multipliers, Part, bounds, count_trail, counts_size, fall_ties, int_ties,
@@ -51,10 +50,14 @@ impl Gathered {
     }
 
     /// Adds the bound of a part, whose start is this variable.
-    fn add_bound(&mut self, rows: &[WRow], sizes: bool, start: u32, part: &Part)
-        requires { AreSmallRows rows.now }
-    {
-        match best_bound(rows, sizes, part.times < 0, start) {
+    fn add_bound(
+        &mut self,
+        rows: &[WRow],
+        sizes: bool,
+        start: u32,
+        part: &Part,
+    ) -> Result<(), AllocError> {
+        match best_bound(rows, sizes, part.times < 0, start)? {
             Some((row, constant)) => {
                 let often = size_of(part.times);
                 self.bound.add(row, often);
@@ -65,6 +68,7 @@ impl Gathered {
             }
             None => self.bounded = false,
         }
+        Ok(())
     }
 
     /// Adds what a part falls by.
@@ -111,28 +115,29 @@ fn fall_by(part: &Part, by: i64) -> Option<i64> {
 }
 
 /// The constant of a row, where every class weighs 1 or none weighs anything.
-fn constant_of(row: &WRow, sizes: bool) -> i64
-    requires { IsSmallRow row.now }
-{
+fn constant_of(row: &WRow, sizes: bool) -> Result<i64, AllocError> {
     if sizes {
         size_constant(row)
     } else {
-        row.constant
+        Ok(row.constant)
     }
 }
 
 /// The row that bounds a variable best, with its constant.
-fn best_bound(rows: &[WRow], sizes: bool, negative: bool, start: u32) -> Option<(usize, i64)>
-    requires { AreSmallRows rows.now }
-{
+fn best_bound(
+    rows: &[WRow],
+    sizes: bool,
+    negative: bool,
+    start: u32,
+) -> Result<Option<(usize, i64)>, AllocError> {
     let mut best = None;
     for (n, row) in rows.iter().enumerate() {
         if bounds(negative, start, row) {
-            let constant = constant_of(row, sizes);
+            let constant = constant_of(row, sizes)?;
             best = better(best, n, constant);
         }
     }
-    best
+    Ok(best)
 }
 
 /// The bound with the lesser constant.
@@ -209,7 +214,7 @@ fn gather_course(
     let ties = trail(alloc, known.as_slice(), finish)?;
     count_trail(rows, part, ties.as_slice(), &mut into.fall);
     into.add_fall(part, by);
-    into.add_bound(rows, sizes, start, part);
+    into.add_bound(rows, sizes, start, part)?;
     Ok(true)
 }
 

@@ -1,16 +1,13 @@
 //! Whether a step is one that a closed proof takes.
-ghost use Rattle.std.specs.Prelude.{◌≡◌, ◌≢◌, ◌≤◌, ◌==◌, ◌^◌, [], pos, All, IsTrue, IfOk, length, unsigned_abs, None};
-ghost use Rattle.std.specs.List.{list_any};
+ghost use Rattle.std.specs.Prelude.{◌≡◌, ◌≤◌, ◌^◌, [], All, IsTrue, IfOk, length, unsigned_abs, None};
 ghost use Rattle.lin_core.specs.Rows.{RiseFrom};
 ghost use Rattle.lin_core.specs.Weights.{AreWeights, IsWeight};
 ghost use Rattle.descent.specs.Conditions.{AreFew, AreForms, AreMultiples, AreRules, IsForm, IsListed, IsRanked};
 ghost use Rattle.descent.specs.Steps.{numbers_from, ranking_fault, ranking_of};
-ghost use Rattle.rank_forms.specs.RankSteps.{CountOnce, FormsRise, HaveNoSizes, IsClassOf, IsCutOf, IsLinear, IsOnce, IsOnceForm};
-ghost use Rattle.rank_forms.specs.RankSteps.{IsRankStep, IsWeightOf, has_strict, is_strict, names_class};
+ghost use Rattle.rank_forms.specs.RankSteps.{FormsRise, HaveNoSizes, IsCutOf, IsLinear, IsRankStep, has_strict, is_strict};
 
 use descent::{
-    CutForm, PathRule, RankRule, RankStep, Scratch, WRow, all_rules, check_rank_step,
-    most_variables,
+    CutForm, PathRule, RankRule, RankStep, Scratch, all_rules, check_rank_step, most_variables,
 };
 use std::alloc::{AllocError, Global};
 
@@ -144,150 +141,18 @@ fn are_own(rules: &[PathRule], forms: &[CutForm]) -> bool
     forms.iter().all(|form| is_cut(rules, form.cut))
 }
 
-/// Whether the numbers rise.
-fn numbers_rise(entries: &[(u32, i64)]) -> bool
-    ensures { IsTrue result → RiseFrom 0 4294967296 entries.now }
+/// Whether the classes rise.
+fn classes_rise(weights: &[(u32, i64)]) -> bool
+    ensures { IsTrue result → RiseFrom 0 4294967296 weights.now }
 {
     let mut low: u64 = 0;
-    for (number, _) in entries {
-        if u64::from(*number) < low {
+    for (class, _) in weights {
+        if u64::from(*class) < low {
             return false;
         }
-        low = u64::from(*number) + 1;
+        low = u64::from(*class) + 1;
     }
     true
-}
-
-/// Whether a row has a multiple of the class's weight.
-fn has_multiple(row: &WRow, class: u32) -> bool
-    ensures { result ≡ list_any (λ weight. weight.0 == class) row.now.weights }
-{
-    row.weights
-        .as_slice()
-        .iter()
-        .any(|weight| weight.0 == class)
-}
-
-/// Whether one of the rows has.
-fn names_class(rows: &[WRow], class: u32) -> bool
-    ensures { result ≡ names_class class rows.now }
-{
-    rows.iter().any(|row| has_multiple(row, class))
-}
-
-/// Whether a row of one of the rules has.
-fn is_class(rules: &[PathRule], class: u32) -> bool
-    ensures { IsTrue result → IsClassOf rules.now class }
-{
-    for rule in rules {
-        if names_class(rule.rows.as_slice(), class) {
-            return true;
-        }
-    }
-    false
-}
-
-/// Whether the weight is above 0, and one of a class of which a row has a multiple.
-fn is_weight_of(rules: &[PathRule], weight: &(u32, i64)) -> bool
-    ensures { IsTrue result → IsWeightOf rules.now weight.now }
-{
-    1 <= weight.1 && is_class(rules, weight.0)
-}
-
-/// Whether all weights are.
-fn are_weights_of(rules: &[PathRule], weights: &[(u32, i64)]) -> bool
-    ensures { IsTrue result → All (λ weight. IsWeightOf rules.now weight) weights.now }
-{
-    weights.iter().all(|weight| is_weight_of(rules, weight))
-}
-
-/// Whether a multiplier isn't 0.
-fn counts(entry: &(u32, i64)) -> bool
-    ensures { IsTrue result → entry.now.1 ≢ pos 0 }
-{
-    entry.1 != 0
-}
-
-/// Whether no multiplier is 0.
-fn all_count(entries: &[(u32, i64)]) -> bool
-    ensures { IsTrue result → All (λ entry. entry.1 ≢ pos 0) entries.now }
-{
-    entries.iter().all(|entry| counts(entry))
-}
-
-/// Whether each row stands once at most, and none counts 0 times; the rows rise.
-fn count_once(entries: &[(u32, i64)]) -> bool
-    ensures { IsTrue result → CountOnce entries.now }
-{
-    numbers_rise(entries) && all_count(entries)
-}
-
-/// Whether the multipliers of a listed rule are so.
-fn is_once(listed: &RankRule) -> bool
-    ensures { IsTrue result → IsOnce listed.now }
-{
-    match listed {
-        RankRule::Weak { rule: _, fall } => count_once(fall.as_slice()),
-        RankRule::Strict {
-            rule: _,
-            fall,
-            bound,
-        } => count_once(fall.as_slice()) && count_once(bound.as_slice()),
-    }
-}
-
-/// Whether those of all listed rules are.
-fn are_once(listed: &[RankRule]) -> bool
-    ensures { IsTrue result → All IsOnce listed.now }
-{
-    listed.iter().all(|one| is_once(one))
-}
-
-/// Whether a multiple isn't 0.
-fn id_counts(entry: &(u16, i64)) -> bool
-    ensures { IsTrue result → entry.now.1 ≢ pos 0 }
-{
-    entry.1 != 0
-}
-
-/// Whether no multiple is 0.
-fn all_ids_count(entries: &[(u16, i64)]) -> bool
-    ensures { IsTrue result → All (λ entry. entry.1 ≢ pos 0) entries.now }
-{
-    entries.iter().all(|entry| id_counts(entry))
-}
-
-/// Whether each id stands once at most, and none counts 0 times; the ids rise.
-fn ids_once(entries: &[(u16, i64)]) -> bool
-    ensures { IsTrue result → CountOnce entries.now }
-{
-    ids_rise(entries) && all_ids_count(entries)
-}
-
-/// Whether the multiples of a form are so.
-fn is_once_form(form: &CutForm) -> bool
-    ensures { IsTrue result → IsOnceForm form.now }
-{
-    ids_once(form.ints.as_slice()) && ids_once(form.sizes.as_slice())
-}
-
-/// Whether those of all forms are.
-fn are_once_forms(forms: &[CutForm]) -> bool
-    ensures { IsTrue result → All IsOnceForm forms.now }
-{
-    forms.iter().all(|form| is_once_form(form))
-}
-
-/// Whether nothing in a step is idle: each weight is above 0 and of a class of which a row of the rules has a multiple, and no
-/// multiple and no multiplier is 0 or stands twice.
-fn has_no_idle_part(rules: &[PathRule], step: &RankStep) -> bool
-    ensures weighed { IsTrue result → All (λ weight. IsWeightOf rules.now weight) step.now.weights }
-    ensures forms { IsTrue result → All IsOnceForm step.now.forms }
-    ensures once { IsTrue result → All IsOnce step.now.rules }
-{
-    are_weights_of(rules, step.weights.as_slice())
-        && are_once_forms(step.forms.as_slice())
-        && are_once(step.rules.as_slice())
 }
 
 /// Whether the form has no sizes.
@@ -369,8 +234,7 @@ fn is_taken(alloc: Global, rules: &[PathRule], step: &RankStep) -> Result<bool, 
     }
 }
 
-/// Whether a step is within its limits, has forms of cuts of the rules alone, a strict rule and no idle part, and is taken by
-/// `check_rank_step` for all of the rules.
+/// Whether a step is within its limits, has forms of cuts of the rules alone and a strict rule, and is taken by `check_rank_step` for all of the rules.
 ///
 /// # Errors
 ///
@@ -384,10 +248,10 @@ pub fn is_rank_step(alloc: Global, rules: &[PathRule], step: &RankStep) -> Resul
     }
     let keeps = cuts_rise(step.forms.as_slice())
         && are_own(rules, step.forms.as_slice())
-        && numbers_rise(step.weights.as_slice())
+        && classes_rise(step.weights.as_slice())
         && is_linear(step)
         && has_strict(step.rules.as_slice());
-    if !keeps || !has_no_idle_part(rules, step) {
+    if !keeps {
         return Ok(false);
     }
     is_taken(alloc, rules, step)

@@ -1,5 +1,5 @@
 -- A form of ints that never rises, by the numbers that are found, is shown on each rule.
-use Rattle.std.proofs.Common.{◌≡◌, ℕ, suc, ◌<◌, ◌≤◌, Bool, true, false, cond, List, [], ◌∷◌, length, get_or, ℤ, pos, negsuc, ◌+ℤ◌, ◌-ℤ◌}
+use Rattle.std.proofs.Common.{◌≡◌, ℕ, suc, ◌≤◌, Bool, true, false, cond, List, [], ◌∷◌, length, get_or, ℤ, pos, negsuc, ◌+ℤ◌, ◌-ℤ◌}
 use Rattle.std.proofs.Common.{◌*ℤ◌, Option, Some, None, subst, ap, arith, refl, ◌∙◌, sym}
 use Rattle.std.specs.Prelude.{unsigned_abs, int_lt}
 use Rattle.std.specs.List.{All, list_any}
@@ -179,20 +179,10 @@ form_told rule (one ∷ other ∷ []) c found is path plain shape moves tells = 
     shape.1.0 moves tells
 form_told rule (one ∷ other ∷ more ∷ rest) c found is path plain shape moves tells = absurd shape
 
-one_counts : (times : ℤ) → unsigned_abs times ≡ 1 → times ≡ pos 0 → ⊥
-one_counts times h e = absurd (omega (arith, ints, h, e))
-
-some_counts : (times : ℤ) → 0 < unsigned_abs times → times ≡ pos 0 → ⊥
-some_counts times h e = absurd (omega (arith, ints, h, e))
-
 pub form_parts : (form : List (Place × ℤ)) → IsIntForm form → AreParts form
 form_parts [] shape = absurd shape
-form_parts (one ∷ []) shape = record { few = omega arith; small = (one_low one.1 shape, tt); counted = (one_counts one.1 shape, tt) }
-form_parts (one ∷ other ∷ []) shape = record {
-  few = omega arith;
-  small = (shape.0.0, (shape.1.0, tt));
-  counted = (some_counts one.1 shape.0.1, (some_counts other.1 shape.1.1, tt));
-}
+form_parts (one ∷ []) shape = record { few = omega arith; small = (one_low one.1 shape, tt) }
+form_parts (one ∷ other ∷ []) shape = record { few = omega arith; small = (shape.0.0, (shape.1.0, tt)) }
 form_parts (one ∷ other ∷ more ∷ rest) shape = absurd shape
 
 -- ---- with multipliers

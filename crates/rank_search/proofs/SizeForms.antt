@@ -43,7 +43,7 @@ use Rattle.rank_forms.proofs.Reasoned.{reasoned_followed}
 use Rattle.rank_forms.proofs.Shown.{IsShown, follow_there, size_step}
 use Rattle.rank_forms.proofs.SizeParts.{zero_row_found}
 use Rattle.rank_forms.proofs.SizeShifts.{IsWeighed, size_reasoned}
-use Rattle.rank_forms.proofs.Weighed.{ones_weigh, rule_weighed}
+use Rattle.rank_forms.proofs.Weighed.{rule_weighed}
 
 -- links of the definition are ties
 way_in : (rows : List WRow) (ties : List Tie) → ((link : Link) → IsSizeLink rows link → InTies ties link)
@@ -129,11 +129,8 @@ size_made_step rules place all constant weights cuts are ranks tells ones k c =
     let told = told_at rules weights place ranks.falling ranks.fallen ranks.falls.0 (Some fallen.0) are ones ranks.there
     ranks.falls.1 (tells.1 ranks.falling ranks.fallen fallen.0 ranks.there fallen.1) in
     let same = same_Some fallen.0 told.followed told.is in
-    size_step weights rules parts all constant cuts are.paths (record {
-      few = omega arith;
-      small = (omega (arith, ints), tt);
-      counted = (λ e. absurd (omega (arith, ints, e)), tt);
-    }) c ones.limits ones.rise (ones_weigh rules weights ones) k (record {
+    size_step weights rules parts all constant cuts are.paths (record { few = omega arith; small = (omega (arith, ints), tt) }) c
+    ones.limits ones.rise k (record {
       count = tells.0;
       each = λ n rule followed is e.
           let some = ranks.each n rule is in

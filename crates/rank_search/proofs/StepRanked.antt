@@ -87,10 +87,6 @@ sign_small : (negative : Bool) → unsigned_abs (sign negative) ≤ 4
 sign_small true = omega (arith, ints)
 sign_small false = omega (arith, ints)
 
-sign_counts : (negative : Bool) → sign negative ≡ pos 0 → ⊥
-sign_counts true e = absurd (omega (arith, ints, e))
-sign_counts false e = absurd (omega (arith, ints, e))
-
 step_made : (negative : Bool) (rules : List PathRule) (place : Place) (all : List Followed) (constant : ℤ) (cuts : List ℕ)
     → ArePathRules rules → StepwiseRanks rules negative place → AreFollowed negative rules place all
     → constant ≡ or_zero (needed None all) → AreCuts rules cuts
@@ -111,11 +107,7 @@ step_made negative rules place all constant cuts are ranks follows k c =
     let bounded : has_bound negative along.start ranks.fallen.rows ≡ true = ap (λ (x : ℕ). has_bound negative x ranks.fallen.rows)
     (sym start) ∙ bound_found negative ranks.fallen ranks.falls.start ranks.bounded in
     let bound = bound_there fallen.0.bound (has_bound negative along.start ranks.fallen.rows) bounded along.steps.unbounded in
-    int_step rules parts all constant cuts are (record {
-      few = omega arith;
-      small = (sign_small negative, tt);
-      counted = (sign_counts negative, tt);
-    }) c k (record {
+    int_step rules parts all constant cuts are (record { few = omega arith; small = (sign_small negative, tt) }) c k (record {
       count = follows.count;
       each = λ n rule followed is e.
           let a = follows.each n rule followed is e in

@@ -89,8 +89,7 @@ fn sum_in(
     ensures found { IfOk result (λ found. IfSome found (λ form. LowersBy IsMoved rules.now form)) }
     ensures none { IfOk result (λ found. found ≡ None → NoInts rules.now) }
 {
-    let found = sum_of_two(table, places.len());
-    match found {
+    match sum_of_two(table, places.len())? {
         Some(form) => Ok(Some(two_terms(alloc, rules, places, table, &form)?)),
         None => Ok(None),
     }
@@ -108,8 +107,7 @@ fn ints_in(
     ensures found { IfOk result (λ found. IfSome found (λ form. LowersBy IsMoved rules.now form)) }
     ensures none { IfOk result (λ found. found ≡ None → NoInts rules.now) }
 {
-    let found = one_int(table, places.len());
-    match found {
+    match one_int(table, places.len())? {
         Some(form) => Ok(Some(one_term(alloc, rules, places, table, &form)?)),
         None => sum_in(alloc, rules, places, table),
     }
@@ -136,8 +134,7 @@ fn size_in(
     ensures found { IfOk result (λ found. IfSome found (λ place. RanksSize rules.now place)) }
     ensures none { IfOk result (λ found. found ≡ None → NoSize rules.now) }
 {
-    let found = first_falling(table, table, places.len());
-    match found {
+    match first_falling(table, table, places.len())? {
         Some(one) => Ok(Some(place_at(places, one))),
         None => Ok(None),
     }
@@ -168,8 +165,7 @@ fn steps_in(
     ensures found { IfOk result (λ found. IfSome found (λ place. StepwiseRanks rules.now negative place)) }
     ensures none { IfOk result (λ found. found ≡ None → NoSteps rules.now negative) }
 {
-    let found = first_falling(weak, strict, places.len());
-    match found {
+    match first_falling(weak, strict, places.len())? {
         Some(one) => Ok(Some(place_at(places, one))),
         None => Ok(None),
     }

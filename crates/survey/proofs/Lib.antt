@@ -1,13 +1,7 @@
 pub mod Asking
-pub mod Descs
 pub mod Ending
-pub mod Fating
 pub mod Judgements
-pub mod Lackings
-pub mod Leavings
-pub mod Naming
-pub mod Readings
-pub mod Tails
+pub mod Kept
+pub mod Telling
 pub mod Truths
 pub mod Walks
-pub mod Went

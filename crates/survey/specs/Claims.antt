@@ -1,33 +1,23 @@
 -- What the lines of a survey say that begin with `YES`.
-use Rattle.std.specs.Prelude.{◌≡◌, ◌≢◌, ◌⊎◌, ◌==◌, ◌<◌, ℕ, Bool, true, false, not, List, [], ◌++◌, slice_get, Some, Ok, Err}
-use Rattle.std.specs.Prelude.{IsTrue, is_some, codes, ⊤, Contains}
+use Rattle.std.specs.Prelude.{◌≡◌, ◌==◌, ℕ, Bool, true, false, not, List, ◌++◌, slice_get, Some, Ok, IsTrue, is_some, codes}
 use Rattle.std.specs.List.{list_all, AllByRecursion}
 use Rattle.class_read.specs.Content.{ClassContent, MethodContent}
 use Rattle.class_world.specs.declared.world.MethodRef.{MethodRef}
 use Rattle.class_world.specs.World.{World}
 use Rattle.class_world.specs.Members.{find_method}
-use Rattle.input_text.specs.Answers.{SaysOf, AnswersText}
+use Rattle.input_text.specs.Answers.{SaysOf}
 use Rattle.input_text.specs.Descriptions.{description_of}
-use Rattle.input_text.specs.declared.fault.DescFault.{DescFault}
-use Rattle.input_text.specs.declared.fault.DescFault.TheVariants.{Memory}
 use Rattle.input_text.specs.declared.texts.DescText.{DescText}
-use Rattle.input_text.specs.declared.texts.EntryName.{EntryName}
 use Rattle.input_steps.specs.Classes.{AllSpell, IsWorldOf}
 use Rattle.prove_call.specs.DescStepsHeadline.{AllEnd}
 use Rattle.class_calls.specs.describe.Calls.{DescribesEntry}
-use Rattle.survey.specs.declared.lacking.Lacks.{Lacks}
 use Rattle.survey.specs.declared.survey_notes.touching.Touched.{Touched}
-use Rattle.survey.specs.Lacking.{IsWarned}
-use Rattle.survey.specs.Lines.{yes_line, text_of}
+use Rattle.survey.specs.Lines.{yes_line, is_plain, text_of}
 
 -- What is surveyed: the bytes of the class files, and those of the descriptions that were handed in.
 pub record Surveyed : Type 0 where
   pub files : List (List ℕ)
   pub descs : List (List ℕ)
-
--- nothing is surveyed
-abbrev pub nothing : Surveyed
-nothing = record { files = []; descs = [] }
 
 -- ---- a method is proved
 
@@ -50,32 +40,11 @@ pub record NamesMethod (class name desc text : List ℕ) : Type 0 where
   pub name_is : said.entry.method ≡ name
   pub desc_is : said.entry.desc ≡ desc
 
--- A text is the first of the descriptions that were handed in that names a method.
+-- a text is one of the descriptions that were handed in, and names a method
 pub record IsGivenText (descs : List (List ℕ)) (class name desc text : List ℕ) : Type 0 where
   pub place : ℕ
   pub among : slice_get descs place ≡ Some text
   pub names : NamesMethod class name desc text
-  pub first : (earlier : ℕ) (other : List ℕ) → earlier < place → slice_get descs earlier ≡ Some other
-      → NamesMethod class name desc other → ⊥
-
--- a text is no description, or one of another method than an entry's
-pub record NamesOther (text : List ℕ) (entry : EntryName) : Type 0 where
-  pub says : ((fault : DescFault) × (AnswersText description_of text (Err fault) × (fault ≢ Memory)))
-      ⊎ ((other : DescText) × (SaysOf description_of text (Ok other) × (other.entry ≢ entry)))
-
--- A description is of use: it names a method with code of a class that is surveyed, and no description before it names that method.
-pub record IsUsed (s : Surveyed) (place : ℕ) (text : List ℕ) : Type 0 where
-  pub said : DescText
-  pub says : SaysOf description_of text (Ok said)
-  pub classes : List ClassContent
-  pub spelled : AllSpell s.files classes
-  pub class : ClassContent
-  pub among : Contains classes class
-  pub method : MethodContent
-  pub declared : Contains class.methods method
-  pub code : IsTrue (is_some method.code)
-  pub names : (said.entry.class ≡ class.name) × ((said.entry.method ≡ method.name) × (said.entry.desc ≡ method.desc))
-  pub first : (earlier : ℕ) (other : List ℕ) → earlier < place → slice_get s.descs earlier ≡ Some other → NamesOther other said.entry
 
 -- the description under which a method is proved: one that was handed in, or the method's template
 abbrev pub IsTextOf : Bool → Surveyed → List ℕ → List ℕ → List ℕ → List ℕ → Type 0
@@ -91,18 +60,17 @@ pub record IsProved (s : Surveyed) (given : Bool) (class name desc : List ℕ) :
 
 -- ---- lines
 
--- What a line that begins with `YES` says is true: it names a method, by names as lines show them, says under which description, and the
--- method is proved under that. Where the words for what is missing don't stand there, nothing is.
+-- What a line that begins with `YES` says is true: it names a method, says under which description, and the method is
+-- proved under that. None of the names has a blank, so that the words behind them are no part of one.
 pub record HoldsYes (s : Surveyed) (line : List ℕ) : Type 0 where
   pub class : List ℕ
   pub name : List ℕ
   pub desc : List ℕ
   pub given : Bool
-  pub lacks : Lacks
   pub touched : Touched
-  pub is : line ≡ yes_line class name desc given lacks touched
+  pub is : line ≡ yes_line class name desc given touched
+  pub plain : IsTrue (is_plain class) × (IsTrue (is_plain name) × IsTrue (is_plain desc))
   pub proved : IsProved s given class name desc
-  pub warned : IsWarned s.files proved.text lacks
 
 -- a line begins with `YES`
 abbrev pub BeginsYes : List ℕ → Type 0

@@ -1,7 +1,5 @@
-pub mod Lines
-pub mod Lacking
 pub mod Claims
-pub mod Fates
-pub mod Words
+pub mod Lines
 pub mod Outside
+pub mod Words
 pub mod inner

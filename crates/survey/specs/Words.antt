@@ -1,5 +1,5 @@
 -- The words of a survey: `[--why] [--desc FILE].. CLASS..`.
-use Rattle.std.specs.Prelude.{ℕ, ◌==◌, ◌&&◌, not, Bool, true, List, [], ◌∷◌, length, nat_le, codes, if◌then◌else◌}
+use Rattle.std.specs.Prelude.{ℕ, ◌≤◌, ◌==◌, not, Bool, true, List, [], ◌∷◌, length, codes, IsTrue, if◌then◌else◌}
 use Rattle.std.specs.List.{list_all}
 use Rattle.std.specs.Str.{bytes_eq}
 use Rattle.class_base.specs.Limits.{most_classes}
@@ -34,14 +34,11 @@ abbrev pub is_file_word : List ℕ → Bool
 is_file_word [] = true
 is_file_word (first ∷ rest) = not (first == 45)
 
--- these name the class files and the descriptions of a survey: at least one class file, at most 256 of them and as many
--- descriptions, and none of their names begins with `-`
-abbrev pub can_be_surveyed : List (List ℕ) → List (List ℕ) → Bool
-can_be_surveyed classes descs =
-    (((nat_le 1 (length classes) && nat_le (length classes) most_classes) && nat_le (length descs) most_classes)
-    && list_all is_file_word classes)
-    && list_all is_file_word descs
-
--- the words are those of a survey
-abbrev pub are_survey : List (List ℕ) → Bool
-are_survey words = can_be_surveyed (class_words words) (desc_words words)
+-- the words are those of a survey: at least one class file, at most 256 of them and as many descriptions, and none of
+-- their names begins with `-`
+pub record AreSurvey (words : List (List ℕ)) : Type 0 where
+  pub some : 1 ≤ length (class_words words)
+  pub few : length (class_words words) ≤ most_classes
+  pub few_descs : length (desc_words words) ≤ most_classes
+  pub files : IsTrue (list_all is_file_word (class_words words))
+  pub descs : IsTrue (list_all is_file_word (desc_words words))

@@ -11,11 +11,10 @@ ghost use Rattle.input_text.specs.Answers.{SaysOf};
 ghost use Rattle.input_text.specs.Descriptions.{description_of};
 ghost use Rattle.class_calls.specs.describe.Templates.{IsTemplate};
 ghost use Rattle.prove_call.specs.Headline.{IsProved as SaysYes};
-ghost use Rattle.survey.specs.Claims.{Surveyed, NamesMethod, IsGivenText, IsOpenText};
-ghost use Rattle.survey.specs.inner.Wording.{Shows, surveyed, IsMethodProgram, IsOf, IsUnder, IsJudged};
+ghost use Rattle.survey.specs.Claims.{Surveyed, NamesMethod, IsGivenText, IsOpenText, IsProved};
+ghost use Rattle.survey.specs.inner.Wording.{surveyed, IsMethodProgram, IsJudged};
 
-use crate::lacking::{Lacks, lacks_of};
-use crate::lines::{MethodWords, method_text};
+use crate::lines::{Head, MethodWords, method_text};
 use crate::survey_notes::{Sources, Touched, premises_of};
 use crate::survey_why::{NARROWINGS, narrowed, put_advice, reason_text};
 use class_calls::describe::{DescribeFault, template};
@@ -61,19 +60,15 @@ pub(crate) enum Judged {
     Yes {
         /// Under a description that was handed in; else under its template.
         given: bool,
-        /// What is missing behind that.
-        lacks: Lacks,
         /// The premises that its program touches.
         touched: Touched,
     },
     /// No more is known.
     No {
-        /// Its line begins with REFUSED, else with MAYBE.
-        refused: bool,
-        /// What stands behind that.
-        line: Seq<u8>,
-        /// Each further line, without its newline, is advice.
-        advice: Vec<Seq<u8>>,
+        /// What its line begins with.
+        head: Head,
+        /// What stands behind that; each further line, without its newline, is advice.
+        rest: Vec<Seq<u8>>,
     },
 }
 
@@ -131,36 +126,23 @@ fn method_program<'a>(
     close(alloc, world, entry)
 }
 
-/// Whether two texts are the same.
-#[tactic(auto, using(crate::proofs::Naming::same_bytes))]
-fn is_same(one: &[u8], other: &[u8]) -> bool
-    ensures { Shows result (one.now ≡ other.now) }
-{
-    one == other
-}
-
 /// Whether a description's text names a method.
-#[tactic(auto, using(crate::proofs::Naming::other_class, crate::proofs::Naming::other_name, crate::proofs::Naming::of_names))]
-pub(crate) fn is_of(said: &DescText, method: &MethodWords<'_>) -> bool
-    ensures { Shows result (IsOf said.now.entry method.now.class.now method.now.name.now method.now.desc.now) }
+fn is_of(said: &DescText, method: &MethodWords<'_>) -> bool
+    ensures { IsTrue result → (said.now.entry.class ≡ method.now.class.now) × (said.now.entry.method ≡ method.now.name.now)
+        × (said.now.entry.desc ≡ method.now.desc.now) }
 {
-    if !is_same(said.entry.class.as_slice(), method.class) {
-        return false;
-    }
-    if !is_same(said.entry.method.as_slice(), method.name) {
-        return false;
-    }
-    is_same(said.entry.desc.as_slice(), method.desc)
+    said.entry.class.as_slice() == method.class
+        && said.entry.method.as_slice() == method.name
+        && said.entry.desc.as_slice() == method.desc
 }
 
 /// Whether a description names a method. One that can't be read names none.
-#[tactic(auto, using(crate::proofs::Naming::names_as, crate::proofs::Naming::names_none))]
 pub(crate) fn names_method(
     alloc: Global,
     text: &[u8],
     method: &MethodWords<'_>,
 ) -> Result<bool, AllocError>
-    ensures { IfOk result (λ is. Shows is (NamesMethod method.now.class.now method.now.name.now method.now.desc.now text.now)) }
+    ensures { IfOk result (λ is. IsTrue is → NamesMethod method.now.class.now method.now.name.now method.now.desc.now text.now) }
 {
     match DescText::read(alloc, text) {
         Ok(said) => Ok(is_of(&said, method)),
@@ -170,7 +152,7 @@ pub(crate) fn names_method(
 }
 
 /// The first description that names a method.
-#[tactic(auto, using(crate::proofs::Judgements::none_first, crate::proofs::Judgements::none_yet, crate::proofs::Judgements::is_given))]
+#[tactic(auto, using(crate::proofs::Judgements::is_given))]
 fn given_for<'s>(
     alloc: Global,
     descs: &'s [Vec<u8>],
@@ -192,10 +174,12 @@ pub(crate) fn behind_method(
     alloc: Global,
     method: &MethodWords<'_>,
     words: &[u8],
-) -> Result<Seq<u8>, AllocError> {
+) -> Result<Vec<Seq<u8>>, AllocError> {
     let mut text = method_text(alloc, method)?;
     text.extend_from_slice(words)?;
-    Ok(text)
+    let mut lines = Vec::new(alloc);
+    lines.push(text)?;
+    Ok(lines)
 }
 
 /// That a method is refused for a cause in words.
@@ -206,11 +190,9 @@ pub(crate) fn refused_for(
 ) -> Result<Judged, AllocError>
     ensures { IfOk result (λ judged. (s : Surveyed) → IsJudged s method.now.class.now method.now.name.now method.now.desc.now judged) }
 {
-    let line = behind_method(alloc, method, words)?;
     Ok(Judged::No {
-        refused: true,
-        line,
-        advice: Vec::new(alloc),
+        head: Head::Refused,
+        rest: behind_method(alloc, method, words)?,
     })
 }
 
@@ -249,44 +231,32 @@ fn does(alloc: Global, scope: &Scope<'_, '_>, text: &[u8]) -> bool
     }
 }
 
-/// What stands behind the head of the line of a method whose runs may not end: where its loops are, as far as a reason is kept.
-fn maybe_line(
+/// Puts the line of a method whose runs may not end behind others, and, where it is asked for, advice: about the
+/// reason, and whether narrower inputs than a template's would do. Nothing where no reason is kept.
+fn put_maybe(
     alloc: Global,
     scope: &Scope<'_, '_>,
     method: &MethodWords<'_>,
-    program: &Program<'_>,
-    answer: &Answer,
-) -> Result<Seq<u8>, AllocError> {
-    let words = method_text(alloc, method)?;
-    match &answer.reason {
-        Some(reason) => reason_text(alloc, &scope.sources(), words.as_slice(), program, reason),
-        None => Ok(words),
-    }
-}
-
-/// Advice on a method whose runs may not end, where it is asked for: about the reason, and whether narrower inputs than a
-/// template's would do.
-fn maybe_advice(
-    alloc: Global,
-    scope: &Scope<'_, '_>,
+    rest: &mut Vec<Seq<u8>>,
     program: &Program<'_>,
     template: Option<&[u8]>,
     answer: &Answer,
-) -> Result<Vec<Seq<u8>>, AllocError>
+) -> Result<(), AllocError>
     requires { length scope.now.files.now ≤ most_classes }
 {
-    let mut advice = Vec::new(alloc);
     let Some(reason) = &answer.reason else {
-        return Ok(advice);
+        return Ok(());
     };
+    let words = method_text(alloc, method)?;
+    rest.push(reason_text(alloc, &scope.sources(), words.as_slice(), program, reason)?)?;
     if !scope.why {
-        return Ok(advice);
+        return Ok(());
     }
-    put_advice(alloc, &mut advice, &scope.sources(), program, reason)?;
-    if let Some(text) = template {
-        put_narrower(alloc, scope, &mut advice, text)?;
+    put_advice(alloc, rest, &scope.sources(), program, reason)?;
+    match template {
+        Some(text) => put_narrower(alloc, scope, rest, text),
+        None => Ok(()),
     }
-    Ok(advice)
 }
 
 /// That runs of a method may not end, and why no more is known.
@@ -301,63 +271,34 @@ fn maybe(
     requires { length scope.now.files.now ≤ most_classes }
     ensures { IfOk result (λ judged. (s : Surveyed) → IsJudged s method.now.class.now method.now.name.now method.now.desc.now judged) }
 {
-    let line = maybe_line(alloc, scope, method, program, answer)?;
-    let advice = maybe_advice(alloc, scope, program, template, answer)?;
+    let mut rest = Vec::new(alloc);
+    put_maybe(alloc, scope, method, &mut rest, program, template, answer)?;
     Ok(Judged::No {
-        refused: false,
-        line,
-        advice,
+        head: Head::Maybe,
+        rest,
     })
 }
 
-/// That a method is proved under a text, and what is missing behind that.
-#[tactic(auto, using(crate::proofs::Judgements::judged_yes, crate::proofs::Naming::under_named))]
-fn proved(
-    alloc: Global,
-    scope: &Scope<'_, '_>,
-    method: &MethodWords<'_>,
-    program: &Program<'_>,
-    given: bool,
-    text: &[u8],
-) -> Result<Judged, Refused>
-    requires program { IsMethodProgram (map (λ file. file.items) scope.now.files.now) method.now.class.now method.now.name.now
-        method.now.desc.now (program_of program.now) }
-    requires under { IsUnder (surveyed scope.now.files.now scope.now.descs.now) given method.now.class.now method.now.name.now
-        method.now.desc.now text.now }
-    ensures { IfOk result (IsJudged (surveyed scope.now.files.now scope.now.descs.now) method.now.class.now method.now.name.now
-        method.now.desc.now) }
-{
-    let lacks = lacks_of(alloc, scope.files, program, text)?;
-    let touched = premises_of(alloc, &scope.sources(), program)?;
-    Ok(Judged::Yes {
-        given,
-        lacks,
-        touched,
-    })
-}
-
-/// What is said of a method by the answer for one of its descriptions, which is a template where none was handed in.
+/// What is said of a method by the answer for one of its descriptions.
 fn told(
     alloc: Global,
     scope: &Scope<'_, '_>,
     method: &MethodWords<'_>,
     program: &Program<'_>,
     given: bool,
-    text: &[u8],
+    template: Option<&[u8]>,
     answer: &Answer,
 ) -> Result<Judged, Refused>
     requires few { length scope.now.files.now ≤ most_classes }
-    requires program { IsMethodProgram (map (λ file. file.items) scope.now.files.now) method.now.class.now method.now.name.now
-        method.now.desc.now (program_of program.now) }
-    requires proved { answer.now.status ≡ 0 → IsUnder (surveyed scope.now.files.now scope.now.descs.now) given method.now.class.now
-        method.now.name.now method.now.desc.now text.now }
+    requires proved { answer.now.status ≡ 0 → IsProved (surveyed scope.now.files.now scope.now.descs.now) given method.now.class.now
+        method.now.name.now method.now.desc.now }
     ensures { IfOk result (IsJudged (surveyed scope.now.files.now scope.now.descs.now) method.now.class.now method.now.name.now
         method.now.desc.now) }
 {
     if answer.status == 0 {
-        proved(alloc, scope, method, program, given, text)
+        let touched = premises_of(alloc, &scope.sources(), program)?;
+        Ok(Judged::Yes { given, touched })
     } else {
-        let template = if given { None } else { Some(text) };
         Ok(maybe(alloc, scope, method, program, template, answer)?)
     }
 }
@@ -372,15 +313,13 @@ fn judged_as_given(
     text: &[u8],
 ) -> Result<Judged, Refused>
     requires few { length scope.now.files.now ≤ most_classes }
-    requires program { IsMethodProgram (map (λ file. file.items) scope.now.files.now) method.now.class.now method.now.name.now
-        method.now.desc.now (program_of program.now) }
     requires given { IsGivenText (map (λ desc. desc.items) scope.now.descs.now) method.now.class.now method.now.name.now
         method.now.desc.now text.now }
     ensures { IfOk result (IsJudged (surveyed scope.now.files.now scope.now.descs.now) method.now.class.now method.now.name.now
         method.now.desc.now) }
 {
     let answer = prove_line(alloc, text, scope.files, NODES)?;
-    told(alloc, scope, method, program, true, text, &answer)
+    told(alloc, scope, method, program, true, None, &answer)
 }
 
 /// What is said of a method under its template.
@@ -393,15 +332,13 @@ fn judged_as_open(
     text: &[u8],
 ) -> Result<Judged, Refused>
     requires few { length scope.now.files.now ≤ most_classes }
-    requires program { IsMethodProgram (map (λ file. file.items) scope.now.files.now) method.now.class.now method.now.name.now
-        method.now.desc.now (program_of program.now) }
     requires open { IsOpenText (map (λ file. file.items) scope.now.files.now) method.now.class.now method.now.name.now
         method.now.desc.now text.now }
     ensures { IfOk result (IsJudged (surveyed scope.now.files.now scope.now.descs.now) method.now.class.now method.now.name.now
         method.now.desc.now) }
 {
     let answer = prove_line(alloc, text, scope.files, NODES)?;
-    told(alloc, scope, method, program, false, text, &answer)
+    told(alloc, scope, method, program, false, Some(text), &answer)
 }
 
 /// What is said of a method for which no description was handed in.
@@ -425,8 +362,7 @@ fn judged_by_template(
     }
 }
 
-/// What is said of a method: by the first description that was handed in and names it (a second one is refused), else by its
-/// template.
+/// What is said of a method: by the first description that was handed in and names it, else by its template.
 ///
 /// # Errors
 ///

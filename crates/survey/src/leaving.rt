@@ -1,19 +1,17 @@
 //! Class files that are left out, since their classes can't be linked with the others.
-ghost use Rattle.std.specs.Prelude.{◌≡◌, ◌≤◌, ◌<◌, ◌++◌, ◌∷◌, [], length, map, slice_index_or, codes, IfOk, IfErr, IfSome, OnOk};
-ghost use Rattle.std.specs.List.{remove, AllByRecursion};
-ghost use Rattle.list_views.specs.Shown.{shown};
+ghost use Rattle.std.specs.Prelude.{◌≤◌, length, map, IfOk, OnErr, OnOk};
 ghost use Rattle.class_base.specs.Limits.{most_classes};
-ghost use Rattle.survey.specs.Fates.{CannotLink, SpellsClass};
-ghost use Rattle.survey.specs.inner.Keeping.{contents_of, Leaves, LinksNot};
-ghost use Rattle.survey.specs.inner.Putting.{IsOther, Went, Cut};
+ghost use Rattle.survey.specs.Claims.{Surveyed};
+ghost use Rattle.survey.specs.Outside.{Tells, BeginsToTell};
+ghost use Rattle.survey.specs.inner.Wording.{StayRead};
 
 use crate::failure::Stop;
 use crate::lines::Head;
 use crate::putting::put_other;
-use crate::reading::{Kept, named, spelled_classes};
+use crate::reading::{Kept, named};
 use class_read::ClassView;
 use class_world::LinkFault;
-use input_steps::{Fault, Refused, link};
+use input_steps::{Fault, Refused, link, read_classes};
 use io_ports::Sink;
 use list_views::Seq;
 use std::alloc::{AllocError, Global};
@@ -76,11 +74,10 @@ fn place_of(classes: &[ClassView<'_>], fault: &LinkFault) -> usize {
 }
 
 /// The class file that has a fault of linking.
-fn culprit_of(alloc: Global, files: &[Vec<u8>], fault: &Fault) -> Result<Culprit, AllocError>
-    requires few { length files.now ≤ most_classes }
-    requires spelled { AllByRecursion SpellsClass (map (λ file. file.items) files.now) }
+fn culprit_of(alloc: Global, files: &[Vec<u8>], fault: &Fault) -> Result<Culprit, Refused>
+    requires { length files.now ≤ most_classes }
 {
-    let classes = spelled_classes(alloc, files)?;
+    let classes = read_classes(alloc, files)?;
     let at = match fault {
         Fault::Link(fault) => place_of(classes.as_slice(), fault),
         _ => 0,
@@ -92,136 +89,108 @@ fn culprit_of(alloc: Global, files: &[Vec<u8>], fault: &Fault) -> Result<Culprit
 }
 
 /// Whether classes make a world, or the fault that they have.
-#[tactic(auto, using(crate::proofs::Judgements::few_classes, crate::proofs::Judgements::classes_read, crate::proofs::Leavings::links_not, crate::proofs::Leavings::no_room))]
+#[tactic(auto, using(crate::proofs::Judgements::few_classes, crate::proofs::Judgements::classes_read))]
 fn tried(alloc: Global, files: &[Vec<u8>]) -> Result<(), Refused>
-    requires few { length files.now ≤ most_classes }
-    requires spelled { AllByRecursion SpellsClass (map (λ file. file.items) files.now) }
-    ensures { IfErr result (LinksNot (map (λ file. file.items) files.now)) }
+    requires { length files.now ≤ most_classes }
 {
-    let classes = spelled_classes(alloc, files)?;
+    let classes = read_classes(alloc, files)?;
     let _world = link(alloc, classes)?;
     Ok(())
 }
 
-/// The class file that can't be linked with the others, where there is one. Its place is one of theirs.
-#[tactic(auto, using(crate::proofs::Leavings::linked_not))]
-fn unlinked(alloc: Global, files: &[Vec<u8>]) -> Result<Option<Culprit>, AllocError>
-    requires few { length files.now ≤ most_classes }
-    requires spelled { AllByRecursion SpellsClass (map (λ file. file.items) files.now) }
-    ensures at { IfOk result (λ found. IfSome found (λ culprit. culprit.at < length files.now)) }
-    ensures none { IfOk result (λ found. IfSome found (λ culprit. CannotLink (map (λ file. file.items) files.now))) }
+/// The class file that can't be linked with the others, where there is one.
+fn unlinked(alloc: Global, files: &[Vec<u8>]) -> Result<Option<Culprit>, Stop>
+    requires { length files.now ≤ most_classes }
 {
-    if files.is_empty() {
-        return Ok(None);
-    }
     let fault = match tried(alloc, files) {
         Ok(()) => return Ok(None),
         Err(Refused::At { fault, .. }) => fault,
-        Err(Refused::Memory) => return Err(AllocError),
+        Err(Refused::Memory) => return Err(Stop::Memory),
     };
-    let found = culprit_of(alloc, files, &fault)?;
-    Ok(Some(Culprit {
-        at: found.at.min(files.len() - 1),
-        words: found.words,
-    }))
+    match culprit_of(alloc, files, &fault) {
+        Ok(found) => Ok(Some(found)),
+        Err(_) => Err(Stop::Memory),
+    }
 }
 
-/// Takes a class file away, which is there.
-fn take_away(kept: &mut Kept<'_>, at: usize)
-    requires files { at < length kept.old.files.items }
-    requires names { at < length kept.old.names.items }
-    ensures files { kept.new.files.items ≡ remove kept.old.files.items at }
-    ensures names { kept.new.names.items ≡ remove kept.old.names.items at }
+/// Leaves a class file out, which is there.
+#[tactic(auto, using(crate::proofs::Kept::stay_without))]
+fn leave(kept: &mut Kept, at: usize)
+    ensures stay { StayRead (map (λ file. file.items) kept.old.files.items) (map (λ file. file.items) kept.new.files.items) }
+    ensures fewer { length kept.new.files.items ≤ length kept.old.files.items }
 {
-    kept.files.remove(at);
-    kept.names.remove(at);
-}
-
-/// The name of a kept file.
-fn name_at<'w>(kept: &Kept<'w>, at: usize) -> &'w str
-    requires { at < length kept.now.names.items }
-    ensures { result ≡ slice_index_or kept.now.names.items at result }
-{
-    kept.names[at]
+    if at < kept.files.len() && at < kept.places.len() {
+        kept.files.remove(at);
+        kept.places.remove(at);
+        kept.left_out = kept.left_out.saturating_add(1);
+    }
 }
 
 /// The line that says that a class file is left out.
-fn left_line(alloc: Global, name: &str, words: &[u8]) -> Result<Seq<u8>, AllocError>
-    ensures { IfOk result (λ line. line ≡ (shown name.now ++ codes " link: ") ++ words.now) }
-{
-    named(alloc, name.as_bytes(), b" link: ", words)
+fn left_line(
+    alloc: Global,
+    words: &[String],
+    kept: &Kept,
+    found: &Culprit,
+) -> Result<Seq<u8>, AllocError> {
+    let name: &[u8] = match kept.places.get(found.at) {
+        Some(place) => match words.get(*place) {
+            Some(word) => word.as_bytes(),
+            None => b"",
+        },
+        None => b"",
+    };
+    named(alloc, name, b" link: ", found.words.as_slice())
 }
 
-/// Leaves a class file out, and puts a line for it.
-#[tactic(auto, using(crate::proofs::Leavings::left_at, crate::proofs::Leavings::spelled_less, crate::proofs::Went::no_memory))]
-fn leave<O: Sink>(
+/// Leaves one class file out, where the others can't be linked with it, and puts a line for it; whether one is left out.
+#[tactic(auto, using(crate::proofs::Telling::nothing_told, crate::proofs::Telling::nothing_begun, crate::proofs::Kept::stay))]
+fn leave_one<O: Sink>(
     alloc: Global,
-    kept: &mut Kept<'_>,
-    found: &Culprit,
+    words: &[String],
+    kept: &mut Kept,
     out: &mut O,
-) -> Result<(), Stop>
-    requires files { found.now.at < length kept.old.files.items }
-    requires names { length kept.old.names.items ≡ length kept.old.files.items }
-    requires spelled { AllByRecursion SpellsClass (contents_of kept.old) }
-    requires none { CannotLink (contents_of kept.old) }
-    ensures told { OnOk result (Went O.taken O.faults IsOther (Leaves kept.old kept.new) out.old out.new) }
-    ensures begun { IfErr result (Cut O.taken O.faults IsOther out.old out.new) }
-    ensures names { length kept.new.names.items ≡ length kept.new.files.items }
+) -> Result<bool, Stop>
+    requires { length kept.old.files.items ≤ most_classes }
+    ensures told { IfOk result (λ more. (s : Surveyed) → Tells O.taken s out.old out.new) }
+    ensures begun { OnErr result ((s : Surveyed) → BeginsToTell O.taken s out.old out.new) }
+    ensures stay { StayRead (map (λ file. file.items) kept.old.files.items) (map (λ file. file.items) kept.new.files.items) }
     ensures fewer { length kept.new.files.items ≤ length kept.old.files.items }
-    ensures spelled { AllByRecursion SpellsClass (contents_of kept.new) }
 {
-    let line = match left_line(alloc, name_at(kept, found.at), found.words.as_slice()) {
+    let found = match unlinked(alloc, kept.files.as_slice()) {
+        Ok(Some(found)) => found,
+        Ok(None) => return Ok(false),
+        Err(stop) => return Err(stop),
+    };
+    let line = match left_line(alloc, words, kept, &found) {
         Ok(line) => line,
         Err(AllocError) => return Err(Stop::Memory),
     };
     match put_other(alloc, out, Head::LeftOut, line.as_slice()) {
         Ok(()) => {
-            take_away(kept, found.at);
-            Ok(())
+            leave(kept, found.at);
+            Ok(true)
         }
         Err(stop) => Err(stop),
     }
 }
 
-/// Leaves one class file out, where the others can't be linked with it, and puts a line for it; whether one is left out.
-#[tactic(auto, using(crate::proofs::Leavings::none_left, crate::proofs::Leavings::spelled_slice, crate::proofs::Leavings::unlinked_slice, crate::proofs::Went::no_memory))]
-fn leave_one<O: Sink>(alloc: Global, kept: &mut Kept<'_>, out: &mut O) -> Result<bool, Stop>
-    requires few { length kept.old.files.items ≤ most_classes }
-    requires names { length kept.old.names.items ≡ length kept.old.files.items }
-    requires spelled { AllByRecursion SpellsClass (contents_of kept.old) }
-    ensures told { OnOk result (Went O.taken O.faults IsOther (Leaves kept.old kept.new) out.old out.new) }
-    ensures begun { IfErr result (Cut O.taken O.faults IsOther out.old out.new) }
-    ensures names { length kept.new.names.items ≡ length kept.new.files.items }
-    ensures fewer { length kept.new.files.items ≤ length kept.old.files.items }
-    ensures spelled { AllByRecursion SpellsClass (contents_of kept.new) }
-{
-    match unlinked(alloc, kept.files.as_slice()) {
-        Ok(Some(found)) => match leave(alloc, kept, &found, out) {
-            Ok(()) => Ok(true),
-            Err(stop) => Err(stop),
-        },
-        Ok(None) => Ok(false),
-        Err(AllocError) => Err(Stop::Memory),
-    }
-}
-
 /// Leaves class files out until the others make a world. A line is put for each.
-#[tactic(auto, using(crate::proofs::Leavings::none_left, crate::proofs::Leavings::left_on, crate::proofs::Went::cut_on))]
+#[tactic(auto, using(crate::proofs::Telling::nothing_told, crate::proofs::Telling::told_all, crate::proofs::Telling::begun_all, crate::proofs::Kept::stay, crate::proofs::Kept::stay_on))]
 pub(crate) fn leave_out<O: Sink>(
     alloc: Global,
-    kept: &mut Kept<'_>,
+    words: &[String],
+    kept: &mut Kept,
     out: &mut O,
 ) -> Result<(), Stop>
-    requires few { length kept.old.files.items ≤ most_classes }
-    requires names { length kept.old.names.items ≡ length kept.old.files.items }
-    requires spelled { AllByRecursion SpellsClass (contents_of kept.old) }
-    ensures told { OnOk result (Went O.taken O.faults IsOther (Leaves kept.old kept.new) out.old out.new) }
-    ensures begun { IfErr result (Cut O.taken O.faults IsOther out.old out.new) }
-    ensures fewer { length kept.new.files.items ≤ length kept.old.files.items }
-    ensures spelled { AllByRecursion SpellsClass (contents_of kept.new) }
+    requires { length kept.old.files.items ≤ most_classes }
+    ensures told { OnOk result ((s : Surveyed) → Tells O.taken s out.old out.new) }
+    ensures begun { OnErr result ((s : Surveyed) → BeginsToTell O.taken s out.old out.new) }
+    ensures stay { StayRead (map (λ file. file.items) kept.old.files.items) (map (λ file. file.items) kept.new.files.items) }
+    ensures few { length kept.new.files.items ≤ most_classes }
 {
     for _round in 0..kept.files.len() {
-        match leave_one(alloc, kept, out) {
+        match leave_one(alloc, words, kept, out) {
             Ok(true) => {}
             Ok(false) => return Ok(()),
             Err(stop) => return Err(stop),

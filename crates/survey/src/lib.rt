@@ -1,15 +1,13 @@
 //! A survey of class files: of each method with code, whether every run of it ends, under a description that leaves
 //! no input out or one that was handed in.
 //!
-//! The definitions stand in `specs/Lines` (how lines are written), `specs/Lacking` (what can be missing behind a YES), `specs/Claims`
-//! (what a line that begins with YES says), `specs/Fates` (what becomes of the class files), `specs/Words` (the words) and
-//! `specs/Outside` (what a survey reads and puts, and what its status says).
+//! The definitions stand in `specs/Claims` (what a line that begins with YES says), `specs/Lines` (how lines are
+//! written), `specs/Words` (the words) and `specs/Outside` (what a survey reads and puts, and what its status says).
 #![tactic(auto)]
 
 mod failure;
 pub mod java_lines;
 mod judging;
-mod lacking;
 mod leaving;
 mod lines;
 mod putting;

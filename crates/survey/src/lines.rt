@@ -1,15 +1,12 @@
 //! Lines, as they are written.
 ghost use Rattle.std.specs.Prelude.{◌≡◌, ◌++◌, map, codes, IfOk, OnOk};
-ghost use Rattle.survey.specs.Lines.{given_text, no_input_text, no_class_text, lacks_text};
-ghost use Rattle.survey.specs.Lines.{errors_text, exceptions_text, constants_text, touched_text, words_text};
-ghost use Rattle.survey.specs.Lines.{printed, yes_line};
-ghost use Rattle.survey.specs.inner.Wording.{head_text, head_of, other_line};
+ghost use Rattle.survey.specs.Lines.{given_text, errors_text, exceptions_text, constants_text, words_text};
+ghost use Rattle.survey.specs.Lines.{is_name_byte, is_plain, printed, yes_line};
+ghost use Rattle.survey.specs.inner.Wording.{head_text, other_line};
 
-use crate::lacking::Lacks;
 use crate::survey_notes::Touched;
 use list_views::Seq;
 use list_views::fault_words::joined;
-use list_views::shown::{method_text as shown_method, put_shown};
 use std::alloc::{AllocError, Global};
 
 /// What a line begins with that claims nothing.
@@ -40,13 +37,6 @@ fn head_text(head: Head) -> &'static [u8]
     }
 }
 
-/// What the first line of a method begins with of which no more is known.
-pub(crate) fn head_of(refused: bool) -> Head
-    ensures { result ≡ head_of refused }
-{
-    if refused { Head::Refused } else { Head::Maybe }
-}
-
 /// A byte as it stands in a line.
 fn printed(byte: u8) -> u8
     ensures { result ≡ printed byte }
@@ -72,6 +62,19 @@ pub(crate) fn other_line(alloc: Global, head: Head, rest: &[u8]) -> Result<Seq<u
     let mut line = Seq::from_slice(alloc, head_text(head))?;
     put_printed(&mut line, rest)?;
     Ok(line)
+}
+
+fn is_name_byte(byte: u8) -> bool
+    ensures { result ≡ is_name_byte byte }
+{
+    32 < byte && byte != 127
+}
+
+/// Whether a name can stand in a line that begins with YES.
+pub(crate) fn is_plain(name: &[u8]) -> bool
+    ensures { result ≡ is_plain name.now }
+{
+    name.iter().all(|byte| is_name_byte(*byte))
 }
 
 fn given_text(given: bool) -> &'static [u8]
@@ -121,59 +124,14 @@ pub(crate) struct MethodWords<'a> {
     pub(crate) desc: &'a [u8],
 }
 
-fn no_input_text(no_input: bool) -> &'static [u8]
-    ensures { result.now ≡ no_input_text no_input }
+/// The words behind a method whose every run ends.
+fn words_text(alloc: Global, given: bool, touched: Touched) -> Result<Seq<u8>, AllocError>
+    ensures { IfOk result (λ text. text ≡ words_text given touched) }
 {
-    if no_input { b" no-input" } else { b"" }
-}
-
-fn no_class_text(alloc: Global, no_class: &Option<Seq<u8>>) -> Result<Seq<u8>, AllocError>
-    ensures { IfOk result (λ text. text ≡ no_class_text no_class.now) }
-{
-    match no_class {
-        Some(name) => {
-            let mut text = Seq::from_slice(alloc, b" no-class=")?;
-            put_shown(&mut text, name.as_slice())?;
-            Ok(text)
-        }
-        None => Ok(Seq::new(alloc)),
-    }
-}
-
-/// The words for what is missing.
-fn lacks_text(alloc: Global, lacks: &Lacks) -> Result<Seq<u8>, AllocError>
-    ensures { IfOk result (λ text. text ≡ lacks_text lacks.now) }
-{
-    let class = no_class_text(alloc, &lacks.no_class)?;
-    let mut text = Seq::from_slice(alloc, no_input_text(lacks.no_input))?;
-    text.extend_from_slice(class.as_slice())?;
-    Ok(text)
-}
-
-/// The words for the premises that a program touches.
-fn touched_text(alloc: Global, touched: Touched) -> Result<Seq<u8>, AllocError>
-    ensures { IfOk result (λ text. text ≡ touched_text touched) }
-{
-    let mut text = Seq::from_slice(alloc, errors_text(touched))?;
+    let mut text = Seq::from_slice(alloc, given_text(given))?;
+    text.extend_from_slice(errors_text(touched))?;
     text.extend_from_slice(exceptions_text(touched))?;
     text.extend_from_slice(constants_text(touched))?;
-    Ok(text)
-}
-
-/// The words behind a method whose every run ends.
-fn words_text(
-    alloc: Global,
-    given: bool,
-    lacks: &Lacks,
-    touched: Touched,
-) -> Result<Seq<u8>, AllocError>
-    ensures { IfOk result (λ text. text ≡ words_text given lacks.now touched) }
-{
-    let missing = lacks_text(alloc, lacks)?;
-    let premises = touched_text(alloc, touched)?;
-    let mut text = Seq::from_slice(alloc, given_text(given))?;
-    text.extend_from_slice(missing.as_slice())?;
-    text.extend_from_slice(premises.as_slice())?;
     Ok(text)
 }
 
@@ -182,19 +140,20 @@ pub(crate) fn yes_line(
     alloc: Global,
     method: &MethodWords<'_>,
     given: bool,
-    lacks: &Lacks,
     touched: Touched,
 ) -> Result<Seq<u8>, AllocError>
-    ensures { IfOk result (λ line. line ≡ yes_line method.now.class.now method.now.name.now method.now.desc.now given lacks.now touched) }
+    ensures { IfOk result (λ line. line ≡ yes_line method.now.class.now method.now.name.now method.now.desc.now given touched) }
 {
-    let words = words_text(alloc, given, lacks, touched)?;
-    let names = shown_method(alloc, method.class, method.name, method.desc)?;
-    let mut line = joined(alloc, &[b"YES ", names.as_slice()])?;
+    let words = words_text(alloc, given, touched)?;
+    let mut line = joined(
+        alloc,
+        &[b"YES ", method.class, b".", method.name, method.desc],
+    )?;
     line.extend_from_slice(words.as_slice())?;
     Ok(line)
 }
 
-/// A method as `CLASS.NAMEDESC`, by its names as lines show them.
+/// A method as `CLASS.NAMEDESC`.
 pub(crate) fn method_text(alloc: Global, method: &MethodWords<'_>) -> Result<Seq<u8>, AllocError> {
-    shown_method(alloc, method.class, method.name, method.desc)
+    joined(alloc, &[method.class, b".", method.name, method.desc])
 }

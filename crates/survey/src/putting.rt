@@ -1,9 +1,8 @@
 //! Lines that are put, each as soon as it is known.
-ghost use Rattle.std.specs.Prelude.{◌≡◌, ◌≤◌, ◌∷◌, ◌++◌, [], IfOk, IfErr, OnOk, OnErr};
-ghost use Rattle.std.specs.Io.KnownBytes.{Appends};
-ghost use Rattle.survey.specs.Lines.{ended};
-ghost use Rattle.survey.specs.inner.Wording.{other_line};
-ghost use Rattle.survey.specs.inner.Putting.{IsOther, Went, Cut, Wrote};
+ghost use Rattle.std.specs.Prelude.{IfOk, OnOk, OnErr};
+ghost use Rattle.survey.specs.Claims.{Surveyed, IsTrueLine, AreTrue};
+ghost use Rattle.survey.specs.Outside.{Tells, BeginsToTell};
+ghost use Rattle.survey.specs.inner.Wording.{GrowsTrue};
 
 use crate::failure::Stop;
 use crate::lines::{Head, other_line};
@@ -12,9 +11,9 @@ use list_views::Seq;
 use std::alloc::{AllocError, Global};
 
 /// Puts a line behind a text, and a newline.
-#[tactic(auto, using(crate::proofs::Truths::line_ended))]
+#[tactic(auto, using(crate::proofs::Truths::one_more))]
 pub(crate) fn add_line(text: &mut Seq<u8>, line: &[u8]) -> Result<(), AllocError>
-    ensures { OnOk result (text.new ≡ text.old ++ ended line.now) }
+    ensures { OnOk result ((s : Surveyed) → IsTrueLine s line.now → AreTrue s text.old → AreTrue s text.new) }
 {
     text.extend_from_slice(line)?;
     text.push(b'\n')?;
@@ -22,13 +21,14 @@ pub(crate) fn add_line(text: &mut Seq<u8>, line: &[u8]) -> Result<(), AllocError
 }
 
 /// Puts a line that claims nothing behind a text.
+#[tactic(auto, using(crate::proofs::Truths::other_grows))]
 pub(crate) fn add_other(
     alloc: Global,
     text: &mut Seq<u8>,
     head: Head,
     rest: &[u8],
 ) -> Result<(), AllocError>
-    ensures { OnOk result (text.new ≡ text.old ++ ended (other_line head rest.now)) }
+    ensures { OnOk result (GrowsTrue text.old text.new) }
 {
     let line = other_line(alloc, head, rest)?;
     add_line(text, line.as_slice())?;
@@ -36,20 +36,20 @@ pub(crate) fn add_other(
 }
 
 /// The text of a line that claims nothing.
+#[tactic(auto, using(crate::proofs::Truths::grown_true))]
 fn other_text(alloc: Global, head: Head, rest: &[u8]) -> Result<Seq<u8>, AllocError>
-    ensures { IfOk result (λ text. text ≡ ended (other_line head rest.now)) }
+    ensures { IfOk result (λ text. (s : Surveyed) → AreTrue s text) }
 {
     let mut text = Seq::new(alloc);
     add_other(alloc, &mut text, head, rest)?;
     Ok(text)
 }
 
-/// Puts a text on an output.
-#[tactic(auto, using(crate::proofs::Went::wrote))]
+/// Puts a text of true lines on an output.
+#[tactic(auto, using(crate::proofs::Telling::told, crate::proofs::Telling::begun))]
 pub(crate) fn put_text<O: Sink>(out: &mut O, text: &[u8]) -> Result<(), Stop>
-    ensures put { OnOk result (Appends (O.taken out.old) (O.taken out.new) text.now) }
-    ensures wrote { IfErr result (Wrote O.taken O.faults text.now out.old out.new) }
-    ensures counts { O.faults out.old ≤ O.faults out.new }
+    ensures told { OnOk result ((s : Surveyed) → AreTrue s text.now → Tells O.taken s out.old out.new) }
+    ensures begun { OnErr result ((s : Surveyed) → AreTrue s text.now → BeginsToTell O.taken s out.old out.new) }
 {
     match out.put(text) {
         Ok(()) => Ok(()),
@@ -58,15 +58,15 @@ pub(crate) fn put_text<O: Sink>(out: &mut O, text: &[u8]) -> Result<(), Stop>
 }
 
 /// Puts a line that claims nothing on an output.
-#[tactic(auto, using(crate::proofs::Went::went_other, crate::proofs::Went::cut_other, crate::proofs::Went::no_memory))]
+#[tactic(auto, using(crate::proofs::Telling::told_other, crate::proofs::Telling::begun_other, crate::proofs::Telling::nothing_begun))]
 pub(crate) fn put_other<O: Sink>(
     alloc: Global,
     out: &mut O,
     head: Head,
     rest: &[u8],
 ) -> Result<(), Stop>
-    ensures told { OnOk result (Went O.taken O.faults IsOther (λ lines. lines ≡ other_line head rest.now ∷ []) out.old out.new) }
-    ensures begun { IfErr result (Cut O.taken O.faults IsOther out.old out.new) }
+    ensures told { OnOk result ((s : Surveyed) → Tells O.taken s out.old out.new) }
+    ensures begun { OnErr result ((s : Surveyed) → BeginsToTell O.taken s out.old out.new) }
 {
     match other_text(alloc, head, rest) {
         Ok(text) => match put_text(out, text.as_slice()) {

@@ -1,44 +1,20 @@
 //! The call behind the program: from the words of the command line to the exit status.
-ghost use Rattle.std.specs.Prelude.{◌≡◌, ◌≤◌, ◌+◌, ◌-◌, length, map, string_bytes, IfOk, IfErr};
+ghost use Rattle.std.specs.Prelude.{◌≡◌, ◌≢◌, ◌≤◌, ℕ, length, map, string_bytes, IfOk, OnErr};
 ghost use Rattle.class_base.specs.Limits.{most_classes};
-ghost use Rattle.survey.specs.Outside.{HasSurveyed, EndsSurvey};
-ghost use Rattle.survey.specs.Words.{class_words, desc_words, are_survey};
-ghost use Rattle.survey.specs.inner.Putting.{stop_status};
-ghost use Rattle.survey.specs.inner.Running.{HasRun, HasBroken};
+ghost use Rattle.survey.specs.Outside.{AreSome, HasSurveyed};
+ghost use Rattle.survey.specs.Words.{class_words, desc_words};
 
 use crate::failure::Stop;
 use crate::leaving::leave_out;
-use crate::reading::{Kept, read_descs, read_files};
-use crate::surveying::{FileCounts, survey_kept};
+use crate::reading::{read_descs, read_files};
+use crate::surveying::survey_kept;
 use crate::words::Asked;
 use io_ports::{FileFault, Files, Sink};
 use list_views::Seq;
 use std::alloc::{AllocError, Global};
 
-/// How many class files are refused, where so many of the named ones are kept.
-fn refused_of(asked: &Asked<'_>, kept: &Kept<'_>) -> usize
-    requires { length kept.now.files.items ≤ length asked.now.classes.now }
-    ensures { result ≡ length asked.now.classes.now - length kept.now.files.items }
-{
-    asked.classes.len() - kept.files.len()
-}
-
-/// How many class files there are of each sort, where so many of the named ones are refused.
-fn counts_of(asked: &Asked<'_>, kept: &Kept<'_>, refused: usize) -> FileCounts
-    requires { refused + length kept.now.files.items ≤ length asked.now.classes.now }
-    ensures files { result.files ≡ length kept.now.files.items }
-    ensures left_out { result.left_out ≡ (length asked.now.classes.now - refused) - length kept.now.files.items }
-    ensures refused { result.refused ≡ refused }
-{
-    FileCounts {
-        files: kept.files.len(),
-        left_out: asked.classes.len() - refused - kept.files.len(),
-        refused,
-    }
-}
-
 /// Puts the lines of a survey of class files whose descriptions are read.
-#[tactic(auto, using(crate::proofs::Leavings::spelled_slice))]
+#[tactic(auto, using(crate::proofs::Ending::ends, crate::proofs::Ending::breaks, crate::proofs::Ending::ends_early))]
 fn survey_described<F: Files, O: Sink>(
     alloc: Global,
     asked: &Asked<'_>,
@@ -47,32 +23,19 @@ fn survey_described<F: Files, O: Sink>(
     out: &mut O,
 ) -> Result<u8, Stop>
     requires few { length asked.now.classes.now ≤ most_classes }
-    requires few_descs { length asked.now.descs.items ≤ most_classes }
-    requires same { length asked.now.descs.items ≡ length descs.now }
-    ensures told { IfOk result (λ status. HasRun (record { held = F.held; handed = F.handed; faults = F.faults }) O.taken
-        O.faults (map string_bytes asked.now.classes.now)
-        (map (λ name. name.now) asked.now.descs.items) (map (λ desc. desc.items) descs.now) files.old files.new out.old out.new status) }
-    ensures begun { IfErr result (λ stop. HasBroken (record { held = F.held; handed = F.handed; faults = F.faults }) O.taken
-        O.faults (map string_bytes asked.now.classes.now)
-        (map (λ desc. desc.items) descs.now) files.old files.new out.old out.new stop) }
-    ensures held { F.held files.new ≡ F.held files.old }
-    ensures counts { F.faults files.old ≤ F.faults files.new }
+    requires descs { AreSome (F.held files.old) (map (λ name. name.now) asked.now.descs.items) (map (λ desc. desc.items) descs.now) }
+    ensures told { IfOk result (λ status. HasSurveyed (F.held files.old) O.taken (map string_bytes asked.now.classes.now)
+        (map (λ name. name.now) asked.now.descs.items) out.old out.new status) }
+    ensures begun { OnErr result ((status : ℕ) → status ≢ 0
+        → HasSurveyed (F.held files.old) O.taken (map string_bytes asked.now.classes.now)
+        (map (λ name. name.now) asked.now.descs.items) out.old out.new status) }
 {
     let mut kept = match read_files(alloc, asked.classes, files, out) {
         Ok(kept) => kept,
         Err(stop) => return Err(stop),
     };
-    let refused = refused_of(asked, &kept);
-    match leave_out(alloc, &mut kept, out) {
-        Ok(()) => match survey_kept(
-            alloc,
-            asked.descs.as_slice(),
-            descs,
-            kept.files.as_slice(),
-            counts_of(asked, &kept, refused),
-            asked.why,
-            out,
-        ) {
+    match leave_out(alloc, asked.classes, &mut kept, out) {
+        Ok(()) => match survey_kept(alloc, asked, descs, &kept, out) {
             Ok(status) => Ok(status),
             Err(stop) => Err(stop),
         },
@@ -81,6 +44,7 @@ fn survey_described<F: Files, O: Sink>(
 }
 
 /// Puts the lines of a survey.
+#[tactic(auto, using(crate::proofs::Ending::never_begun))]
 fn survey_asked<F: Files, O: Sink>(
     alloc: Global,
     asked: &Asked<'_>,
@@ -88,13 +52,11 @@ fn survey_asked<F: Files, O: Sink>(
     out: &mut O,
 ) -> Result<u8, Stop>
     requires few { length asked.now.classes.now ≤ most_classes }
-    requires few_descs { length asked.now.descs.items ≤ most_classes }
-    ensures told { IfOk result (λ status. HasSurveyed (record { held = F.held; handed = F.handed; faults = F.faults }) O.taken
-        O.faults (map string_bytes asked.now.classes.now)
-        (map (λ name. name.now) asked.now.descs.items) files.old files.new out.old out.new status) }
-    ensures begun { IfErr result (λ stop. HasSurveyed (record { held = F.held; handed = F.handed; faults = F.faults }) O.taken
-        O.faults (map string_bytes asked.now.classes.now)
-        (map (λ name. name.now) asked.now.descs.items) files.old files.new out.old out.new (stop_status stop)) }
+    ensures told { IfOk result (λ status. HasSurveyed (F.held files.old) O.taken (map string_bytes asked.now.classes.now)
+        (map (λ name. name.now) asked.now.descs.items) out.old out.new status) }
+    ensures begun { OnErr result ((status : ℕ) → status ≢ 0
+        → HasSurveyed (F.held files.old) O.taken (map string_bytes asked.now.classes.now)
+        (map (λ name. name.now) asked.now.descs.items) out.old out.new status) }
 {
     match read_descs(alloc, asked.descs.as_slice(), files) {
         Ok(descs) => match survey_described(alloc, asked, descs.as_slice(), files, out) {
@@ -152,7 +114,7 @@ fn report<E: Sink>(alloc: Global, asked: &Asked<'_>, stop: Stop, err: &mut E) {
 /// The status of a survey, and why it has ended before its end.
 fn ended<E: Sink>(alloc: Global, asked: &Asked<'_>, ended: Result<u8, Stop>, err: &mut E) -> u8
     ensures done { IfOk ended (λ status. result ≡ status) }
-    ensures stopped { IfErr ended (λ stop. result ≡ stop_status stop) }
+    ensures stopped { OnErr ended (result ≢ 0) }
 {
     match ended {
         Ok(status) => status,
@@ -176,17 +138,15 @@ fn without<E: Sink>(line: &[u8], status: u8, err: &mut E) -> u8
 ///
 /// - `REFUSED FILE class: FAULT` and `REFUSED FILE read: CAUSE` for a file that spells no class or wasn't read;
 /// - `LEFT OUT FILE link: FAULT` for a class that can't be linked with the others, which are surveyed without it;
-/// - `REFUSED FILE description: FAULT` for a description that names no method that is surveyed, or one that a description before it
-///   names (`SecondDescription`);
+/// - `REFUSED FILE description: FAULT` for a description that names no method that is surveyed;
 /// - for each method with code, in the order of the words and of the class's file, `YES METHOD`, `MAYBE REASON METHOD
 ///   PLACES` or `REFUSED METHOD FAULT`;
 /// - a line of counts.
 ///
 /// A method is proved under the first description that names it, then `described` stands behind it, else under its
-/// template. Behind a YES stands `no-input` where some input of it can't be given with these classes, so that no state begins it;
-/// `no-class=C` for the first type that its program names and that no object of these classes is of; and a word for each premise that
-/// its program touches: `handles-errors`, `compares-exceptions`, `constant-value`. With `--why` lines of advice follow, which begin with
-/// blanks. To `err` it puts a line where it ends before the counts. The exit status is
+/// template. Behind a YES stands a word for each premise that its program touches: `handles-errors`,
+/// `compares-exceptions`, `constant-value`. With `--why` lines of advice follow, which begin with blanks. To `err` it
+/// puts a line where it ends before the counts. The exit status is
 ///
 /// - 0: each method with code of each named class file is proved;
 /// - 1: some aren't, or a class file is left out;
@@ -195,7 +155,7 @@ fn without<E: Sink>(line: &[u8], status: u8, err: &mut E) -> u8
 /// - 5: a description was not read;
 /// - 6: writing to `out` failed;
 /// - 7: want of memory.
-#[tactic(auto, using(crate::proofs::Ending::asked_so, crate::proofs::Ending::no_survey, crate::proofs::Ending::no_words))]
+#[tactic(auto, using(crate::proofs::Ending::never_begun))]
 pub fn survey<F: Files, O: Sink, E: Sink>(
     alloc: Global,
     words: &[String],
@@ -203,11 +163,9 @@ pub fn survey<F: Files, O: Sink, E: Sink>(
     out: &mut O,
     err: &mut E,
 ) -> u8
-    // Each line that begins with YES is true of what is surveyed, which is what the files handed over. Each class file that isn't
-    // surveyed has one line, before all others, and so has each description that is of no use. What the status says is so.
-    ensures headline { EndsSurvey (record { held = F.held; handed = F.handed; faults = F.faults }) O.taken O.faults
-        (are_survey (map string_bytes words.now))
-        (class_words (map string_bytes words.now)) (desc_words (map string_bytes words.now)) files.old files.new out.old out.new result }
+    // Each line that begins with YES is true of the class files that are surveyed. Status 0 says that each method with code is proved.
+    ensures headline { HasSurveyed (F.held files.old) O.taken (class_words (map string_bytes words.now))
+        (desc_words (map string_bytes words.now)) out.old out.new result }
 {
     match Asked::from_words(alloc, words) {
         Ok(Some(asked)) => {

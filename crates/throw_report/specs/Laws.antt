@@ -1,12 +1,9 @@
 -- What reports promise of runs.
-use Rattle.std.specs.Prelude.{◌≡◌, ℕ, Bool, List, [], ◌∷◌, map, Some, slice_get}
-use Rattle.list_views.specs.Lists.{Has}
+use Rattle.std.specs.Prelude.{◌≡◌, ℕ, List, [], ◌∷◌, Some, slice_get}
 use Rattle.jvm_values.specs.States.{MachineState}
 use Rattle.abs_cells.specs.declared.cells.Cell.TheVariants.{Obj}
 use Rattle.abs_cells.specs.AbstractStates.{AbstractState}
 use Rattle.abs_cells.specs.Cells.{cell_at}
-use Rattle.class_world.specs.World.{World}
-use Rattle.class_program.specs.Methods.{class_name}
 use Rattle.class_program.specs.Programs.{Program, IsClosed}
 use Rattle.class_program.specs.Widths.{HasWidths}
 use Rattle.frame_types.specs.Tables.{CodeTypes}
@@ -23,7 +20,6 @@ use Rattle.cert_check.specs.graph_check.Good.{GraphOk}
 use Rattle.cert_check.specs.Certified.{IsCertified}
 use Rattle.cert_check.specs.Walks.{Station, IsAt, GoesTo}
 use Rattle.throw_report.specs.declared.ways.Report.{Report}
-use Rattle.throw_report.specs.Lines.{report_text}
 use Rattle.throw_report.specs.Reports.{IsReport}
 use Rattle.throw_report.specs.Endings.{EndsAsReported}
 
@@ -82,24 +78,3 @@ CertifiedRunsEndAsReported =
     → IsClosed p → HasWidths p → IsTypingOf p typing → IsOwnDesc p desc
     → IsCertified p typing nodes cuts (initial_of p desc) → IsReport nodes report
     → (state : MachineState) → FitsDescription p desc state → EndsAsReported p report state
-
--- ---- lines
-
--- what the lines of a report say: whether runs return, and the names of the classes of which they throw objects, in the report's order
-abbrev pub said_report : World → Report → Bool × List (List ℕ)
-said_report world report = (report.returns, map (class_name world) report.throws)
-
--- the lines of reports are read back: whatever names the classes of two worlds have, reports with the same lines say the same
-abbrev pub LinesAreReadBack : Type 0
-LinesAreReadBack =
-    (world other : World) (a b : Report) → report_text world a ≡ report_text other b → said_report world a ≡ said_report other b
-
--- classes of one list of numbers and of another one have different names, unless they are the same class; that numbers of a report's
--- classes do, in a linked world, isn't proved
-abbrev pub NameApart : World → List ℕ → List ℕ → Type 0
-NameApart world ms ns = (m n : ℕ) → Has ms m → Has ns n → class_name world m ≡ class_name world n → m ≡ n
-
--- two reports of one world with the same lines are the same report, where classes have different names
-abbrev pub LinesAreOfOneReport : Type 0
-LinesAreOfOneReport =
-    (world : World) (a b : Report) → NameApart world a.throws b.throws → report_text world a ≡ report_text world b → a ≡ b

@@ -1,9 +1,7 @@
--- A report in words. A class's name can hold any bytes, so it stands as lines show names, without blanks and newlines: no name makes a line
--- of its own, and the lines are read back.
+-- A report in words.
 use Rattle.std.specs.Prelude.{ℕ, Bool, if◌then◌else◌, List, [], ◌∷◌, ◌++◌, codes}
 use Rattle.std.specs.List.{flat_map}
 use Rattle.list_views.specs.FaultWords.{joined}
-use Rattle.list_views.specs.Shown.{shown}
 use Rattle.class_world.specs.World.{World}
 use Rattle.class_program.specs.Methods.{class_name}
 use Rattle.throw_report.specs.declared.ways.Report.{Report}
@@ -14,7 +12,7 @@ returns_line returns = if returns then codes "RETURNS\n" else []
 
 -- the line which says that runs can throw an object of a class
 abbrev pub throws_line : World → ℕ → List ℕ
-throws_line world class = joined (codes "THROWS " ∷ shown (class_name world class) ∷ codes "\n" ∷ [])
+throws_line world class = joined (codes "THROWS " ∷ class_name world class ∷ codes "\n" ∷ [])
 
 -- a report in words: a line for returns, and one for each class of which runs can throw an object
 abbrev pub report_text : World → Report → List ℕ

@@ -1,6 +1,5 @@
 //! What reports promise of runs. The laws are calls that do nothing when they run.
 ghost use Rattle.throw_report.specs.Laws.{CertifiedRunsEndAsReported, EndNodesThrowObjects, ReportsAreOne, WalksEndAsReported};
-ghost use Rattle.throw_report.specs.Laws.{LinesAreOfOneReport, LinesAreReadBack};
 
 use cert_check::graph_check::graphs_hold_runs;
 use input_root::{fitting_states_are_described, fitting_states_are_typed};
@@ -10,17 +9,6 @@ use path_rules::walks_meet_rules;
 /// A graph has one report.
 pub fn reports_are_one()
     ensures { ReportsAreOne }
-{}
-
-/// The lines of a report are read back, whatever bytes the names of classes hold: reports with the same lines have the same returns
-/// and name the same classes.
-pub fn lines_are_read_back()
-    ensures { LinesAreReadBack }
-{}
-
-/// Two reports of one world with the same lines are the same, where classes have different names.
-pub fn lines_are_of_one_report()
-    ensures { LinesAreOfOneReport }
 {}
 
 /// In a good graph the thrown id of an `End` node in throwing mode has an `Obj`.

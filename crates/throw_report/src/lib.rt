@@ -11,8 +11,7 @@ mod ways;
 
 pub use checking::checked_report;
 pub use laws::{
-    certified_runs_end_as_reported, end_nodes_throw_objects, lines_are_of_one_report,
-    lines_are_read_back, reports_are_one, walks_end_as_reported,
+    certified_runs_end_as_reported, end_nodes_throw_objects, reports_are_one, walks_end_as_reported,
 };
 pub use lines::report_text;
 pub use reporting::report;

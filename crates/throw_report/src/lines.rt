@@ -10,7 +10,6 @@ use class_world::World;
 use jvm_values::Types;
 use list_views::Seq;
 use list_views::fault_words::joined;
-use list_views::shown::shown;
 use std::alloc::{AllocError, Global};
 
 /// The name of the class of a number.
@@ -28,8 +27,7 @@ fn class_name<'a>(world: &World<'a>, class: u32) -> &'a [u8]
 fn throws_line(alloc: Global, world: &World<'_>, class: u32) -> Result<Seq<u8>, AllocError>
     ensures { IfOk result (λ line. line ≡ throws_line (classes_of world.now) class) }
 {
-    let name = shown(alloc, class_name(world, class))?;
-    joined(alloc, &[b"THROWS ", name.as_slice(), b"\n"])
+    joined(alloc, &[b"THROWS ", class_name(world, class), b"\n"])
 }
 
 /// Adds the lines of classes.
@@ -60,7 +58,7 @@ fn returns_line(alloc: Global, returns: bool) -> Result<Seq<u8>, AllocError>
 }
 
 /// A report in words: the line `RETURNS` where a run can return, and then a line `THROWS C` for each class of which an object can
-/// be thrown, by the classes' numbers. In names blanks, control characters and backslashes stand as codes (`list_views::shown`).
+/// be thrown, by the classes' numbers.
 ///
 /// # Errors
 ///

@@ -1,30 +1,67 @@
-//! Puts a certificate once more on the output, each node with its state, so that it can be looked at; or the text of a bound beside it; or
-//! a certificate that no run of a method ends.
+//! Puts a certificate once more on the output, each node with its state, so that it can be looked at; or the text of a bound beside it; or a
+//! certificate that no run of a method ends.
 //!
 //! The words are `fill` or `bound`, the name of a file with a certificate, that of one with a description, and those of 1 to 256 class
 //! files; or `loop` and the same without a certificate.
-ghost use Rattle.std.specs.Prelude.{◌≤◌, ◌+◌, ◌^◌, length, map, string_bytes, IfOk, IfSome};
+ghost use Rattle.std.specs.Prelude.{◌+◌, ◌≤◌, ◌^◌, length, IfOk};
 ghost use Rattle.class_base.specs.Limits.{most_classes};
-ghost use Rattle.tools_cli.specs.Certifying.{IsFilled, IsOutcomeOf, EndsCertifying};
-ghost use Rattle.tools_cli.specs.inner.Outputs.{IsCertified};
 
-use crate::failures::{Cause, Failure, put_out, told};
-use crate::reading::{Tool, push_words, read_names};
+use crate::failures::{Failure, told};
 use cert_form::MOST_CERTIFICATE_BYTES;
 use cert_making::bound_search::{Found, bound_for};
 use cert_making::loop_search::loop_line;
 use check_call::{Outcome, check_line, fill_line};
 use class_base::{MOST_CLASSES, MOST_FILE_BYTES};
 use input_steps::{Refused, refusal_text};
-use io_ports::{Files, Sink};
+use io_ports::{FileFault, Files, Sink};
 use list_views::Seq;
+use list_views::fault_words::joined;
 use std::alloc::{AllocError, Global};
 
-/// Why a command has no outcome.
-fn failed(alloc: Global, refused: &Refused) -> Failure {
-    match refused {
-        Refused::At { place, fault } => told(Cause::Refused, refusal_text(alloc, *place, fault)),
-        Refused::Memory => Failure::Memory,
+/// The line for a file that wasn't read.
+fn unread_line(alloc: Global, name: &[u8], cause: &[u8]) -> Result<Seq<u8>, AllocError> {
+    joined(alloc, &[b"certs: read ", name, b": ", cause, b"\n"])
+}
+
+/// The content of the file of a name.
+fn content<F: Files>(
+    alloc: Global,
+    files: &mut F,
+    name: &str,
+    limit: usize,
+) -> Result<Vec<u8>, Failure>
+    requires { limit ≤ 2 ^ 31 }
+{
+    match files.read(alloc, name, limit) {
+        Ok(content) => Ok(content),
+        Err(FileFault::Memory) => Err(Failure::Memory),
+        Err(fault) => Err(told(5, unread_line(alloc, name.as_bytes(), fault.name()))),
+    }
+}
+
+/// The contents of the class files, which the words from a place on name.
+fn class_files<F: Files>(
+    alloc: Global,
+    files: &mut F,
+    words: &[String],
+    first: usize,
+) -> Result<Vec<Vec<u8>>, Failure>
+    requires { length words.now ≤ most_classes + first }
+    ensures { IfOk result (λ contents. length contents.items ≤ most_classes) }
+{
+    let mut contents = Vec::new(alloc);
+    for n in first..words.len() {
+        contents.push(content(alloc, files, words[n].as_str(), MOST_FILE_BYTES)?)?;
+    }
+    Ok(contents)
+}
+
+/// The outcome of a command, or why there is none.
+fn told_of(alloc: Global, outcome: Result<Outcome, Refused>) -> Result<Outcome, Failure> {
+    match outcome {
+        Ok(outcome) => Ok(outcome),
+        Err(Refused::At { place, fault }) => Err(told(3, refusal_text(alloc, place, &fault))),
+        Err(Refused::Memory) => Err(Failure::Memory),
     }
 }
 
@@ -56,145 +93,69 @@ fn bound_line(
 fn usage(alloc: Global) -> Failure {
     let lines =
         b"certs: usage\nfill CERT DESC CLASS..\nbound CERT DESC CLASS..\nloop DESC CLASS..\n";
-    told(Cause::Usage, Seq::from_slice(alloc, lines))
+    told(4, Seq::from_slice(alloc, lines))
 }
 
-/// How many files the words of a command name before the class files; none where it is no command.
-fn files_before(command: &[u8]) -> Option<usize> {
-    if command == b"fill".as_slice() || command == b"bound".as_slice() {
-        Some(2)
-    } else if command == b"loop".as_slice() {
-        Some(1)
-    } else {
-        None
-    }
-}
-
-/// The most bytes of the first file: a certificate or a description.
-fn first_limit(before: usize) -> usize
-    ensures { result ≤ 2 ^ 31 }
-{
-    if before == 2 {
-        MOST_CERTIFICATE_BYTES
-    } else {
-        MOST_FILE_BYTES
-    }
-}
-
-/// The outcome of `fill` for the contents of a certificate, of a description and of class files.
-#[tactic(auto, using(crate::proofs::Taking::is_filled))]
-fn filled(alloc: Global, contents: &[Vec<u8>]) -> Result<Outcome, Refused>
-    requires there { 2 ≤ length contents.now }
-    requires few { length contents.now ≤ most_classes + 2 }
-    ensures { IfOk result (IsFilled (map (λ content. content.items) contents.now)) }
-{
-    let (cert, desc) = (contents[0].as_slice(), contents[1].as_slice());
-    match fill_line(alloc, cert, desc, &contents[2..]) {
-        Ok(outcome) => Ok(outcome),
-        Err(refused) => Err(refused),
-    }
-}
-
-/// What a command makes of the contents of its files; none where these are too few or too many, or it is no command.
-#[tactic(auto, using(crate::proofs::Taking::fills, crate::proofs::Taking::finds))]
-fn outcome_of(
-    alloc: Global,
-    command: &[u8],
-    contents: &[Vec<u8>],
-) -> Option<Result<Outcome, Refused>>
-    ensures { IfSome result
-        (λ made. IfOk made (λ outcome. IsOutcomeOf command.now (map (λ content. content.items) contents.now) outcome)) }
-{
-    if command == b"fill".as_slice() {
-        if contents.len() < 3 || contents.len() > MOST_CLASSES + 2 {
-            return None;
-        }
-        return Some(filled(alloc, contents));
-    }
-    if command == b"bound".as_slice() {
-        if contents.len() < 3 || contents.len() > MOST_CLASSES + 2 {
-            return None;
-        }
-        return Some(bound_line(
-            alloc,
-            contents[0].as_slice(),
-            contents[1].as_slice(),
-            &contents[2..],
-        ));
-    }
-    if command == b"loop".as_slice() {
-        if contents.len() < 2 || contents.len() > MOST_CLASSES + 1 {
-            return None;
-        }
-        return Some(loop_line(alloc, contents[0].as_slice(), &contents[1..]));
-    }
-    None
-}
-
-/// What is put for a command and the words behind it.
-#[tactic(auto, using(crate::proofs::Taking::is_certified))]
-fn commanded<F: Files>(
+/// What is put for `fill`, or else for `bound`.
+fn of_cert<F: Files>(
     alloc: Global,
     files: &mut F,
-    command: &[u8],
     words: &[String],
-) -> Result<Outcome, Failure>
-    ensures { IfOk result (λ outcome. IsCertified (record { held = F.held; handed = F.handed; faults = F.faults }) command.now
-        (map string_bytes words.now) files.old files.new outcome) }
-{
-    let Some(before) = files_before(command) else {
-        return Err(usage(alloc));
-    };
-    if words.len() <= before || words.len() > MOST_CLASSES + before {
+    is_fill: bool,
+) -> Result<Outcome, Failure> {
+    if words.len() < 4 || words.len() > MOST_CLASSES + 3 {
         return Err(usage(alloc));
     }
-    let mut names = Vec::new(alloc);
-    match push_words(&mut names, words) {
-        Ok(()) => {}
-        Err(AllocError) => return Err(Failure::Memory),
+    let cert = content(alloc, files, words[1].as_str(), MOST_CERTIFICATE_BYTES)?;
+    let desc = content(alloc, files, words[2].as_str(), MOST_FILE_BYTES)?;
+    let classes = class_files(alloc, files, words, 3)?;
+    let (cert, desc, classes) = (cert.as_slice(), desc.as_slice(), classes.as_slice());
+    if is_fill {
+        told_of(alloc, fill_line(alloc, cert, desc, classes))
+    } else {
+        told_of(alloc, bound_line(alloc, cert, desc, classes))
     }
-    let contents = match read_names(
-        alloc,
-        Tool::Certs,
-        names.as_slice(),
-        first_limit(before),
-        files,
-    ) {
-        Ok(contents) => contents,
-        Err(failure) => return Err(failure),
-    };
-    match outcome_of(alloc, command, contents.as_slice()) {
-        Some(Ok(outcome)) => Ok(outcome),
-        Some(Err(refused)) => Err(failed(alloc, &refused)),
-        None => Err(usage(alloc)),
+}
+
+/// What is put for `loop`.
+fn looped<F: Files>(alloc: Global, files: &mut F, words: &[String]) -> Result<Outcome, Failure> {
+    if words.len() < 3 || words.len() > MOST_CLASSES + 2 {
+        return Err(usage(alloc));
+    }
+    let desc = content(alloc, files, words[1].as_str(), MOST_FILE_BYTES)?;
+    let classes = class_files(alloc, files, words, 2)?;
+    told_of(alloc, loop_line(alloc, desc.as_slice(), classes.as_slice()))
+}
+
+/// What is put for the words.
+fn outcome<F: Files>(alloc: Global, files: &mut F, words: &[String]) -> Result<Outcome, Failure> {
+    if words.is_empty() {
+        return Err(usage(alloc));
+    }
+    match words[0].as_str() {
+        "fill" => of_cert(alloc, files, words, true),
+        "bound" => of_cert(alloc, files, words, false),
+        "loop" => looped(alloc, files, words),
+        _ => Err(usage(alloc)),
     }
 }
 
 /// Puts the outcome of a command, or why there is none; the status.
-#[tactic(auto, using(crate::proofs::Taking::certified, crate::proofs::Taking::none_put))]
 pub fn run<F: Files, O: Sink, E: Sink>(
     alloc: Global,
     words: &[String],
     files: &mut F,
     out: &mut O,
     err: &mut E,
-) -> u8
-    // What is put is for the files that the words name.
-    ensures { EndsCertifying (record { held = F.held; handed = F.handed; faults = F.faults }) O.taken O.faults
-        (map string_bytes words.now)
-        files.old files.new out.old out.new result }
-{
-    let Some((command, words)) = words.split_first() else {
-        return usage(alloc).end(err, b"certs: memory\n");
-    };
-    match commanded(alloc, files, command.as_bytes(), words) {
-        Ok(outcome) => {
-            let status = put_out(out, outcome.out.as_slice(), outcome.status);
-            if status == 6 {
+) -> u8 {
+    match outcome(alloc, files, words) {
+        Ok(Outcome { status, out: text }) => match out.put(text.as_slice()) {
+            Ok(()) => status,
+            Err(_) => {
                 let _ = err.put(b"certs: write: Failed\n");
+                6
             }
-            status
-        }
+        },
         Err(failure) => failure.end(err, b"certs: memory\n"),
     }
 }

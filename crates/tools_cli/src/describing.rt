@@ -2,17 +2,13 @@
 //!
 //! The words are the name of a class file; behind it may stand the name of a method, or its name and descriptor in one word; behind
 //! that may stand the names of the other class files of the program.
-ghost use Rattle.std.specs.Prelude.{◌≡◌, ◌≤◌, length, map, string_bytes, IfOk};
-ghost use Rattle.tools_cli.specs.Reading.{behind_first};
+ghost use Rattle.std.specs.Prelude.{◌+◌, ◌<◌, ◌≤◌, length, IfOk};
 ghost use Rattle.class_base.specs.Limits.{most_classes};
-ghost use Rattle.tools_cli.specs.Describing.{file_words, IsDescription, EndsDescribing};
-ghost use Rattle.tools_cli.specs.inner.Outputs.{IsOutput};
 
-use crate::failures::{Cause, Failure, put_out, told};
-use crate::reading::{Tool, push_words, read_names};
+use crate::failures::{Failure, told};
 use class_base::{MOST_CLASSES, MOST_FILE_BYTES};
 use class_calls::describe::{DescribeFault, methods_of, template_of};
-use io_ports::{Files, Sink};
+use io_ports::{FileFault, Files, Sink};
 use list_views::Seq;
 use list_views::fault_words::joined;
 use std::alloc::{AllocError, Global};
@@ -20,28 +16,42 @@ use std::alloc::{AllocError, Global};
 /// The most words: the class files and a method.
 const MOST_WORDS: usize = MOST_CLASSES + 1;
 
-/// The words behind the first.
-fn behind_first(words: &[String]) -> &[String]
-    ensures { map string_bytes result.now ≡ behind_first (map string_bytes words.now) }
-{
-    match words.split_first() {
-        Some((_, rest)) => rest,
-        None => words,
+/// The line for the class file of this number, which wasn't read.
+fn unread_line(alloc: Global, n: usize, cause: &[u8]) -> Result<Seq<u8>, AllocError> {
+    let place = format!(in alloc; "describe: class {n}: ")?;
+    joined(alloc, &[place.as_bytes(), cause, b"\n"])
+}
+
+/// The content of the class file of this number and name.
+fn content<F: Files>(
+    alloc: Global,
+    files: &mut F,
+    n: usize,
+    name: &str,
+) -> Result<Vec<u8>, Failure> {
+    match files.read(alloc, name, MOST_FILE_BYTES) {
+        Ok(content) => Ok(content),
+        Err(FileFault::Memory) => Err(Failure::Memory),
+        Err(fault) => Err(told(5, unread_line(alloc, n, fault.name()))),
     }
 }
 
-/// The names of the class files: the first word, and those behind the second.
-#[tactic(auto, using(crate::proofs::Taking::files_named))]
-fn file_names(alloc: Global, words: &[String]) -> Result<Vec<&str>, AllocError>
-    ensures { IfOk result (λ names. map (λ name. name.now) names.items ≡ file_words (map string_bytes words.now)) }
+/// The contents of the class files that the words name: the first word, and those behind the second.
+fn contents<F: Files>(
+    alloc: Global,
+    files: &mut F,
+    words: &[String],
+) -> Result<Vec<Vec<u8>>, Failure>
+    requires there { 0 < length words.now }
+    requires few { length words.now ≤ most_classes + 1 }
+    ensures { IfOk result (λ contents. length contents.items ≤ most_classes) }
 {
-    let mut names = Vec::new(alloc);
-    let Some((class, behind)) = words.split_first() else {
-        return Ok(names);
-    };
-    names.push(class.as_str())?;
-    push_words(&mut names, behind_first(behind))?;
-    Ok(names)
+    let mut contents = Vec::new(alloc);
+    contents.push(content(alloc, files, 0, words[0].as_str())?)?;
+    for n in 2..words.len() {
+        contents.push(content(alloc, files, n - 1, words[n].as_str())?)?;
+    }
+    Ok(contents)
 }
 
 /// The line for input that has a fault.
@@ -50,88 +60,49 @@ fn refused_line(alloc: Global, fault: &DescribeFault) -> Result<Seq<u8>, AllocEr
     joined(alloc, &[b"describe: ", text.as_slice(), b"\n"])
 }
 
-/// Why a call has no output.
-fn failed(alloc: Global, fault: &DescribeFault) -> Failure {
-    match fault {
-        DescribeFault::Memory => Failure::Memory,
-        fault => told(Cause::Refused, refused_line(alloc, fault)),
+/// The output of a call, or why there is none.
+fn told_of(alloc: Global, output: Result<Vec<u8>, DescribeFault>) -> Result<Vec<u8>, Failure> {
+    match output {
+        Ok(output) => Ok(output),
+        Err(DescribeFault::Memory) => Err(Failure::Memory),
+        Err(fault) => Err(told(3, refused_line(alloc, &fault))),
     }
 }
 
 /// What is put for words that are none of the program.
 fn usage(alloc: Global) -> Failure {
     let lines = b"describe: usage\nCLASS [METHOD [CLASS..]]\n";
-    told(Cause::Usage, Seq::from_slice(alloc, lines))
-}
-
-/// What is printed for the words and the contents of the files that they name.
-#[tactic(auto, using(crate::proofs::Taking::lists, crate::proofs::Taking::templates))]
-fn printed(alloc: Global, words: &[String], contents: &[Vec<u8>]) -> Result<Vec<u8>, DescribeFault>
-    requires { length contents.now ≤ most_classes }
-    ensures { IfOk result (λ text. IsDescription (map string_bytes words.now) (map (λ content. content.items) contents.now) text.items) }
-{
-    let Some((_class, behind)) = words.split_first() else {
-        return Err(DescribeFault::NoMethod);
-    };
-    match behind.split_first() {
-        Some((method, _)) => match template_of(alloc, contents, method.as_bytes()) {
-            Ok(text) => Ok(text),
-            Err(fault) => Err(fault),
-        },
-        None => match methods_of(alloc, contents) {
-            Ok(lines) => Ok(lines),
-            Err(fault) => Err(fault),
-        },
-    }
+    told(4, Seq::from_slice(alloc, lines))
 }
 
 /// What is printed for the words.
-#[tactic(auto, using(crate::proofs::Taking::is_output, crate::proofs::Taking::few_names))]
-fn output<F: Files>(alloc: Global, files: &mut F, words: &[String]) -> Result<Vec<u8>, Failure>
-    ensures { IfOk result (λ text. IsOutput (record { held = F.held; handed = F.handed; faults = F.faults }) (map string_bytes words.now)
-        files.old files.new text.items) }
-{
+fn output<F: Files>(alloc: Global, files: &mut F, words: &[String]) -> Result<Vec<u8>, Failure> {
     if words.is_empty() || words.len() > MOST_WORDS {
         return Err(usage(alloc));
     }
-    let names = match file_names(alloc, words) {
-        Ok(names) => names,
-        Err(AllocError) => return Err(Failure::Memory),
-    };
-    if names.len() > MOST_CLASSES {
-        return Err(usage(alloc));
-    }
-    let contents = match read_names(
-        alloc,
-        Tool::Describe,
-        names.as_slice(),
-        MOST_FILE_BYTES,
-        files,
-    ) {
-        Ok(contents) => contents,
-        Err(failure) => return Err(failure),
-    };
-    match printed(alloc, words, contents.as_slice()) {
-        Ok(text) => Ok(text),
-        Err(fault) => Err(failed(alloc, &fault)),
+    let contents = contents(alloc, files, words)?;
+    match words.get(1) {
+        Some(method) => told_of(
+            alloc,
+            template_of(alloc, contents.as_slice(), method.as_bytes()),
+        ),
+        None => told_of(alloc, methods_of(alloc, contents.as_slice())),
     }
 }
 
 /// Puts the output, or why there is none; the status.
-#[tactic(auto, using(crate::proofs::Taking::described, crate::proofs::Taking::none_put))]
 pub fn run<F: Files, O: Sink, E: Sink>(
     alloc: Global,
     words: &[String],
     files: &mut F,
     out: &mut O,
     err: &mut E,
-) -> u8
-    // What is put is for the files and the method that the words name.
-    ensures { EndsDescribing (record { held = F.held; handed = F.handed; faults = F.faults }) O.taken O.faults (map string_bytes words.now)
-        files.old files.new out.old out.new result }
-{
+) -> u8 {
     match output(alloc, files, words) {
-        Ok(bytes) => put_out(out, bytes.as_slice(), 0),
+        Ok(bytes) => match out.put(bytes.as_slice()) {
+            Ok(()) => 0,
+            Err(_) => 6,
+        },
         Err(failure) => failure.end(err, b"describe: memory\n"),
     }
 }

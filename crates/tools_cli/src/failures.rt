@@ -1,27 +1,13 @@
 //! Why a tool has no output.
-ghost use Rattle.std.specs.Prelude.{◌≡◌, ◌⊎◌};
-ghost use Rattle.tools_cli.specs.Reading.{IsPut, IsWithout};
-
 use io_ports::Sink;
 use list_views::Seq;
 use std::alloc::{AllocError, AllocFailed};
 
-/// Why lines are put in the place of an output.
-#[derive(Clone, Copy)]
-pub enum Cause {
-    /// The input is refused.
-    Refused,
-    /// The words are none of the tool.
-    Usage,
-    /// A file was not read.
-    Unread,
-}
-
 /// Why a tool has no output.
 #[derive(Drop)]
 pub enum Failure {
-    /// These lines say why.
-    Told(Cause, Seq<u8>),
+    /// The tool ends with this status, and these lines say why.
+    Told(u8, Seq<u8>),
     /// Want of memory.
     Memory,
 }
@@ -38,26 +24,13 @@ impl<T: Drop> From<AllocFailed<T>> for Failure {
     }
 }
 
-/// The status of a tool without an output.
-fn status_of(cause: Cause) -> u8
-    ensures { IsWithout result }
-{
-    match cause {
-        Cause::Refused => 3,
-        Cause::Usage => 4,
-        Cause::Unread => 5,
-    }
-}
-
 impl Failure {
     /// Puts the lines that say why, or that of want of memory; the status.
-    pub fn end<E: Sink>(self, err: &mut E, memory: &[u8]) -> u8
-        ensures { IsWithout result }
-    {
+    pub fn end<E: Sink>(self, err: &mut E, memory: &[u8]) -> u8 {
         match self {
-            Failure::Told(cause, lines) => {
+            Failure::Told(status, lines) => {
                 let _ = err.put(lines.as_slice());
-                status_of(cause)
+                status
             }
             Failure::Memory => {
                 let _ = err.put(memory);
@@ -67,20 +40,10 @@ impl Failure {
     }
 }
 
-/// The tool ends for a cause, and lines, if there is memory for them, say why.
-pub fn told(cause: Cause, lines: Result<Seq<u8>, AllocError>) -> Failure {
+/// The tool ends with a status, and lines, if there is memory for them, say why.
+pub fn told(status: u8, lines: Result<Seq<u8>, AllocError>) -> Failure {
     match lines {
-        Ok(lines) => Failure::Told(cause, lines),
+        Ok(lines) => Failure::Told(status, lines),
         Err(AllocError) => Failure::Memory,
-    }
-}
-
-/// Puts an output; the status is its own, or 6 where writing failed.
-pub fn put_out<O: Sink>(out: &mut O, text: &[u8], own: u8) -> u8
-    ensures { IsPut O.taken O.faults out.old out.new text.now own result }
-{
-    match out.put(text) {
-        Ok(()) => own,
-        Err(_) => 6,
     }
 }

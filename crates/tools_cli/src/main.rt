@@ -1,14 +1,10 @@
-//! One program for the tools beside `jterm`: the first word says which of `describe`, `certs` and `survey` it is, and the words behind it
-//! are that tool's. Real files and outputs, and the words after the program's name.
+//! One program for the tools beside `jterm`: the first word says which of `describe`, `certs` and `survey` it is, and the words behind it are
+//! that tool's. Real files and outputs, and the words after the program's name.
 #![tactic(auto)]
-
-ghost use Rattle.std.specs.Prelude.{◌≡◌, map, string_bytes};
-ghost use Rattle.tools_cli.specs.Tools.{EndsTool};
 
 mod certifying;
 mod describing;
 mod failures;
-mod reading;
 
 use io_ports::{Files, RealFiles, Sink, StdSink};
 use std::alloc::{AllocError, Global};
@@ -33,38 +29,27 @@ fn words(rt: &(impl Env + AllocGlobal)) -> Result<Vec<String>, AllocError> {
 }
 
 /// What is put where the first word is none of the tools; the status.
-fn usage<E: Sink>(err: &mut E) -> u8
-    ensures { result ≡ 4 }
-{
+fn usage<E: Sink>(err: &mut E) -> u8 {
     let _ = err.put(b"tools: usage: describe|certs|survey WORD..\n");
     4
 }
 
 /// Runs the tool that the first word says, on the words behind it; the status.
-#[tactic(auto, using(crate::proofs::Taking::describes, crate::proofs::Taking::certifies, crate::proofs::Taking::surveys, crate::proofs::Taking::no_tool, crate::proofs::Taking::no_words, crate::proofs::Taking::none_said))]
 fn run<F: Files, O: Sink, E: Sink>(
     alloc: Global,
     words: &[String],
     files: &mut F,
     out: &mut O,
     err: &mut E,
-) -> u8
-    // Each tool is given the words behind the first one, and what it puts is what its own clause says.
-    ensures { EndsTool (record { held = F.held; handed = F.handed; faults = F.faults }) O.taken O.faults (map string_bytes words.now)
-        files.old files.new out.old out.new result }
-{
+) -> u8 {
     let Some((tool, words)) = words.split_first() else {
         return usage(err);
     };
-    let tool = tool.as_bytes();
-    if tool == b"describe".as_slice() {
-        describing::run(alloc, words, files, out, err)
-    } else if tool == b"certs".as_slice() {
-        certifying::run(alloc, words, files, out, err)
-    } else if tool == b"survey".as_slice() {
-        survey(alloc, words, files, out, err)
-    } else {
-        usage(err)
+    match tool.as_str() {
+        "describe" => describing::run(alloc, words, files, out, err),
+        "certs" => certifying::run(alloc, words, files, out, err),
+        "survey" => survey(alloc, words, files, out, err),
+        _ => usage(err),
     }
 }
 

@@ -12,12 +12,8 @@ use std::alloc::Global;
 
 /// What `bound` puts on its output, with its exit status. Where the certificate is valid for the method and the
 /// inputs that the description names and describes, and the bound's text holds for it, the bound's lines: `steps L`,
-/// `const C` and for each rank step `term K F`; status 0. These are the lines of the bound that its text gives for the
-/// certificate, and every run from a described input ends after at most the bound's value of instructions. The size of
-/// an input in it is the number of objects on all paths from the input: an object counts once for each path that leads
-/// to it, so of objects that are shared a count of the objects alone is too small. A class stands by its name, with
-/// blanks, control characters and backslashes as codes (`list_views::shown`), so the lines are read back. All of them
-/// count: a part of them is no bound. Else `REFUSED item N: CAUSE`, as `check` says it, or `REFUSED bound: CAUSE` for
+/// `const C` and for each rank step `term K F`; status 0. Every run from a described input then ends after at most
+/// the bound's value of instructions. Else `REFUSED item N: CAUSE`, as `check` says it, or `REFUSED bound: CAUSE` for
 /// the first fault of the bound's text; status 2. There are at most 256 class files.
 ///
 /// # Errors
@@ -33,7 +29,7 @@ pub fn bound_line(
 ) -> Result<Outcome, Refused>
     requires { length files.now ≤ most_classes }
     ensures answers { Answers bound.now cert.now desc.now (map (λ file. file.items) files.now) result }
-    ensures headline { AllEndWithinIfDone (map (λ file. file.items) files.now) desc.now cert.now bound.now result }
+    ensures headline { AllEndWithinIfDone (map (λ file. file.items) files.now) desc.now result }
 {
     match described_program(alloc, desc, files) {
         Ok(given) => bound_bytes(

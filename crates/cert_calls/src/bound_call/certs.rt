@@ -9,7 +9,7 @@ ghost use Rattle.cert_check.specs.Parts.{case_of};
 ghost use Rattle.term_graph.specs.Limits.{most_nodes};
 ghost use Rattle.check_call.specs.Answers.{OfCase, OfContent, OfCert};
 ghost use Rattle.cert_calls.specs.bound_call.Answers.{SaysBound};
-ghost use Rattle.cert_calls.specs.bound_call.inner.Words.{EndWithin, EndAsContent, EndAsDescribed};
+ghost use Rattle.cert_calls.specs.bound_call.inner.Words.{EndWithin, EndAsDescribed};
 
 use crate::bound_call::outcome::{bounded, refused};
 use abs_cells::{AbsState, PackedPairs, Pairs};
@@ -44,8 +44,7 @@ fn of_nodes<P: Pairs, S: NodeSource<P>>(
     requires steps { AreSteps proof.now.steps }
     ensures case { OfCase (SaysBound bound.now)
         (case_of (program_of program.now) (typing_at typing.now) root.now (S.graph nodes.old) cuts.now proof.now.steps) result }
-    ensures ends { EndWithin (program_of program.now) root.now
-        (case_of (program_of program.now) (typing_at typing.now) root.now (S.graph nodes.old) cuts.now proof.now.steps) bound.now result }
+    ensures ends { EndWithin (program_of program.now) root.now result }
 {
     match checked_bound(alloc, program, typing, nodes, root, cuts, proof, bound) {
         Ok(Ok(held)) => bounded(alloc, &program.world, &held),
@@ -56,7 +55,7 @@ fn of_nodes<P: Pairs, S: NodeSource<P>>(
 }
 
 /// What is said of what a certificate says.
-#[tactic(auto, using(graph_fill::proofs::Lacking::few_filled, check_call::proofs::Reading::content_goes, crate::proofs::BoundSaying::content_ends))]
+#[tactic(auto, using(graph_fill::proofs::Lacking::few_filled, check_call::proofs::Reading::content_goes))]
 fn of_text(
     alloc: Global,
     program: &Program<'_>,
@@ -70,7 +69,7 @@ fn of_text(
     requires few { length text.now.parts ≤ most_nodes }
     requires steps { AreSteps text.now.proof }
     ensures content { OfContent (SaysBound bound.now) (program_of program.now) (typing_at typing.now) root.now text.now result }
-    ensures ends { EndAsContent (program_of program.now) (typing_at typing.now) root.now text.now bound.now result }
+    ensures ends { EndWithin (program_of program.now) root.now result }
 {
     let mut nodes = filled::<PackedPairs, _>(alloc, program, typing, text)?;
     nodes.begin(true);
@@ -99,7 +98,7 @@ pub(crate) fn bound_bytes(
     requires typing { IsTypingOf (program_of program.now) (typing_at typing.now) }
     requires own { IsOwnDesc (program_of program.now) desc.now }
     ensures cert { OfCert (SaysBound bound.now) cert.now (program_of program.now) (typing_at typing.now) desc.now result }
-    ensures ends { EndAsDescribed (program_of program.now) desc.now cert.now bound.now result }
+    ensures ends { EndAsDescribed (program_of program.now) desc.now result }
 {
     let names = class_names(alloc, &program.world)?;
     let root: AbsState<PackedPairs> = initial(alloc, desc, program)?;

@@ -12,11 +12,9 @@ use std::alloc::Global;
 
 /// What `throws` puts on its output, with its exit status. Where the certificate is valid for the method and the
 /// inputs that the description names and describes, the line `RETURNS` if a run can return, and then a line `THROWS
-/// C` for each class of which an object can be thrown that nothing catches, by the classes' numbers; status 0. These
-/// are the lines of the report of the certificate's graph, and every run from a described input ends in one of these
-/// ways. A class stands by its name, with blanks, control characters and backslashes as codes (`list_views::shown`),
-/// so the lines are read back. All of them count: a part of them is a smaller list. Else the line of `check`: `REFUSED item N: CAUSE`, a
-/// newline and status 2, for the first item that fails. There are at most 256 class files.
+/// C` for each class of which an object can be thrown that nothing catches, by the classes' numbers; status 0. Every
+/// run from a described input ends in one of these ways. Else the line of
+/// `check`: `REFUSED item N: CAUSE`, a newline and status 2, for the first item that fails. There are at most 256 class files.
 ///
 /// # Errors
 ///
@@ -30,7 +28,7 @@ pub fn throws_line(
 ) -> Result<Outcome, Refused>
     requires { length files.now ≤ most_classes }
     ensures answers { Answers cert.now desc.now (map (λ file. file.items) files.now) result }
-    ensures headline { AllEndAsSaidIfDone (map (λ file. file.items) files.now) desc.now cert.now result }
+    ensures headline { AllEndAsSaidIfDone (map (λ file. file.items) files.now) desc.now result }
 {
     match described_program(alloc, desc, files) {
         Ok(given) => report_bytes(alloc, &given.program, &given.typing, &given.desc, cert),

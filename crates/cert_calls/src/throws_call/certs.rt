@@ -11,7 +11,7 @@ ghost use Rattle.cert_check.specs.Parts.{case_of};
 ghost use Rattle.term_graph.specs.Limits.{most_nodes};
 ghost use Rattle.check_call.specs.Answers.{OfCase, OfContent, OfCert};
 ghost use Rattle.cert_calls.specs.throws_call.Answers.{reported, SaysReport};
-ghost use Rattle.cert_calls.specs.throws_call.inner.Words.{EndAsReported, EndAsContent, EndAsDescribed};
+ghost use Rattle.cert_calls.specs.throws_call.inner.Words.{EndAsReported, EndAsDescribed};
 
 use abs_cells::{AbsState, PackedPairs, Pairs};
 use cert_check::Refusal;
@@ -53,8 +53,7 @@ fn of_nodes<P: Pairs, S: NodeSource<P>>(
     requires steps { AreSteps proof.now.steps }
     ensures case { OfCase SaysReport (case_of (program_of program.now) (typing_at typing.now) root.now (S.graph nodes.old) cuts.now
         proof.now.steps) result }
-    ensures ends { EndAsReported (program_of program.now) root.now
-        (case_of (program_of program.now) (typing_at typing.now) root.now (S.graph nodes.old) cuts.now proof.now.steps) result }
+    ensures ends { EndAsReported (program_of program.now) root.now result }
 {
     match checked_report(alloc, program, typing, nodes, root, cuts, proof) {
         Ok(report) => reported(alloc, &program.world, &report),
@@ -64,7 +63,7 @@ fn of_nodes<P: Pairs, S: NodeSource<P>>(
 }
 
 /// What is said of what a certificate says.
-#[tactic(auto, using(graph_fill::proofs::Lacking::few_filled, check_call::proofs::Reading::content_goes, crate::proofs::ThrowsSaying::content_ends))]
+#[tactic(auto, using(graph_fill::proofs::Lacking::few_filled, check_call::proofs::Reading::content_goes))]
 fn of_text(
     alloc: Global,
     program: &Program<'_>,
@@ -77,7 +76,7 @@ fn of_text(
     requires few { length text.now.parts ≤ most_nodes }
     requires steps { AreSteps text.now.proof }
     ensures content { OfContent SaysReport (program_of program.now) (typing_at typing.now) root.now text.now result }
-    ensures ends { EndAsContent (program_of program.now) (typing_at typing.now) root.now text.now result }
+    ensures ends { EndAsReported (program_of program.now) root.now result }
 {
     let mut nodes = filled::<PackedPairs, _>(alloc, program, typing, text)?;
     nodes.begin(true);
@@ -104,7 +103,7 @@ pub(crate) fn report_bytes(
     requires typing { IsTypingOf (program_of program.now) (typing_at typing.now) }
     requires own { IsOwnDesc (program_of program.now) desc.now }
     ensures cert { OfCert SaysReport cert.now (program_of program.now) (typing_at typing.now) desc.now result }
-    ensures ends { EndAsDescribed (program_of program.now) desc.now cert.now result }
+    ensures ends { EndAsDescribed (program_of program.now) desc.now result }
 {
     let names = class_names(alloc, &program.world)?;
     let root: AbsState<PackedPairs> = initial(alloc, desc, program)?;

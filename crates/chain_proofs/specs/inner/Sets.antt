@@ -94,7 +94,7 @@ pub record IsStuckAt (none : List PathRule → Type 0) (rules : List PathRule) (
   pub are_own : AllZip (IsLeftRule rules) left own
   pub stuck : AreStuck none own
 
--- a step holds for its set, and is lean; the sets that it gives on are sets of rules, and need less than its own
+-- a step holds for its set, and has no idle part; the sets that it gives on are sets of rules, and need less than its own
 pub record IsTurned (rules : List PathRule) (number : ℕ) (given : Given) (step : ProofStep) (after : Given) : Type 0 where
   pub holds : HoldsAt rules number given step after
   pub limits : IsStep step

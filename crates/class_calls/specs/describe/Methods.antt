@@ -2,7 +2,6 @@
 use Rattle.std.specs.Prelude.{◌≡◌, ◌⊎◌, ℕ, Bool, not, ◌&&◌, List, [], ◌∷◌, ◌++◌, filter, slice_get, Some}
 use Rattle.std.specs.List.{flat_map}
 use Rattle.std.specs.Str.{bytes_eq}
-use Rattle.list_views.specs.Shown.{shown}
 use Rattle.class_base.specs.Flags.{is_abstract}
 use Rattle.class_read.specs.Content.{ClassContent, MethodContent}
 use Rattle.class_world.specs.Members.{initialiser_name}
@@ -14,9 +13,9 @@ has_inputs m = not (is_abstract m.flags) && not (bytes_eq m.name initialiser_nam
 
 -- ---- the list
 
--- a method's line: its name, behind it its descriptor, both as lines show names, and a newline
+-- a method's line: its name, behind it its descriptor, and a newline
 abbrev pub method_line : MethodContent → List ℕ
-method_line m = shown m.name ++ (shown m.desc ++ 10 ∷ [])
+method_line m = m.name ++ (m.desc ++ 10 ∷ [])
 
 -- the lines of those methods of a class that have inputs, in the order of the class
 abbrev pub method_lines : List MethodContent → List ℕ

@@ -1,9 +1,8 @@
--- The line that says how a run ended. Names of classes stand as lines show names.
+-- The line that says how a run ended.
 use Rattle.std.specs.Prelude.{ℕ, List, [], ◌∷◌, replicate, slice_get, Some, None, codes}
 use Rattle.std.specs.Fmt.{decimal, signed_decimal}
 use Rattle.std.specs.Option.{option_map_or}
 use Rattle.list_views.specs.FaultWords.{joined}
-use Rattle.list_views.specs.Shown.{shown}
 use Rattle.jvm_values.specs.declared.types.Kind.{Kind}
 use Rattle.jvm_values.specs.declared.types.Kind.TheVariants as kinds
 use Rattle.jvm_values.specs.declared.types.Base.{Base}
@@ -32,7 +31,7 @@ kind_letter kinds.Int = codes "I"
 -- the descriptor of a type without array dimensions: a class by its name, a kind of numbers by its letter (JVM
 -- specification, section 4.3.2)
 abbrev pub base_descriptor : World → Base → List ℕ
-base_descriptor world (bases.Class class) = joined (codes "L" ∷ shown (class_name world class) ∷ codes ";" ∷ [])
+base_descriptor world (bases.Class class) = joined (codes "L" ∷ class_name world class ∷ codes ";" ∷ [])
 base_descriptor world (bases.Num kind) = kind_letter kind
 
 -- the descriptor of an array whose items are of that type
@@ -41,7 +40,7 @@ array_descriptor world element = joined (codes "[" ∷ replicate element.dims 91
 
 -- the type of an object in words: an instance by its class's name, an array by its descriptor
 abbrev pub object_text : World → Object → List ℕ
-object_text world (Instance class fields) = shown (class_name world class)
+object_text world (Instance class fields) = class_name world class
 object_text world (Nums kind items) = joined (codes "[" ∷ kind_letter kind ∷ [])
 object_text world (Refs element items) = array_descriptor world element
 

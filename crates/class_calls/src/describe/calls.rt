@@ -61,8 +61,8 @@ fn template_in(
     template_at(alloc, world, entry)
 }
 
-/// The methods of the first class file that can be described, a line for each: its name and behind it its descriptor, in which blanks,
-/// control characters and backslashes stand as codes (`list_views::shown`). There are at most 256 class files.
+/// The methods of the first class file that can be described, a line for each: its name and behind it its descriptor. There are at
+/// most 256 class files.
 ///
 /// # Errors
 ///

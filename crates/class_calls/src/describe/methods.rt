@@ -6,7 +6,6 @@ ghost use Rattle.class_calls.specs.describe.Methods.{has_inputs, method_line, me
 use crate::describe::fault::DescribeFault;
 use class_base::{ABSTRACT, has_flag};
 use class_read::{ClassView, MethodView};
-use list_views::shown::shown;
 use std::alloc::{AllocError, Global};
 
 /// The names of a method, and of the class that declares it.
@@ -28,18 +27,16 @@ fn has_inputs(method: &MethodView<'_>) -> bool
 }
 
 /// Puts a method's line behind a text: its name, behind it its descriptor, and a newline.
-fn put_line(alloc: Global, lines: &mut Vec<u8>, method: &MethodView<'_>) -> Result<(), AllocError>
+fn put_line(lines: &mut Vec<u8>, method: &MethodView<'_>) -> Result<(), AllocError>
     ensures { OnOk result (lines.new.items ≡ lines.old.items ++ method_line (method_content method.now)) }
 {
-    let name = shown(alloc, method.name)?;
-    let desc = shown(alloc, method.desc)?;
-    lines.extend_from_slice(name.as_slice())?;
-    lines.extend_from_slice(desc.as_slice())?;
+    lines.extend_from_slice(method.name)?;
+    lines.extend_from_slice(method.desc)?;
     lines.push(b'\n')?;
     Ok(())
 }
 
-/// The methods of a class that can be described, a line for each. In names blanks, control characters and backslashes stand as codes.
+/// The methods of a class that can be described, a line for each.
 #[tactic(auto, using(crate::proofs::Lines::line_more, crate::proofs::Lines::line_none, crate::proofs::Lines::lines_end))]
 pub(crate) fn lines_of(alloc: Global, methods: &[MethodView<'_>]) -> Result<Vec<u8>, AllocError>
     ensures { IfOk result (λ lines. lines.items ≡ method_lines (map method_content methods.now)) }
@@ -47,7 +44,7 @@ pub(crate) fn lines_of(alloc: Global, methods: &[MethodView<'_>]) -> Result<Vec<
     let mut lines = Vec::new(alloc);
     for method in methods {
         if has_inputs(method) {
-            put_line(alloc, &mut lines, method)?;
+            put_line(&mut lines, method)?;
         }
     }
     Ok(lines)

@@ -10,7 +10,6 @@ use jvm_run::Ended;
 use jvm_values::{Base, Heap, Kind, Object, Ty, Types, Value};
 use list_views::Seq;
 use list_views::fault_words::{joined, number};
-use list_views::shown::shown;
 use std::alloc::{AllocError, Global};
 
 /// The name of the class of a number.
@@ -42,10 +41,7 @@ fn base_descriptor(alloc: Global, world: &World<'_>, base: Base) -> Result<Seq<u
     ensures { IfOk result (λ text. text ≡ lines.base_descriptor (classes_of world.now) base) }
 {
     match base {
-        Base::Class(class) => {
-            let name = shown(alloc, class_name(world, class))?;
-            joined(alloc, &[b"L", name.as_slice(), b";"])
-        }
+        Base::Class(class) => joined(alloc, &[b"L", class_name(world, class), b";"]),
         Base::Num(kind) => Seq::from_slice(alloc, kind_letter(kind)),
     }
 }
@@ -64,7 +60,7 @@ fn object_text(alloc: Global, world: &World<'_>, object: &Object) -> Result<Seq<
     ensures { IfOk result (λ text. text ≡ lines.object_text (classes_of world.now) object.now) }
 {
     match object {
-        Object::Instance { class, .. } => shown(alloc, class_name(world, *class)),
+        Object::Instance { class, .. } => Seq::from_slice(alloc, class_name(world, *class)),
         Object::Nums { kind, .. } => joined(alloc, &[b"[", kind_letter(*kind)]),
         Object::Refs { element, .. } => array_descriptor(alloc, world, *element),
     }
@@ -75,11 +71,11 @@ fn reference_text(
     alloc: Global,
     world: &World<'_>,
     heap: &Heap,
-    r: usize,
+    r: u32,
 ) -> Result<Seq<u8>, AllocError>
     ensures { IfOk result (λ text. text ≡ lines.reference_text (classes_of world.now) heap.now r) }
 {
-    match heap.objects.get(r) {
+    match heap.objects.get(r as usize) {
         Some(object) => object_text(alloc, world, object),
         None => Ok(Seq::new(alloc)),
     }
@@ -123,12 +119,7 @@ fn going_line(alloc: Global, fuel: u64) -> Result<Seq<u8>, AllocError>
 }
 
 /// The line of a run that ended with a throw of this object.
-fn threw_line(
-    alloc: Global,
-    world: &World<'_>,
-    heap: &Heap,
-    r: usize,
-) -> Result<Seq<u8>, AllocError>
+fn threw_line(alloc: Global, world: &World<'_>, heap: &Heap, r: u32) -> Result<Seq<u8>, AllocError>
     ensures { IfOk result (λ line. line ≡ lines.threw_line (classes_of world.now) heap.now r) }
 {
     let name = reference_text(alloc, world, heap, r)?;

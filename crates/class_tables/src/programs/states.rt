@@ -7,7 +7,7 @@ use class_world::World;
 use jvm_values::{Base, Frame, Kind, Mode, Object, State, Ty, Value};
 use std::alloc::AllocError;
 use table_cases::entry_cases::put_class;
-use table_cases::{put_count, put_number, put_numbered};
+use table_cases::{put_number, put_numbered};
 
 /// Adds the text of a state.
 pub fn put_state(
@@ -71,10 +71,7 @@ fn put_value(line: &mut String, value: Value) -> Result<(), AllocError> {
     match value {
         Value::Int(n) => put_number(line, i64::from(n)),
         Value::Null => line.push_str("null"),
-        Value::Ref(r) => {
-            line.push('#')?;
-            put_count(line, r)
-        }
+        Value::Ref(r) => put_numbered(line, "#", i64::from(r)),
     }
 }
 

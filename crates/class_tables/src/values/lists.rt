@@ -17,7 +17,7 @@ fn instance(alloc: Global, next: Value) -> Result<Object> {
 fn list_of(alloc: Global, count: u32) -> Result<Heap> {
     let mut objects = Seq::new(alloc);
     for next in 1..count {
-        objects.push(instance(alloc, Value::Ref(next as usize))?)?;
+        objects.push(instance(alloc, Value::Ref(next))?)?;
     }
     objects.push(instance(alloc, Value::Null)?)?;
     Ok(Heap { objects })
@@ -26,7 +26,7 @@ fn list_of(alloc: Global, count: u32) -> Result<Heap> {
 /// How many objects the first one of a heap reaches, and their shape.
 fn told(alloc: Global, heap: &Heap) -> Result<String> {
     let first = Value::Ref(0);
-    if !is_closed(heap) || !is_in_heap(heap, first) {
+    if !is_closed(heap) || !is_in_heap(heap, first) || heap.objects.len() > 0xffff_ffff {
         bail!("the heap isn't closed");
     }
     let reached = region(alloc, heap, first)?.len();

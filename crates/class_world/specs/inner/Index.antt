@@ -1,8 +1,9 @@
 -- Tables by which a world finds members: for each class the names and descriptors of its members, whether it has a static
 -- initialiser, and how many of its first fields are part of objects.
-use Rattle.std.specs.Prelude.{◌≡◌, ℕ, ◌+◌, List, [], map, take, length, slice_get}
+use Rattle.std.specs.Prelude.{◌≡◌, ℕ, ◌+◌, ◌^◌, Bool, List, [], map, take, length, slice_get, nat_lt}
 use Rattle.std.specs.List.{filter_map, IsDistinct}
 use Rattle.std.specs.Option.{option_map_or}
+use Rattle.jvm_values.specs.declared.types.Slot.{Slot}
 use Rattle.class_read.specs.declared.view.FieldView.{FieldView}
 use Rattle.class_read.specs.declared.view.MethodView.{MethodView}
 use Rattle.class_read.specs.Content.{ClassContent, FieldContent, MethodContent}
@@ -53,6 +54,10 @@ kept_counts world fields = values_to (kept_before world fields) (length fields +
 -- for each place among the fields that a class declares, and one behind them, how many earlier ones are part of objects
 unfoldable pub kept_row : World → ℕ → List ℕ
 kept_row world class = option_map_or (λ c. kept_counts world c.fields) (slice_get world class) []
+
+-- there are numbers of 32 bits for the places of so many fields
+abbrev pub has_places : List Slot → Bool
+has_places slots = nat_lt (length slots) (2 ^ 32)
 
 -- the tables of an index hold for each class of the world what the definitions say
 pub record IsIndex (world : World) (index : MemberIndex) : Type 0 where

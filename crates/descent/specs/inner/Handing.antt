@@ -1,5 +1,5 @@
 -- What one call of the check says of the whole walk.
-use Rattle.std.specs.Prelude.{ℕ, ◌≡◌, ◌≤◌, Bool, true, false, List, ◌∷◌, Option, Some, None, Result, Ok, Err, if◌then◌else◌, slice_get}
+use Rattle.std.specs.Prelude.{ℕ, ◌≡◌, Bool, true, false, List, ◌∷◌, Option, Some, None, Result, Ok, Err, if◌then◌else◌}
 use Rattle.descent.specs.declared.faults.StepFault.{StepFault}
 use Rattle.descent.specs.declared.faults.StepFault.TheVariants.{At, Memory}
 use Rattle.descent.specs.Steps.{Given, give}
@@ -14,10 +14,6 @@ Gives number (Some left) done old new = (more : List (ℕ × List ℕ))
 abbrev pub IsHanded : Bool → Option Given → Given → Type 0
 IsHanded true gave after = gave ≡ Some after
 IsHanded false gave after = gave ≡ None
-
--- steps whose numbers have more than 32 bits are given nothing
-abbrev pub KeepsLate : Given → Given → Type 0
-KeepsLate old new = (number : ℕ) → 4294967296 ≤ number → slice_get new number ≡ slice_get old number
 
 -- what an answer says of a step, after which the walk goes on: there is no fault yet, or the whole has this fault
 abbrev pub GoesOn : Result (Unit {0}) StepFault → Option StepFault → Option StepFault → Type 0

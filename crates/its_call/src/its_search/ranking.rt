@@ -179,7 +179,7 @@ fn parts_of(alloc: Global, form: &[(u32, i64)]) -> Result<Seq<(Place, i64)>, All
         let place = Place {
             frame: 0,
             stack: false,
-            index: term.0 as usize,
+            index: term.0,
         };
         parts.push((place, term.1))?;
     }

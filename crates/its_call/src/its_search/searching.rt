@@ -1,5 +1,5 @@
 //! Proofs for systems of rules.
-ghost use Rattle.std.specs.Prelude.{IfOk, ◌≤◌, length};
+ghost use Rattle.std.specs.Prelude.{IfOk};
 ghost use Rattle.descent.specs.Conditions.{AreRules, AreSteps};
 ghost use Rattle.descent.specs.Steps.{Closed};
 ghost use Rattle.its_front.specs.Systems.{AreSystemRules};
@@ -31,7 +31,6 @@ fn checked(alloc: Global, rules: &[PathRule], proof: Proof) -> Result<ItsFound, 
     requires rules { AreRules rules.now }
     requires steps { AreSteps proof.steps }
     requires closed { Closed rules.now proof }
-    requires few { length rules.now ≤ 4294967295 }
     ensures { IfOk result (Finds rules.now) }
 {
     match check_proof(alloc, rules, &proof) {

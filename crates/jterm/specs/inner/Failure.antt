@@ -16,15 +16,12 @@ use Rattle.jterm.specs.Outside.{AreContents, IsUnread}
 
 -- The cause of a call that ends without a verdict is there: a file was not read; or the contents of the files are
 -- refused at this place for this fault; or memory is wanting, which has no cause.
-abbrev pub HasCause : {F : Type 0} → (F → List ℕ → Told) → (F → ℕ) → (F → List ℕ → F → Type 0)
-    → (List (List ℕ) → List (List ℕ) → Type 0) → (ℕ → ℕ) → Request → List (List ℕ)
+abbrev pub HasCause : {F : Type 0} → (F → List ℕ → Told) → (F → ℕ) → (F → List ℕ → F → Type 0) → (ℕ → ℕ) → Request → List (List ℕ)
     → F → F → Failure → Type 0
-HasCause held faults leaves Handed limits request names old new (Unread name fault) =
-    IsUnread held faults leaves Handed limits names old new name fault
-HasCause held faults leaves Handed limits request names old new (Broken place fault) =
-    (contents : List (List ℕ)) × AreContents limits (held old) names contents × Handed names contents
-    × IsAnswer request contents (Err (At place fault))
-HasCause held faults leaves Handed limits request names old new NoMemory = ⊤
+HasCause held faults leaves limits request names old new (Unread name fault) = IsUnread held faults leaves limits names old new name fault
+HasCause held faults leaves limits request names old new (Broken place fault) =
+    (contents : List (List ℕ)) × AreContents limits (held old) names contents × IsAnswer request contents (Err (At place fault))
+HasCause held faults leaves limits request names old new NoMemory = ⊤
 
 -- the exit status of a call that fails for a cause
 abbrev pub status_of : Failure → ℕ
@@ -49,12 +46,11 @@ failure_at name Memory = NoMemory
 abbrev pub AreOfCommand : Request → List (List ℕ) → Type 0
 AreOfCommand request names = (words : List (List ℕ)) × IsCommand words request names
 
--- a verdict is the answer for the contents that the files handed over, its status is at most 2, and what it says is true
-pub record IsAnswered (limits : ℕ → ℕ) (request : Request) (names : List (List ℕ)) (held : List ℕ → Told)
-    (Handed : List (List ℕ) → List (List ℕ) → Type 0) (verdict : Verdict) : Type 0 where
+-- a verdict is the answer for the contents of the files, its status is at most 2, and what it says is true
+pub record IsAnswered (limits : ℕ → ℕ) (request : Request) (names : List (List ℕ)) (held : List ℕ → Told) (verdict : Verdict) : Type
+    0 where
   pub contents : List (List ℕ)
   pub read : AreContents limits held names contents
-  pub handed : Handed names contents
   pub answer : IsAnswer request contents (Ok verdict)
   pub low : verdict.status ≤ 2
   pub claim : HoldsClaim request contents verdict

@@ -1,14 +1,13 @@
 //! Links between sizes, and the most that sizes fall by.
-ghost use Rattle.std.specs.Prelude.{All, ◌≡◌, ◌≤◌, ◌^◌, ◌++◌, ◌-ℤ◌, pos, [], false, IfOk, OnOk, if◌then◌else◌, ◌&&◌, unsigned_abs};
+ghost use Rattle.std.specs.Prelude.{All, ◌≡◌, ◌++◌, ◌-ℤ◌, pos, [], false, IfOk, OnOk, if◌then◌else◌, ◌&&◌};
 ghost use Rattle.std.specs.List.Sorted.{IsNonDecreasingBy};
-ghost use Rattle.lin_core.specs.Weights.{AreRows, total_size};
+ghost use Rattle.lin_core.specs.Weights.{AreRows};
 ghost use Rattle.rank_forms.specs.declared.rule_links.links.Link.{Link};
 ghost use Rattle.rank_forms.specs.declared.rule_links.links.Tie.{Tie};
 ghost use Rattle.rank_forms.specs.rule_links.SizeLinks.{IsSizeLink, weighed_once};
 ghost use Rattle.rank_forms.specs.rule_links.Falls.{AreRising, has_zero, is_zero};
 ghost use Rattle.rank_forms.specs.rule_links.inner.Rising.{back_ties, gives, given_by, given_ties, is_part, order_in};
 ghost use Rattle.rank_forms.specs.rule_links.inner.Rising.{part_ties, rising_tie, size_row_ties, size_ties_from};
-ghost use Rattle.rank_forms.specs.rule_links.inner.Rising.{IsSmallRow, AreSmallRows};
 ghost use Rattle.rank_forms.specs.rule_links.Falls.{size_constant, IsSizeTie, zero_from};
 ghost use Rattle.rank_forms.specs.rule_links.Ties.{InTies};
 
@@ -110,32 +109,32 @@ fn gives(rows: &[WRow], u: u32, terms: &[(u32, i64)]) -> bool
 }
 
 /// What the weights of a row add, where every class weighs 1.
-fn weighed_once(weights: &[(u32, i64)]) -> i64
-    requires { total_size weights.now ≤ 2 ^ 40 }
-    ensures value { result ≡ weighed_once weights.now }
-    ensures bound { unsigned_abs result ≤ 2 ^ 40 }
+fn weighed_once(weights: &[(u32, i64)]) -> Result<i64, AllocError>
+    ensures { IfOk result (λ weighed. weighed ≡ weighed_once weights.now) }
 {
     let mut weighed = 0;
     for weight in weights {
         let Some(more) = sum(&weighed, &weight.1) else {
-            unreachable!();
+            return Err(AllocError);
         };
         weighed = more;
     }
-    weighed
+    Ok(weighed)
 }
 
 /// The constant of a row, where every class weighs 1.
-pub(crate) fn size_constant(row: &WRow) -> i64
-    requires { IsSmallRow row.now }
-    ensures value { result ≡ size_constant row.now }
-    ensures bound { unsigned_abs result ≤ 2 ^ 41 }
+///
+/// # Errors
+///
+/// Want of memory, which also answers a number of more than 64 bits.
+pub fn size_constant(row: &WRow) -> Result<i64, AllocError>
+    ensures { IfOk result (λ constant. constant ≡ size_constant row.now) }
 {
-    let weighed = weighed_once(row.weights.as_slice());
-    let Some(constant) = sum(&row.constant, &weighed) else {
-        unreachable!();
-    };
-    constant
+    let weighed = weighed_once(row.weights.as_slice())?;
+    match sum(&row.constant, &weighed) {
+        Some(constant) => Ok(constant),
+        None => Err(AllocError),
+    }
 }
 
 /// Adds the link from a size to a part of it.
@@ -220,14 +219,13 @@ fn add_back(
 
 /// Adds the links that an equation says.
 fn add_equation(rows: &[WRow], n: usize, row: &WRow, ties: &mut Seq<Tie>) -> Result<(), AllocError>
-    requires { IsSmallRow row.now }
     ensures { OnOk result
         (ties.new ≡ ties.old ++ (given_ties rows.now (pos 0 -ℤ size_constant row.now) n row.now.terms row.now.terms ++ back_ties
         (order_in row.now.terms) (size_constant row.now) n)) }
 {
-    let constant = size_constant(row);
+    let constant = size_constant(row)?;
     let Some(less) = negated(&constant) else {
-        unreachable!();
+        return Err(AllocError);
     };
     let terms = row.terms.as_slice();
     add_all_given(rows, terms, &less, n, ties)?;
@@ -236,7 +234,6 @@ fn add_equation(rows: &[WRow], n: usize, row: &WRow, ties: &mut Seq<Tie>) -> Res
 
 /// Adds the links that a row says.
 fn add_size_row(rows: &[WRow], n: usize, row: &WRow, ties: &mut Seq<Tie>) -> Result<(), AllocError>
-    requires { IsSmallRow row.now }
     ensures { OnOk result (ties.new ≡ ties.old ++ size_row_ties rows.now n row.now) }
 {
     if is_inequality(row.kind) {
@@ -247,7 +244,6 @@ fn add_size_row(rows: &[WRow], n: usize, row: &WRow, ties: &mut Seq<Tie>) -> Res
 
 /// The links of all rows.
 fn all_sizes(alloc: Global, rows: &[WRow]) -> Result<Seq<Tie>, AllocError>
-    requires { AreSmallRows rows.now }
     ensures { IfOk result (λ ties. ties ≡ size_ties_from rows.now 0 rows.now) }
 {
     let mut ties = Seq::new(alloc);
@@ -261,7 +257,7 @@ fn all_sizes(alloc: Global, rows: &[WRow]) -> Result<Seq<Tie>, AllocError>
 ///
 /// # Errors
 ///
-/// Want of memory.
+/// Want of memory, which also answers a number of more than 64 bits.
 pub fn size_ties(alloc: Global, rows: &[WRow], vars: u32) -> Result<Vec<Tie>, AllocError>
     requires { AreRows vars rows.now }
     ensures order { IfOk result (λ ties. IsNonDecreasingBy (λ (tie : Tie). tie.link.from) ties.items) }

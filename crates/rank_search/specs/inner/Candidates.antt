@@ -1,5 +1,5 @@
 -- Words of private calls: the forms of one place and of two that come into question, by the numbers of a table.
-use Rattle.std.specs.Prelude.{ℕ, ℤ, pos, negsuc, ◌≡◌, ◌<◌, ◌≤◌, ◌+ℤ◌, ◌*ℤ◌, ◌==◌, ◌&&◌, Bool, true, false, List, [], ◌∷◌, Option, Some}
+use Rattle.std.specs.Prelude.{ℕ, ℤ, pos, negsuc, ◌≡◌, ◌<◌, ◌+ℤ◌, ◌*ℤ◌, ◌==◌, ◌&&◌, Bool, true, false, List, [], ◌∷◌, Option, Some}
 use Rattle.std.specs.Prelude.{None, if◌then◌else◌, get_or, ◌||◌, int_le, int_lt, unsigned_abs}
 use Rattle.descent.specs.declared.rules.PathRule.{PathRule}
 use Rattle.descent.specs.declared.rules.Place.{Place}
@@ -15,10 +15,6 @@ abbrev pub value_of : Option ℤ → Option ℤ → ℤ → ℤ → Option ℤ
 value_of None other times more = None
 value_of (Some c) None times more = None
 value_of (Some c) (Some d) times more = Some (times *ℤ c +ℤ more *ℤ d)
-
--- the multiples of a form are at most 4 in size
-abbrev pub IsSmall : Candidate → Type 0
-IsSmall form = (unsigned_abs form.times ≤ 4) × (unsigned_abs form.more ≤ 4)
 
 abbrev pub form_value : Candidate → List (Option ℤ) → Option ℤ
 form_value form changes = value_of (get_or changes form.one None) (get_or changes form.other None) form.times form.more

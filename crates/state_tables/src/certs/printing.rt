@@ -3,7 +3,7 @@ use anyhow::{Result, bail};
 use descent::{PathRule, Place, RowKind, SlotForm, WRow};
 use path_rules::PathFault;
 use std::alloc::{AllocError, Global};
-use table_cases::{numbered, put_count, put_numbered, said};
+use table_cases::{numbered, put_numbered, said};
 
 /// What is first in the way of rules.
 pub fn fault_text(alloc: Global, fault: PathFault) -> Result<String> {
@@ -139,9 +139,7 @@ fn put_place(text: &mut String, head: &str, place: &Place) -> Result<(), AllocEr
     } else {
         ",\"local\","
     };
-    text.push_str(head)?;
-    put_count(text, place.frame)?;
-    text.push_str(kind)?;
-    put_count(text, place.index)?;
+    put_numbered(text, head, i64::from(place.frame))?;
+    put_numbered(text, kind, i64::from(place.index))?;
     text.push(']')
 }

@@ -2,7 +2,6 @@
 //! classes of rules that reach each other, each by its first rule. Two more are made by hand: `orders` calls both orders, and `steps`
 //! checks a proof of so many rank steps without rules. `read`, which is for measuring alone, reads a case of `proof` and tests its
 //! limits.
-ghost use Rattle.std.specs.Prelude.{◌≤◌, length};
 ghost use Rattle.descent.specs.Conditions.{AreRules, AreSteps};
 
 use crate::rules::limits::are_steps;
@@ -18,7 +17,7 @@ use serde_json::Value;
 use std::alloc::{AllocError, Global};
 use table_cases::json_cases::value;
 use table_cases::rule_cases::{are_rules, ends, rules};
-use table_cases::{Case, put_count, put_number, put_numbered, said};
+use table_cases::{Case, put_number, put_numbered, said};
 
 /// The answer to a case.
 pub fn answer(alloc: Global, case: &Case<'_>) -> Result<String> {
@@ -61,9 +60,6 @@ fn of_rules(alloc: Global, rules: &[PathRule], proof: &Proof, is_tested: bool) -
     if !are_steps(proof.steps.as_slice()) {
         bail!("a number of the proof is past its limit");
     }
-    if rules.len() > u32::MAX as usize {
-        bail!("there are too many rules");
-    }
     if is_tested {
         tested(alloc, rules, proof)
     } else {
@@ -74,7 +70,6 @@ fn of_rules(alloc: Global, rules: &[PathRule], proof: &Proof, is_tested: bool) -
 fn tested(alloc: Global, rules: &[PathRule], proof: &Proof) -> Result<String>
     requires rules { AreRules rules.now }
     requires steps { AreSteps proof.now.steps }
-    requires few { length rules.now ≤ 4294967295 }
 {
     match check_proof(alloc, rules, proof) {
         Ok(()) => said(alloc, "OK"),
@@ -83,10 +78,9 @@ fn tested(alloc: Global, rules: &[PathRule], proof: &Proof) -> Result<String>
     }
 }
 
-fn refused(alloc: Global, step: u64, fault: DescentFault) -> Result<String> {
+fn refused(alloc: Global, step: u32, fault: DescentFault) -> Result<String> {
     let mut line = fault_text(alloc, fault)?;
-    line.push_str(" step=")?;
-    put_count(&mut line, step as usize)?;
+    put_numbered(&mut line, " step=", i64::from(step))?;
     Ok(line)
 }
 
@@ -178,9 +172,6 @@ fn link(alloc: Global, rest: u32) -> ProofStep {
 /// The classes of the rules with these cuts.
 fn classes(alloc: Global, cuts: &Value) -> Result<String> {
     let rules = ends(alloc, &View::root(cuts))?;
-    if rules.len() > u32::MAX as usize {
-        bail!("there are too many rules");
-    }
     let classes = components(alloc, rules.as_slice())?;
     let mut text = String::from_str(alloc, "[")?;
     for rule in 0..rules.len() {

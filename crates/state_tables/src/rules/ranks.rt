@@ -14,7 +14,7 @@ use rank_search::{
 use std::alloc::{AllocError, Global};
 use table_cases::json_cases::value;
 use table_cases::rule_cases::{are_rules, rules};
-use table_cases::{Case, put_count, said};
+use table_cases::{Case, put_numbered, said};
 
 /// The answer to a case.
 pub fn answer(alloc: Global, case: &Case<'_>) -> Result<String> {
@@ -115,10 +115,9 @@ fn found(alloc: Global, is_found: bool) -> Result<String> {
 
 /// Writes a place as its frame, the kind of position and its number.
 fn put_place(text: &mut String, place: &Place) -> Result<(), AllocError> {
-    text.push(' ')?;
-    put_count(text, place.frame)?;
-    text.push_str(if place.stack { " stack " } else { " local " })?;
-    put_count(text, place.index)
+    put_numbered(text, " ", i64::from(place.frame))?;
+    let kind = if place.stack { " stack " } else { " local " };
+    put_numbered(text, kind, i64::from(place.index))
 }
 
 fn plain_text(alloc: Global, found: &Option<PlainForm>) -> Result<String> {

@@ -3,7 +3,6 @@
 
 use crate::survey_notes::sources::{CodePlace, Sources, line_of};
 use list_views::Seq;
-use list_views::shown::{method_text, shown};
 use std::alloc::{AllocError, Global};
 
 /// Places of one file, or of one method.
@@ -30,14 +29,17 @@ struct Located {
 
 /// A source file and a colon.
 fn source_head(alloc: Global, source: &[u8]) -> Result<Seq<u8>, AllocError> {
-    let mut head = shown(alloc, source)?;
+    let mut head = Seq::from_slice(alloc, source)?;
     head.extend_from_slice(b":")?;
     Ok(head)
 }
 
 /// A method as `CLASS.NAMEDESC`, and `@`.
 fn method_head(alloc: Global, place: CodePlace<'_>) -> Result<Seq<u8>, AllocError> {
-    let mut head = method_text(alloc, place.class, place.name, place.desc)?;
+    let mut head = Seq::from_slice(alloc, place.class)?;
+    head.extend_from_slice(b".")?;
+    head.extend_from_slice(place.name)?;
+    head.extend_from_slice(place.desc)?;
     head.extend_from_slice(b"@")?;
     Ok(head)
 }

@@ -8,7 +8,6 @@ use abs_cells::PackedPairs;
 use chain_proofs::LeftRule;
 use class_program::Program;
 use list_views::Seq;
-use list_views::shown::put_shown;
 use prove_core::{Cert, Reason};
 use std::alloc::{AllocError, Global};
 
@@ -31,7 +30,7 @@ fn put_local(
 ) -> Result<(), AllocError> {
     if let Some(place) = place {
         if let Some(name) = sources.variable(alloc, place, local)? {
-            return put_shown(text, name.as_slice());
+            return text.extend_from_slice(name.as_slice());
         }
     }
     text.extend_from_slice(b"local ")?;

@@ -117,8 +117,8 @@ fn places(alloc: Global, list: &View<'_, '_>) -> Result<Seq<Place>> {
 
 fn place(alloc: Global, parts: &View<'_, '_>) -> Result<Place> {
     Ok(Place {
-        frame: natural(alloc, parts, 0)? as usize,
+        frame: natural(alloc, parts, 0)?,
         stack: word(alloc, parts, 1)? == "stack",
-        index: natural(alloc, parts, 2)? as usize,
+        index: natural(alloc, parts, 2)?,
     })
 }

@@ -1,5 +1,4 @@
-use Rattle.std.proofs.Common.{◌≡◌, sym, subst, length, List, ℕ, Option, Some, None}
-use Rattle.std.specs.Prelude.{MatchOption}
+use Rattle.std.proofs.Common.{◌≡◌, sym, subst, length, List, ℕ}
 use Rattle.std.proofs.lemmas.Option.{slice_get-get_or}
 use Rattle.jvm_values.specs.TypedHeaps.{world_types}
 use Rattle.abs_cells.specs.declared.cells.Cell.{Cell}
@@ -7,13 +6,6 @@ use Rattle.abs_widen.specs.inner.Visiting.{ArePairCells}
 use Rattle.abs_widen.specs.Widening.{AreMergedCells}
 use Rattle.abs_widen.proofs.Merging.{holds_at, merged_goes, merged_ends}
 use Rattle.abs_widen.proofs.merged.merged_cells.Goals as goal
-
-none_there : {A : Type 0} (found : Option A) (Q : A → Type 0) → found ≡ None → MatchOption found ⊥ Q → ⊥
-none_there None Q e m = m
-none_there (Some x) Q e m = cc
-
-pub unreachable-requires : goal.unreachable-requires
-unreachable-requires g c = none_there c.in_ok-found.found _ c.in_default.is c.in_ok-found.ensures
 
 pub merged_cell-requires-clause-cells : goal.merged_cell-requires-clause-cells
 merged_cell-requires-clause-cells g c = holds_at

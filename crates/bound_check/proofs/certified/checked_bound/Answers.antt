@@ -3,8 +3,6 @@ use Rattle.class_program.specs.Views.{program_of}
 use Rattle.code_verify.specs.Typings.{typing_at}
 use Rattle.descent.specs.declared.rules.PathRule.{PathRule}
 use Rattle.descent.specs.Conditions.{AreRules}
-use Rattle.term_graph.specs.Graphs.{GraphNode}
-use Rattle.path_rules.specs.Paths.{IsCut}
 use Rattle.bound_check.proofs.Told.{root_good, told_by, all_bounded}
 use Rattle.bound_check.proofs.certified.checked_bound.Goals as goal
 
@@ -14,11 +12,6 @@ of_bytes-requires-clause-root g c = root_good (program_of c.args.program.now) (t
 
 pub of_bytes-requires-clause-rules : goal.of_bytes-requires-clause-rules
 of_bytes-requires-clause-rules g c = subst (λ (rs : List PathRule). AreRules rs) (sym c.as_slice.ensures) c.in-Ok.ensures.fit
-
-pub of_bytes-requires-clause-cut : goal.of_bytes-requires-clause-cut
-of_bytes-requires-clause-cut g c =
-    let parts = c.in-Ok.ensures.parts in
-    subst (λ (nodes : List GraphNode). IsCut nodes c.args.cuts.now) (sym c.in-Ok.ensures.same) parts.1.0.1.0
 
 pub returns-in_ok-told-in-Ok-clause-tells : goal.returns-in_ok-told-in-Ok-clause-tells
 returns-in_ok-told-in-Ok-clause-tells g c = told_by (program_of c.args.program.now) (typing_at c.args.typing.now) c.args.root.now

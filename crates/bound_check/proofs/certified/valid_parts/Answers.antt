@@ -8,7 +8,7 @@ use Rattle.term_graph.specs.Graphs.{GraphNode}
 use Rattle.cert_check.specs.graph_check.Good.{GraphOk}
 use Rattle.cert_check.specs.Valid.{Tells}
 use Rattle.cert_check.specs.Parts.{case_of, RulesOr}
-use Rattle.cert_check.proofs.Telling.{rules_few, proof_refused}
+use Rattle.cert_check.proofs.Telling.{proof_refused}
 use Rattle.bound_check.proofs.certified.valid_parts.Goals as goal
 
 pub returns-in-Err-clause-parts : goal.returns-in-Err-clause-parts
@@ -28,11 +28,6 @@ returns-in-Err-rules_between-clause-parts g c =
 pub check_proof-requires-clause-rules : goal.check_proof-requires-clause-rules
 check_proof-requires-clause-rules g c = subst (λ (rs : List PathRule). AreRules rs) (sym c.as_slice.ensures)
     c.in-Ok-rules_between.ensures.fit
-
-pub check_proof-requires-clause-few : goal.check_proof-requires-clause-few
-check_proof-requires-clause-few g c =
-    let is = c.in-Ok-rules_between.ensures.rules c.args.proof.now.steps in
-    rules_few c.in-Ok-rules_between.rules c.as_slice.result.now c.as_slice.ensures is.1.1
 
 pub returns-in-Ok-check_proof-clause-parts : goal.returns-in-Ok-check_proof-clause-parts
 returns-in-Ok-check_proof-clause-parts g c =

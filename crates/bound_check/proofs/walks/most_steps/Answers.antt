@@ -1,8 +1,6 @@
 use Rattle.std.proofs.Common.{◌≡◌, ◌∙◌, ℕ, List, Bool, length, map, sym, ap, subst}
-use Rattle.number_graphs.specs.Lists.{Ranked}
-use Rattle.number_graphs.specs.declared.ranking.Ranking.{Ranking}
 use Rattle.path_rules.specs.Successors.{AreMarks, inner_row}
-use Rattle.path_rules.proofs.Answering.{cuts_there, inner_short, no_ways}
+use Rattle.path_rules.proofs.Answering.{cuts_there, inner_short}
 use Rattle.bound_check.specs.inner.Walking.{ends_of, most_from}
 use Rattle.bound_check.proofs.Longest.{ends_long, most_steps}
 use Rattle.bound_check.proofs.walks.most_steps.Goals as goal
@@ -16,17 +14,6 @@ rank-requires g c = inner_short (g.S.NodeSource.graph c.args.source.now) c.in_ok
     c.as_slice.result.now c.in_ok-lists.ensures.lists
     (c.as_slice-3.ensures ∙ (c.in_ok-inner.ensures ∙ ap (λ (l : List (List ℕ)). map (inner_row c.as_slice.result.now) l)
     c.as_slice-2.ensures)) c.requires.few
-
-pub unreachable-requires : goal.unreachable-requires
-unreachable-requires g c =
-    let graph = g.S.NodeSource.graph c.args.source.now in
-    let least = no_ways graph c.args.cuts.now c.in_ok-lists.lists c.as_slice-3.result.now c.as_slice.result.now c.in-Cycle._node
-    c.in_ok-lists.ensures.lists
-    (subst (λ (m : List Bool). AreMarks c.args.cuts.now m) (sym c.as_slice.ensures) c.in_ok-marks.ensures)
-    (c.as_slice-3.ensures ∙ (c.in_ok-inner.ensures ∙ ap (λ (l : List (List ℕ)). map (inner_row c.as_slice.result.now) l)
-    c.as_slice-2.ensures))
-    (subst (λ (found : Ranking). Ranked c.as_slice-3.result.now found) c.in-Cycle.is c.in_ok-found.ensures) in
-    absurd (c.requires.cut c.in-Cycle._node least.uncut)
 
 pub most-requires-clause-long : goal.most-requires-clause-long
 most-requires-clause-long g c = ends_long (g.S.NodeSource.graph c.args.source.now) c.as_slice-in-Ranks.result.now

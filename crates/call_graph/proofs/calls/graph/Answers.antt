@@ -10,7 +10,7 @@ pub loop-number-preserved : goal.loop-number-preserved
 loop-number-preserved c = record {
   done = more_done c.loop-number.graph c.push.new.self c.in_ok-method_runs.field-0 c.loop-number.number c.loop-number.invariant.done
       c.in_ok-push.ensures.items;
-  rows = row_step (program_of c.args.program.now) c.methods_of-methods.result.now c.loop-number.number c.index-methods-number.result
+  rows = row_step (program_of c.args.program.now) c.as_slice-methods.result.now c.loop-number.number c.index-methods-number.result
       c.loop-number.graph c.push.new.self _ c.in_ok-method_runs.field-0 c.loop-number.invariant.rows c.loop-number-test.true
       (c.in_ok-method_runs.ensures ∙ ap (λ (l : List (ℕ × Op)). method_runs (program_of c.args.program.now) c.loop-number.number l)
       (c.as_slice.ensures.list ∙ ap (λ (m : Method). m.insns) c.index-methods-number.is))

@@ -10,7 +10,7 @@ use Rattle.graph_check.specs.Good.{GraphOk}
 use Rattle.cert_check.specs.Valid.{Tells}
 use Rattle.cert_check.specs.Parts.{case_of, RulesOr}
 use Rattle.cert_check.proofs.Preparing.{prepared}
-use Rattle.cert_check.proofs.Telling.{rules_few, proof_refused, valid, certified}
+use Rattle.cert_check.proofs.Telling.{proof_refused, valid, certified}
 use Rattle.cert_check.proofs.checking.check_cert.Goals as goal
 
 pub returns-in-Err-clause-tells : goal.returns-in-Err-clause-tells
@@ -30,11 +30,6 @@ returns-in-Err-rules_between-clause-tells g c =
 pub check_proof-requires-clause-rules : goal.check_proof-requires-clause-rules
 check_proof-requires-clause-rules g c = subst (λ (rs : List PathRule). AreRules rs) (sym c.as_slice.ensures)
     c.in-Ok-rules_between.ensures.fit
-
-pub check_proof-requires-clause-few : goal.check_proof-requires-clause-few
-check_proof-requires-clause-few g c =
-    let is = c.in-Ok-rules_between.ensures.rules c.args.proof.now.steps in
-    rules_few c.in-Ok-rules_between.rules c.as_slice.result.now c.as_slice.ensures is.1.1
 
 pub returns-in-Ok-check_proof-clause-tells : goal.returns-in-Ok-check_proof-clause-tells
 returns-in-Ok-check_proof-clause-tells g c =

@@ -1,16 +1,9 @@
-use Rattle.std.proofs.Common.{◌≡◌, ◌∙◌, length, sym, ap, arith}
+use Rattle.std.proofs.Common.{◌∙◌, length, sym}
 use Rattle.chain_proofs.proofs.Spending.{empty_turns, set_below}
 use Rattle.chain_proofs.proofs.proving.taken.Goals as goal
 
 pub own_rules-requires : goal.own_rules-requires
 own_rules-requires g c = set_below (length c.args.rules.now) c.args.set.now c.requires.is_set
-
-pub components-requires : goal.components-requires
-components-requires g c =
-    let few = g.F.Forms.few c.in_ok-copies.copies
-    (c.requires.asked c.args.set.now c.in_ok-copies.copies c.requires.is_set.rise c.in_ok-copies.ensures) in
-    let same : length c.as_slice-own.result.now ≡ length c.in_ok-copies.copies = ap length c.as_slice-own.ensures in
-    omega (arith, few, same)
 
 pub ranked-requires-clause-joined : goal.ranked-requires-clause-joined
 ranked-requires-clause-joined g c = c.are_joined.ensures.joined c.if-are_joined.true

@@ -55,4 +55,4 @@ loop-class-preserved c =
 pub returns : goal.returns
 returns c = split_turns c.args.rules.now c.args.set.now c.args.own.now c.args.number c.loop-class.class-index
     c.args.sets.now.given.items c.loop-class.sets.given.items c.args.classes.now c.loop-class.parts c.loop-class.steps c.requires.own
-    c.requires.rise c.requires.classes c.requires.apart c.requires.given c.loop-class-test.false c.loop-class.invariant
+    c.requires.rise c.requires.classes c.requires.given c.loop-class-test.false c.loop-class.invariant

@@ -1,10 +1,9 @@
-use Rattle.std.proofs.Common.{◌≤◌, Ok, sym, ◌∙◌, ap, length, subst}
+use Rattle.std.proofs.Common.{◌≡◌, Ok, sym, ◌∙◌, ap}
 use Rattle.std.specs.Prelude.{map}
 use Rattle.class_world.specs.Worlds.{classes_of}
-use Rattle.class_program.specs.Programs.{ref_of, refs_of}
+use Rattle.class_program.specs.Programs.{refs_of}
 use Rattle.class_program.proofs.Closed.{closed_from}
 use Rattle.class_program.proofs.Made.{numbered_refs}
-use Rattle.std.proofs.lemmas.List.{length-map}
 use Rattle.class_program.proofs.StaticLists.{statics_found, statics_few}
 use Rattle.class_program.proofs.closing.closure_of.Goals as goal
 
@@ -26,9 +25,3 @@ pub returns-in-Ok-placed-clause-whole : goal.returns-in-Ok-placed-clause-whole
 returns-in-Ok-placed-clause-whole c =
     closed_from (classes_of c.args.world.now) c.in-Ok.found.refs c.in-Ok-placed.statics c.in-Ok.found.methods c.in-Ok-placed.methods
     c.in-Ok-placed.ensures.methods c.in-Ok.ensures.closed
-
-pub returns-in-Ok-placed-clause-count : goal.returns-in-Ok-placed-clause-count
-returns-in-Ok-placed-clause-count c = subst (λ n. n ≤ 4294967280)
-    (ap length (sym (ap refs_of c.in-Ok-placed.ensures.methods
-    ∙ numbered_refs c.in-Ok.found.refs c.in-Ok-placed.statics c.in-Ok.found.methods ∙ c.in-Ok.ensures.numbers))
-    ∙ length-map c.in-Ok-placed.methods ref_of) c.in-Ok-placed.ensures.count

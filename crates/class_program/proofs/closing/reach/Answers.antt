@@ -1,29 +1,14 @@
-use Rattle.std.proofs.Common.{◌≡◌, ◌≤◌, List, Some, None, length, ap, sym, ◌∙◌, subst, arith}
-use Rattle.class_world.specs.declared.world.MethodRef.{MethodRef}
+use Rattle.std.proofs.Common.{◌≡◌, Some, None, length, ap, sym, ◌∙◌}
 use Rattle.std.specs.Prelude.{slice_get}
 use Rattle.class_world.specs.Worlds.{classes_of}
 use Rattle.class_program.specs.Reached.{with_one, method_count}
-use Rattle.class_program.proofs.Room.{body_at, count_few}
+use Rattle.class_program.proofs.Room.{body_at}
 use Rattle.class_program.proofs.Saying.{answered}
 use Rattle.class_program.proofs.GoingThrough.{reach_start, next_body, reach_more, reach_broken, reach_end, reach_found, reach_less}
-use Rattle.class_program.proofs.GoingThrough.{reach_fits, reach_smaller}
+use Rattle.class_program.proofs.GoingThrough.{reach_smaller}
 use Rattle.class_program.proofs.Closed.{reach_closed}
 use Rattle.class_program.proofs.Made.{reach_numbers}
 use Rattle.class_program.proofs.closing.reach.Goals as goal
-
-pub add-requires : goal.add-requires
-add-requires c = subst (λ (refs : List MethodRef). length (with_one refs c.args.entry) ≤ 4294967280) (sym c.requires.refs) (omega arith)
-
-pub add_runs-requires-clause-room : goal.add_runs-requires-clause-room
-add_runs-requires-clause-room c =
-    let world = (classes_of c.args.world.now) in
-    let at : slice_get c.loop-next.refs (length c.loop-next.methods) ≡ Some c.in-Some.next = ap (slice_get c.loop-next.refs)
-    (sym c.len.ensures) ∙ sym c.in-Some.ensures in
-    let content = body_at world c.in-Some.next (next_body world c.args.entry c.loop-next.refs c.loop-next.methods c.in-Some.next
-    c.loop-next.invariant.0 at) in
-    rw c.as_slice.ensures.list (reach_fits world c.args.entry c.loop-next.refs c.loop-next.methods c.in-Some.next content.0
-    c.in_ok-method.method 4294967280 c.loop-next.invariant.0 at content.1 (c.in_ok-method.ensures.method content.0 content.1)
-    (count_few world c.args.world.now.few c.args.world.now.count))
 
 pub loop-next-init : goal.loop-next-init
 loop-next-init c = (

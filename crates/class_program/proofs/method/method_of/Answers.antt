@@ -1,8 +1,6 @@
-use Rattle.std.proofs.Common.{◌≡◌, Some, sym}
-use Rattle.class_world.specs.Resolve.{method_at}
+use Rattle.std.proofs.Common.{sym}
 use Rattle.class_world.specs.Worlds.{classes_of}
 use Rattle.class_program.proofs.GoingThrough.{at_within}
-use Rattle.class_program.proofs.Room.{body_at}
 use Rattle.class_world.proofs.ShortCodes.{short_at}
 use Rattle.class_program.proofs.method.method_of.Goals as goal
 
@@ -11,9 +9,3 @@ declared-requires-clause-class c = at_within (classes_of c.args.world.now) c.arg
 
 pub declared-requires-clause-short : goal.declared-requires-clause-short
 declared-requires-clause-short c = short_at (classes_of c.args.world.now) c.args.method _ c.args.world.now.short (sym c.in-Some.ensures)
-
-pub unreachable-requires : goal.unreachable-requires
-unreachable-requires c =
-    let body = body_at (classes_of c.args.world.now) c.args.method c.requires.body in
-    let there : method_at (classes_of c.args.world.now) c.args.method ≡ Some body.0 = body.1 in
-    cc (there, c.in-None.ensures)

@@ -5,15 +5,6 @@ use Rattle.class_program.specs.Views.{program_of}
 use Rattle.code_verify.proofs.Listed.{method_there, pushed_typed, refusal_named, all_typed}
 use Rattle.code_verify.proofs.typing.verify.Goals as goal
 
-pub no_typing-requires : goal.no_typing-requires
-no_typing-requires c =
-    let l : c.loop-method.method-index < length c.args.program.now.methods = omega
-    (arith, c.loop-method-test.true, ap length c.as_slice-method-items.ensures) in
-    let many = c.loop-method.invariant.many in
-    let long = c.len.ensures in
-    let few = c.is_good.ensures.count in
-    omega (arith, l, many, long, few)
-
 pub returns-in-None-clause-fault : goal.returns-in-None-clause-fault
 returns-in-None-clause-fault c =
     let l : c.loop-method.method-index < length c.args.program.now.methods = omega

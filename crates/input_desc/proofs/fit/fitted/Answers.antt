@@ -4,4 +4,4 @@ use Rattle.input_desc.proofs.fit.fitted.Goals as goal
 
 pub returns-clause-good : goal.returns-clause-good
 returns-clause-good c = fitted_is_good (program_of c.args.program.now) c.args.texts.now c.args.same c.args.share c.fitting.result
-    c.requires.count c.fitting.ensures
+    c.requires c.fitting.ensures

@@ -1,9 +1,9 @@
-use Rattle.std.proofs.Common.{◌≤◌, ℕ, suc, map, take, length, add-one, string_bytes, sym, subst, ◌∙◌, refl, arith}
+use Rattle.std.proofs.Common.{◌≤◌, ℕ, suc, map, length, add-one, string_bytes, sym, subst, ◌∙◌, refl, arith}
 use Rattle.input_steps.proofs.Files.{take_files_more, get_file}
 use Rattle.io_ports.specs.Told.{IsPastLimit}
-use Rattle.jterm.specs.Outside.{HandedSince, limit_at}
+use Rattle.jterm.specs.Outside.{limit_at}
 use Rattle.jterm.specs.inner.Failure.{HasCause}
-use Rattle.jterm.proofs.ReadingOrder.{next_limit, first_read_more, first_contents_more, first_handed_more, map_more, has_cause}
+use Rattle.jterm.proofs.ReadingOrder.{next_limit, first_read_more, first_contents_more, map_more, has_cause}
 use Rattle.jterm.proofs.inputs.read_inputs.Goals as goal
 
 pub returns-in_err-push-in-Ok-clause-reads : goal.returns-in_err-push-in-Ok-clause-reads
@@ -23,19 +23,15 @@ returns-in-Err g c =
     let limit = next_limit (λ file. file.items) string_bytes c.loop-word.inputs.items files limits _ c.loop-word.word-index _
     c.len.result c.limit_at-limit.result (omega arith) c.loop-word.invariant.contents c.loop-word.invariant.count c.len.ensures
     c.limit_at-limit.ensures.limit in
-    let handed = HandedSince (g.F.Files.handed c.args.files.now) (g.F.Files.handed c.read.new.self) in
-    let before : handed (take c.loop-word.word-index (map string_bytes files)) (map (λ file. file.items) c.loop-word.inputs.items) =
-    c.in-Err.ensures.hands_nothing ∙ c.loop-word.invariant.handed in
-    let cause = has_cause g.F.Files.held g.F.Files.faults g.F.Files.leaves handed limits c.args.command.now.request (map string_bytes files)
+    let cause = has_cause g.F.Files.held g.F.Files.faults g.F.Files.leaves limits c.args.command.now.request (map string_bytes files)
     c.args.files.now c.loop-word.files c.read.new.self c.loop-word.word-index c.as_str-name.result.now _ c.in-Err.fault
-    c.loop-word.invariant.held c.loop-word.invariant.still named c.loop-word.invariant.contents before
+    c.loop-word.invariant.held c.loop-word.invariant.still named c.loop-word.invariant.contents
     c.loop-word.invariant.reads c.read.ensures.leaves
     c.in-Err.ensures.failed (λ long. subst (IsPastLimit _) limit.0 (c.in-Err.ensures.too_long long)) c.in-Err.ensures.missing
     c.in-Err.ensures.too_long_is_no_fault c.in-Err.ensures.missing_is_no_fault in
     record {
       contents = tt;
-      handed = tt;
-      cause = subst (HasCause _ _ _ _ _ _ _ _ _) (sym c.failure_at.ensures) cause;
+      cause = subst (HasCause _ _ _ _ _ _ _ _) (sym c.failure_at.ensures) cause;
       reads = (suc c.loop-word.word-index, first_read_more _ _ _ _ _ _ _ more c.loop-word.invariant.reads c.read.ensures.leaves);
     }
 
@@ -55,10 +51,6 @@ loop-word-preserved g c =
           (map string_bytes files) _ _ c.loop-word.word-index
           c.as_str-name.result.now c.in-Ok.content.items more grown c.loop-word.invariant.contents c.loop-word.invariant.held
           c.in-Ok.ensures.content (subst (λ (n : ℕ). length c.in-Ok.content.items ≤ n) limit.1 c.in-Ok.ensures.within);
-      handed = first_handed_more limits (g.F.Files.held c.args.files.now) (g.F.Files.handed c.args.files.now)
-          (g.F.Files.handed c.loop-word.files) (g.F.Files.handed c.read.new.self) (map string_bytes files) _ _ c.loop-word.word-index
-          c.as_str-name.result.now c.in-Ok.content.items more grown c.loop-word.invariant.contents c.loop-word.invariant.handed
-          c.in-Ok.ensures.hands;
       count = (let grown = c.in_ok-push-in-Ok.ensures.len in let same = c.loop-word.invariant.count in omega (arith, grown, same));
       held = c.in-Ok.ensures.keeps ∙ c.loop-word.invariant.held;
       still = c.in-Ok.ensures.read_is_no_fault refl ∙ c.loop-word.invariant.still;

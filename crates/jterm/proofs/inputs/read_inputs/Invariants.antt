@@ -1,5 +1,5 @@
 use Rattle.std.proofs.Common.{◌≡◌, vec_len, map, take, string_bytes}
-use Rattle.jterm.specs.Outside.{AreContents, AreRead, HandedSince, limit_at}
+use Rattle.jterm.specs.Outside.{AreContents, AreRead, limit_at}
 use Rattle.jterm.proofs.inputs.read_inputs.Given as goal
 
 -- the first files were read
@@ -10,8 +10,6 @@ invariant-loop-word g l =
     record {
       contents : AreContents (limit_at l.certificate l.other l.command.request) (files.held l.initial.files)
           (take l.word-index names) (map (λ file. file.items) l.inputs.items);
-      handed : HandedSince (files.handed l.initial.files) (files.handed l.files) (take l.word-index names)
-          (map (λ file. file.items) l.inputs.items);
       count : vec_len l.inputs ≡ l.word-index;
       held : files.held l.files ≡ files.held l.initial.files;
       still : files.faults l.files ≡ files.faults l.initial.files;

@@ -1,11 +1,9 @@
 -- Words of private calls: how ties to variables of greater numbers are found, and the greatest falls along them.
 use Rattle.std.specs.Prelude.{ℕ, suc, ℤ, pos, ◌≡◌, ◌+ℤ◌, ◌-ℤ◌, ◌==◌, ◌&&◌, ◌||◌, ◌++◌, Bool, true, false}
 use Rattle.std.specs.Prelude.{List, [], ◌∷◌, Option, Some, None, if◌then◌else◌, slice_set, get_or, nat_lt, int_lt}
-use Rattle.std.specs.Prelude.{◌≤◌, ◌^◌, length, unsigned_abs}
-use Rattle.std.specs.List.{All}
+use Rattle.std.specs.Prelude.{length}
 use Rattle.std.specs.Ordering.{int_eq}
 use Rattle.lin_core.specs.declared.rows.WRow.{WRow}
-use Rattle.lin_core.specs.Weights.{total_size}
 use Rattle.descent.specs.declared.rules.PathRule.{PathRule}
 use Rattle.descent.specs.declared.rules.Place.{Place}
 use Rattle.rank_forms.specs.declared.rule_links.links.Come.{Come}
@@ -15,14 +13,6 @@ use Rattle.rank_forms.specs.rule_links.Links.{IsWay, total}
 use Rattle.rank_forms.specs.rule_links.Positions.{AreEnds}
 use Rattle.rank_forms.specs.rule_links.Ties.{InTies, IsReached, Known, is_inequality, has_none, order_of, variable_at}
 use Rattle.rank_forms.specs.rule_links.Falls.{size_constant, has_zero, has_bound, IsFall}
-
--- a row's constant is at most 2^40 in size, and so are its multiples of weights together
-abbrev pub IsSmallRow : WRow → Type 0
-IsSmallRow row = (unsigned_abs row.constant ≤ 2 ^ 40) × (total_size row.weights ≤ 2 ^ 40)
-
--- each row is such
-abbrev pub AreSmallRows : List WRow → Type 0
-AreSmallRows rows = All IsSmallRow rows
 
 -- a sum is more than what is known of a variable that has a place in the list
 abbrev pub is_more : Option Come → ℤ → Bool → Bool

@@ -1,15 +1,14 @@
-use Rattle.std.proofs.Common.{◌≡◌, ◌≤◌, length}
-use Rattle.std.specs.List.{AllByRecursion}
-use Rattle.survey.specs.Fates.{SpellsClass}
-use Rattle.survey.specs.inner.Keeping.{contents_of, Leaves}
-use Rattle.survey.specs.inner.Putting.{IsOther, Went}
+use Rattle.std.proofs.Common.{◌≤◌, length, map}
+use Rattle.class_base.specs.Limits.{most_classes}
+use Rattle.survey.specs.Claims.{Surveyed}
+use Rattle.survey.specs.Outside.{Tells}
+use Rattle.survey.specs.inner.Wording.{StayRead}
 use Rattle.survey.proofs.leaving.leave_out.Given as goal
 
--- which files were left out
+-- what was put, and which files are left
 abbrev pub invariant-loop-round : goal.invariant-loop-round
 invariant-loop-round g l = record {
-  told : Went g.O.Sink.taken g.O.Sink.faults IsOther (Leaves l.initial.kept l.kept) l.initial.out l.out;
-  names : length l.kept.names.items ≡ length l.kept.files.items;
-  fewer : length l.kept.files.items ≤ length l.initial.kept.files.items;
-  spelled : AllByRecursion SpellsClass (contents_of l.kept);
+  told : (s : Surveyed) → Tells g.O.Sink.taken s l.fn.out l.out;
+  stay : StayRead (map (λ file. file.items) l.fn.kept.files.items) (map (λ file. file.items) l.kept.files.items);
+  few : length l.kept.files.items ≤ most_classes;
 }

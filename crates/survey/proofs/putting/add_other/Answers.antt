@@ -1,6 +1,7 @@
-use Rattle.std.proofs.Common.{◌∙◌, ◌++◌, ℕ, List, ap}
-use Rattle.survey.specs.Lines.{ended}
+use Rattle.std.proofs.Common.{◌∙◌}
+use Rattle.survey.proofs.Truths.{other_grows}
 use Rattle.survey.proofs.putting.add_other.Goals as goal
 
 pub returns : goal.returns
-returns c = c.in_ok-add_line.ensures ∙ ap (λ (l : List ℕ). c.args.text.now ++ ended l) (c.as_slice.ensures ∙ c.in_ok-line.ensures)
+returns c = other_grows c.args.text.now c.add_line.new.text c.as_slice.result.now c.args.head c.args.rest.now
+    (c.as_slice.ensures ∙ c.in_ok-line.ensures) c.in_ok-add_line.ensures

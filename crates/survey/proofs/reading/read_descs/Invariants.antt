@@ -1,5 +1,5 @@
-use Rattle.std.proofs.Common.{◌≡◌, ◌≤◌, length, map, take}
-use Rattle.survey.specs.inner.Keeping.{DescsRead}
+use Rattle.std.proofs.Common.{◌≡◌, map, take}
+use Rattle.survey.specs.Outside.{AreSome}
 use Rattle.survey.proofs.reading.read_descs.Given as goal
 
 -- the descriptions so far were read
@@ -7,9 +7,6 @@ abbrev pub invariant-loop-place : goal.invariant-loop-place
 invariant-loop-place g l =
     let files = g.F.Files in
     record {
-      read : DescsRead (record { held = files.held; handed = files.handed; faults = files.faults })
-          (take l.place (map (λ name. name.now) l.words)) (map (λ desc. desc.items) l.descs.items) l.initial.files l.files;
-      many : length l.descs.items ≡ l.place;
-      held : files.held l.files ≡ files.held l.initial.files;
-      counts : files.faults l.initial.files ≤ files.faults l.files;
+      some : AreSome (files.held l.fn.files) (take l.place (map (λ name. name.now) l.words)) (map (λ desc. desc.items) l.descs.items);
+      held : files.held l.files ≡ files.held l.fn.files;
     }

@@ -1,20 +1,19 @@
 use Rattle.std.proofs.Common.{◌∙◌, string_bytes, arith}
-use Rattle.survey.specs.inner.Putting.{IsOther}
-use Rattle.survey.proofs.Readings.{read_more}
-use Rattle.survey.proofs.Went.{cut_on}
+use Rattle.survey.proofs.Kept.{some_grown, grown_few}
+use Rattle.survey.proofs.Telling.{told_all, begun_all}
 use Rattle.survey.proofs.reading.read_files.Goals as goal
 
 pub returns-in-Err-clause-begun : goal.returns-in-Err-clause-begun
-returns-in-Err-clause-begun g c = cut_on g.O.Sink.taken g.O.Sink.faults IsOther _ c.args.out.now c.loop-word.out c.read_file.new.out _
-    c.loop-word.invariant.told c.in-Err.ensures.begun
+returns-in-Err-clause-begun g c = begun_all g.O.Sink.taken c.args.out.now c.loop-place.out c.read_file.new.out
+    c.loop-place.invariant.told c.in-Err.ensures.begun
 
-pub loop-word-preserved : goal.loop-word-preserved
-loop-word-preserved g c = record {
-  told = read_more string_bytes (record { held = g.F.Files.held; handed = g.F.Files.handed; faults = g.F.Files.faults })
-      g.O.Sink.taken g.O.Sink.faults c.args.words.now c.loop-word.word-index c.word-item.result
-      c.as_str.result.now c.loop-word.kept c.read_file.new.kept c.args.files.now c.loop-word.files c.read_file.new.files c.args.out.now
-      c.loop-word.out c.read_file.new.out (omega arith) c.word-item.is c.as_str.ensures.value c.loop-word.invariant.held
-      c.loop-word.invariant.counts c.read_file.ensures.counts c.loop-word.invariant.told c.in-Ok.ensures.told;
-  held = c.read_file.ensures.held ∙ c.loop-word.invariant.held;
-  counts = (let before = c.loop-word.invariant.counts in let after = c.read_file.ensures.counts in omega (arith, before, after));
+pub loop-place-preserved : goal.loop-place-preserved
+loop-place-preserved g c = record {
+  told = told_all g.O.Sink.taken c.args.out.now c.loop-place.out c.read_file.new.out c.loop-place.invariant.told c.in-Ok.ensures.told;
+  some = some_grown string_bytes (g.F.Files.held c.args.files.now) (g.F.Files.held c.loop-place.files) c.args.words.now
+      c.loop-place.place c.index-words-place.result c.as_str.result.now c.loop-place.kept.files.items
+      c.read_file.new.kept.files.items (omega arith) c.index-words-place.is c.as_str.ensures.value c.loop-place.invariant.held
+      c.in-Ok.ensures.grows c.loop-place.invariant.some;
+  held = c.in-Ok.ensures.held ∙ c.loop-place.invariant.held;
+  few = grown_few _ _ _ c.loop-place.place c.in-Ok.ensures.grows c.loop-place.invariant.few;
 }

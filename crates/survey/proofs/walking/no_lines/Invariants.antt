@@ -1,5 +1,5 @@
-use Rattle.survey.specs.inner.Wording.{sort_for, AreOtherLines}
+use Rattle.survey.specs.Claims.{Surveyed, AreTrue}
 use Rattle.survey.proofs.walking.no_lines.Given as goal
 
-abbrev pub invariant-loop-words : goal.invariant-loop-words
-invariant-loop-words l = AreOtherLines (sort_for l.refused) l.text
+abbrev pub invariant-loop-line : goal.invariant-loop-line
+invariant-loop-line l = (s : Surveyed) → AreTrue s l.text

@@ -11,7 +11,7 @@ returns-in-Ok-clause-answers c = given_goes (OfCert (SaysBound c.args.bound.now)
     (map (λ file. file.items) c.args.files.now) c.in-Ok.given c.bound_bytes.result c.in-Ok.ensures.answers c.bound_bytes.ensures.cert
 
 pub returns-in-Ok-clause-headline : goal.returns-in-Ok-clause-headline
-returns-in-Ok-clause-headline c = claimed c.args.bound.now c.args.cert.now c.args.desc.now (map (λ file. file.items) c.args.files.now)
+returns-in-Ok-clause-headline c = claimed c.args.desc.now (map (λ file. file.items) c.args.files.now)
     (program_of c.in-Ok.given.program) c.in-Ok.given.desc c.bound_bytes.result c.in-Ok.ensures.named c.bound_bytes.ensures.ends
 
 pub returns-in-Err-clause-answers : goal.returns-in-Err-clause-answers

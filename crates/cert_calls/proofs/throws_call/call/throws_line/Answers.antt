@@ -11,7 +11,7 @@ returns-in-Ok-clause-answers c = given_goes (OfCert SaysReport c.args.cert.now) 
     (map (λ file. file.items) c.args.files.now) c.in-Ok.given c.report_bytes.result c.in-Ok.ensures.answers c.report_bytes.ensures.cert
 
 pub returns-in-Ok-clause-headline : goal.returns-in-Ok-clause-headline
-returns-in-Ok-clause-headline c = claimed c.args.cert.now c.args.desc.now (map (λ file. file.items) c.args.files.now)
+returns-in-Ok-clause-headline c = claimed c.args.desc.now (map (λ file. file.items) c.args.files.now)
     (program_of c.in-Ok.given.program) c.in-Ok.given.desc c.report_bytes.result c.in-Ok.ensures.named c.report_bytes.ensures.ends
 
 pub returns-in-Err-clause-answers : goal.returns-in-Err-clause-answers

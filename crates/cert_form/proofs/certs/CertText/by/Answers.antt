@@ -1,12 +1,8 @@
 use Rattle.serde_json.specs.View.{view}
 use Rattle.json_view.specs.Located.{located, root_of}
-use Rattle.cert_form.proofs.Known.{by_known, by_memory}
+use Rattle.cert_form.proofs.Known.{by_known}
 use Rattle.cert_form.proofs.certs.CertText.by.Goals as goal
 
 pub returns-in-Ok : goal.returns-in-Ok
 returns-in-Ok c = by_known c.self.inside.names.now (root_of (view c.self.inside.value)) (located c.root.result) _ c.args.self.now
     c.args.n c.in-Ok.by c.self.invariant.0 c.root.ensures c.self.view_is c.requires c.in-Ok.ensures
-
-pub want_of_memory-requires : goal.want_of_memory-requires
-want_of_memory-requires c = by_memory c.self.inside.names.now (root_of (view c.self.inside.value)) (located c.root.result) _
-    c.args.self.now c.args.n c.in-Err.fault c.self.invariant.0 c.root.ensures c.self.view_is c.requires c.in-Err.ensures

@@ -6,7 +6,6 @@ use Rattle.class_world.specs.Worlds.{classes_of}
 use Rattle.class_program.specs.Programs.{IsClosed}
 use Rattle.class_program.specs.Reached.{is_closed}
 use Rattle.class_program.specs.Views.{program_of}
-use Rattle.class_program.proofs.FewParams.{params_few}
 use Rattle.class_program.proofs.GoodPrograms.{good_program}
 use Rattle.class_program.proofs.program.Program.is_good.Goals as goal
 
@@ -22,10 +21,4 @@ returns c =
       few = p.few;
       whole = subst (λ (refs : List MethodRef). is_closed (classes_of p.world) refs p.methods ≡ true) p.numbers p.whole;
     } in
-    record {
-      closed = closed;
-      good = good_program (program_of p) closed;
-      widths = p.widths;
-      params = params_few (program_of p) closed p.world.descriptors;
-      count = p.count;
-    }
+    record { closed = closed; good = good_program (program_of p) closed; widths = p.widths }

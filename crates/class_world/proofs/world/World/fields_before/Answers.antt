@@ -6,13 +6,13 @@ pub at-kept-requires : goal.at-kept-requires
 at-kept-requires c =
     let w = c.args.self.now in
     kept_long w.roster.classes c.args.class c.args.index w.index.kept w.slots
-    (record { kept = w.indexed.kept; laid_out = w.laid_out; few = w.few; count = w.count; within = c.requires.class; there = c.requires.index })
+    (record { kept = w.indexed.kept; laid_out = w.laid_out; placed = w.placed; within = c.requires.class; there = c.requires.index })
 
 pub at-requires : goal.at-requires
 at-requires c =
     let w = c.args.self.now in
     slots_long w.roster.classes c.args.class c.args.index w.index.kept w.slots
-    (record { kept = w.indexed.kept; laid_out = w.laid_out; few = w.few; count = w.count; within = c.requires.class; there = c.requires.index })
+    (record { kept = w.indexed.kept; laid_out = w.laid_out; placed = w.placed; within = c.requires.class; there = c.requires.index })
 
 pub overflow_sub-len : goal.overflow_sub-len
 overflow_sub-len c =
@@ -21,8 +21,7 @@ overflow_sub-len c =
     (record {
       kept = w.indexed.kept;
       laid_out = w.laid_out;
-      few = w.few;
-      count = w.count;
+      placed = w.placed;
       within = c.requires.class;
       there =
           c.requires.index;
@@ -36,8 +35,7 @@ at-requires-2 c =
     (record {
       kept = w.indexed.kept;
       laid_out = w.laid_out;
-      few = w.few;
-      count = w.count;
+      placed = w.placed;
       within = c.requires.class;
       there =
           c.requires.index;
@@ -51,8 +49,7 @@ at-requires-3 c =
     (record {
       kept = w.indexed.kept;
       laid_out = w.laid_out;
-      few = w.few;
-      count = w.count;
+      placed = w.placed;
       within = c.requires.class;
       there =
           c.requires.index;
@@ -66,8 +63,7 @@ overflow_sub-result c =
     (record {
       kept = w.indexed.kept;
       laid_out = w.laid_out;
-      few = w.few;
-      count = w.count;
+      placed = w.placed;
       within = c.requires.class;
       there =
           c.requires.index;
@@ -82,8 +78,7 @@ overflow_add-result c =
     (record {
       kept = w.indexed.kept;
       laid_out = w.laid_out;
-      few = w.few;
-      count = w.count;
+      placed = w.placed;
       within = c.requires.class;
       there =
           c.requires.index;
@@ -98,8 +93,7 @@ overflow_cast-result c =
     (record {
       kept = w.indexed.kept;
       laid_out = w.laid_out;
-      few = w.few;
-      count = w.count;
+      placed = w.placed;
       within = c.requires.class;
       there =
           c.requires.index;
@@ -114,8 +108,7 @@ returns c =
     (record {
       kept = w.indexed.kept;
       laid_out = w.laid_out;
-      few = w.few;
-      count = w.count;
+      placed = w.placed;
       within = c.requires.class;
       there =
           c.requires.index;

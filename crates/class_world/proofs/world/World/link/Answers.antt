@@ -1,9 +1,8 @@
 use Rattle.std.proofs.Common.{◌∙◌}
 use Rattle.class_world.proofs.Rules.{passed_on}
-use Rattle.class_world.proofs.Links.{enrol_fits, world_counted, link_first, link_later, link_none, linked_is, world_is}
+use Rattle.class_world.proofs.Links.{enrol_fits, link_first, link_later, link_none, linked_is, world_is}
 use Rattle.class_world.proofs.Few.{few_world}
 use Rattle.class_world.proofs.ShortCodes.{short_world}
-use Rattle.class_world.proofs.Descriptors.{world_has}
 use Rattle.class_world.proofs.Indexes.{distinct_world}
 use Rattle.class_world.proofs.world.World.link.Goals as goal
 
@@ -27,14 +26,6 @@ invariant_of-result-clause-known c = world_is c.args.classes.items c.in_ok-with_
 pub invariant_of-result-clause-few : goal.invariant_of-result-clause-few
 invariant_of-result-clause-few c = few_world c.args.classes.items c.in_ok-roster.roster.classes (c.in_ok-roster.ensures.classes
     ∙ c.in_ok-with_built_ins.ensures) c.requires.read
-
-pub invariant_of-result-clause-descriptors : goal.invariant_of-result-clause-descriptors
-invariant_of-result-clause-descriptors c = world_has c.args.classes.items c.in_ok-roster.roster.classes
-    (c.in_ok-roster.ensures.classes ∙ c.in_ok-with_built_ins.ensures) c.requires.read
-
-pub invariant_of-result-clause-count : goal.invariant_of-result-clause-count
-invariant_of-result-clause-count c = world_counted c.args.classes.items c.in_ok-roster.roster.classes
-    (c.in_ok-roster.ensures.classes ∙ c.in_ok-with_built_ins.ensures) c.requires.count
 
 pub members_of-requires-clause-differ : goal.members_of-requires-clause-differ
 members_of-requires-clause-differ c = distinct_world c.args.classes.items c.in_ok-roster.roster.classes

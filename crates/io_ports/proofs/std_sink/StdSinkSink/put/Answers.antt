@@ -5,7 +5,6 @@ use Rattle.io_ports.proofs.std_sink.StdSinkSink.put.Goals as goal
 pub loop-done-preserved : goal.loop-done-preserved
 loop-done-preserved g c = record {
   within = grind (arith, length-take, length-drop);
-  kept = c.loop-done.invariant.kept;
-  written = more_taken _ _ _ _ _ _ c.loop-done.invariant.written c.in-Ok.ensures.bytes;
+  taken = more_taken _ _ _ _ _ _ c.loop-done.invariant.taken c.in-Ok.ensures.bytes;
   faults = c.loop-done.invariant.faults;
 }

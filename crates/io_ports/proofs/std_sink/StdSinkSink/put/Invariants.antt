@@ -6,8 +6,7 @@ use Rattle.io_ports.proofs.std_sink.StdSinkSink.put.Given as goal
 abbrev pub invariant-loop-done : goal.invariant-loop-done
 invariant-loop-done g l = record {
   within : l.done ≤ length l.bytes;
-  kept : l.self.taken.bytes ≡ l.initial.self.taken.bytes;
-  written : Appends (g.W.Write.contents l.initial.self.writer) (g.W.Write.contents l.self.writer) (take l.done l.bytes);
+  taken : Appends (g.W.Write.contents l.initial.self.writer) (g.W.Write.contents l.self.writer) (take l.done l.bytes);
   faults : l.self.faults ≡ l.initial.self.faults;
 }
 

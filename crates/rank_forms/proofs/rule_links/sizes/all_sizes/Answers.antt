@@ -1,12 +1,5 @@
-use Rattle.std.proofs.Common.{subst, sym}
-use Rattle.lin_core.specs.declared.rows.WRow.{WRow}
-use Rattle.rank_forms.specs.rule_links.inner.Rising.{IsSmallRow}
 use Rattle.rank_forms.proofs.Sized.{sizes_more}
 use Rattle.rank_forms.proofs.rule_links.sizes.all_sizes.Goals as goal
-
-pub add_size_row-requires : goal.add_size_row-requires
-add_size_row-requires c = subst (λ (row : WRow). IsSmallRow row) (sym c.index-rows-n.is)
-    (c.requires c.loop-n.n c.index-rows-n.result c.loop-n-test.true)
 
 pub loop-n-preserved : goal.loop-n-preserved
 loop-n-preserved c = sizes_more c.args.rows.now c.loop-n.n c.index-rows-n.result c.loop-n.ties _ _ c.loop-n-test.true

@@ -1,10 +1,7 @@
 use Rattle.std.proofs.Common.{◌∙◌}
-use Rattle.rank_forms.proofs.Sized.{sizes_rise, sizes_sound, sizes_complete, small_rows}
+use Rattle.rank_forms.proofs.Sized.{sizes_rise, sizes_sound, sizes_complete}
 use Rattle.rank_forms.proofs.SizeRows.{sizes_in_rows}
 use Rattle.rank_forms.proofs.rule_links.sizes.size_ties.Goals as goal
-
-pub all_sizes-requires : goal.all_sizes-requires
-all_sizes-requires c = small_rows c.args.vars c.args.rows.now c.requires
 
 pub returns-clause-rising : goal.returns-clause-rising
 returns-clause-rising c = sizes_rise c.args.rows.now _ _ c.sort_ties.ensures.same (c.into_vec-ties.ensures ∙ c.in_ok-all_sizes.ensures)

@@ -1,2 +1,0 @@
--- Words of private calls.
-pub mod Outputs

@@ -1,6 +1,0 @@
-class Drain {
-    static void all(Source source) {
-        while (source.next() != 0) {
-        }
-    }
-}

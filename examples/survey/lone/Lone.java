@@ -1,8 +1,0 @@
-abstract class Lone {
-    int left;
-
-    void go() {
-        while (left == 0) {
-        }
-    }
-}

@@ -1,3 +1,0 @@
-interface Source {
-    int next();
-}
