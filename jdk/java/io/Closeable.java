@@ -1,0 +1,10 @@
+/*
+ * Kit: exact.
+ * Leaves out: nothing.
+ * Left open: nothing.
+ */
+package java.io;
+
+public interface Closeable extends AutoCloseable {
+    void close() throws IOException;
+}

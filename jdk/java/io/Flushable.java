@@ -1,0 +1,10 @@
+/*
+ * Kit: exact.
+ * Leaves out: nothing.
+ * Left open: nothing.
+ */
+package java.io;
+
+public interface Flushable {
+    void flush() throws IOException;
+}

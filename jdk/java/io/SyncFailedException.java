@@ -1,0 +1,12 @@
+/*
+ * Kit: exact.
+ * Leaves out: what Throwable answers of it, and constructors that are newer than Java SE 8.
+ * Left open: nothing.
+ */
+package java.io;
+
+/** Nothing that is accepted can ask for its message, so it isn't kept. */
+public class SyncFailedException extends IOException {
+    public SyncFailedException(String message) {
+    }
+}

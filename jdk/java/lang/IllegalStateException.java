@@ -1,0 +1,22 @@
+/*
+ * Kit: exact.
+ * Leaves out: what Throwable answers of it, and constructors that are newer than Java SE 8.
+ * Left open: nothing.
+ */
+package java.lang;
+
+/** Nothing that is accepted can ask for its message, so it isn't kept. */
+public class IllegalStateException extends RuntimeException {
+    public IllegalStateException() {
+    }
+
+    public IllegalStateException(String message) {
+    }
+
+    public IllegalStateException(String message, Throwable cause) {
+    }
+
+    public IllegalStateException(Throwable cause) {
+        super(cause);
+    }
+}

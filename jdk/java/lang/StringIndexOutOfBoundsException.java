@@ -1,0 +1,18 @@
+/*
+ * Kit: exact.
+ * Leaves out: what Throwable answers of it, and constructors that are newer than Java SE 8.
+ * Left open: nothing.
+ */
+package java.lang;
+
+/** Nothing that is accepted can ask for its message, so it isn't kept. */
+public class StringIndexOutOfBoundsException extends IndexOutOfBoundsException {
+    public StringIndexOutOfBoundsException() {
+    }
+
+    public StringIndexOutOfBoundsException(String message) {
+    }
+
+    public StringIndexOutOfBoundsException(int index) {
+    }
+}

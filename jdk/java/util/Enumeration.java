@@ -1,0 +1,12 @@
+/*
+ * Kit: exact.
+ * Leaves out: nothing.
+ * Left open: nothing.
+ */
+package java.util;
+
+public interface Enumeration<E> {
+    boolean hasMoreElements();
+
+    E nextElement();
+}

@@ -1,0 +1,15 @@
+/*
+ * Kit: exact.
+ * Leaves out: what Throwable answers of it, and constructors that are newer than Java SE 8.
+ * Left open: nothing.
+ */
+package java.util;
+
+/** Nothing that is accepted can ask for its message, so it isn't kept. */
+public class InputMismatchException extends NoSuchElementException {
+    public InputMismatchException() {
+    }
+
+    public InputMismatchException(String message) {
+    }
+}

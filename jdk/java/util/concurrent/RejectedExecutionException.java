@@ -1,0 +1,22 @@
+/*
+ * Kit: exact.
+ * Leaves out: what Throwable answers of it, and constructors that are newer than Java SE 8.
+ * Left open: nothing.
+ */
+package java.util.concurrent;
+
+/** Nothing that is accepted can ask for its message, so it isn't kept. */
+public class RejectedExecutionException extends RuntimeException {
+    public RejectedExecutionException() {
+    }
+
+    public RejectedExecutionException(String message) {
+    }
+
+    public RejectedExecutionException(String message, Throwable cause) {
+    }
+
+    public RejectedExecutionException(Throwable cause) {
+        super(cause);
+    }
+}

@@ -1,0 +1,17 @@
+/*
+ * Kit: exact.
+ * Leaves out: what Throwable answers of it, and constructors that are newer than Java SE 8.
+ * Left open: nothing.
+ */
+package java.util.zip;
+
+import java.io.IOException;
+
+/** Nothing that is accepted can ask for its message, so it isn't kept. */
+public class ZipException extends IOException {
+    public ZipException() {
+    }
+
+    public ZipException(String message) {
+    }
+}
